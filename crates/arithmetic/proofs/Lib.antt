@@ -1,0 +1,14 @@
+pub mod Agree
+pub mod Facts
+pub mod Signs
+pub mod Difference
+pub mod EndLaws
+pub mod Patterns
+pub mod RootBits
+pub mod Rounded
+pub mod Steps
+pub mod Roots
+pub mod RootLaw
+pub mod Choice
+pub mod Lists
+pub mod Magnitude

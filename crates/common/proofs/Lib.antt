@@ -1,0 +1,2 @@
+pub mod VectorSizes
+pub mod NormalizedSize

@@ -1,0 +1,2 @@
+-- The definitions that the contracts of `common` cite.
+pub mod Vectors

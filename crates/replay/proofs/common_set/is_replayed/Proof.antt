@@ -1,0 +1,49 @@
+-- `replay::common_set::is_replayed` meets its contract. Assumes nothing.
+use borrow.Author.Needs.{needs}
+use borrow.Author.Tests.{le-leb, lt-leb}
+use Rattle.replay.specs.CommonSet.{isReplayed}
+use Rattle.replay.proofs.common_set.is_replayed.Statement.{statement}
+use Rattle.replay.proofs.common_set.is_replayed.Tie as tie
+
+returns : tie.Need-returns
+unfolding isReplayed
+returns c = simp (lt-leb _ _ (c .if1 .taken))
+
+vector-at-requires : tie.Need-vector-at-requires
+vector-at-requires c κs = search needs
+
+vector-at-requires-2 : tie.Need-vector-at-requires-2
+vector-at-requires-2 c κs = search needs
+
+number-at-requires : tie.Need-number-at-requires
+number-at-requires c κs = search needs
+
+operators-agree-requires : tie.Need-operators-agree-requires
+operators-agree-requires c κs = search needs
+
+functions-agree-requires : tie.Need-functions-agree-requires
+functions-agree-requires c κs = search needs
+
+returns-2 : tie.Need-returns-2
+unfolding isReplayed
+returns-2 c =
+    simp (
+      ← c .functions-agree .ensures,
+      ← c .before .operators-agree .ensures,
+      ← c .before .before .number-at .ensures,
+      ← c .before .before .before .vector-at2 .ensures,
+      ← c .before .before .before .before .vector-at .ensures,
+      le-leb _ _ (c .before .before .before .before .before .if1 .left),
+    )
+
+pub is-replayed-spec : {M : Type 1} → statement M
+is-replayed-spec =
+    tie.close
+    (tie.spec
+    returns
+    vector-at-requires
+    vector-at-requires-2
+    number-at-requires
+    operators-agree-requires
+    functions-agree-requires
+    returns-2)

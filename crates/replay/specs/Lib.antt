@@ -1,0 +1,3 @@
+-- The definitions that the contracts of `replay` cite.
+pub mod Answers
+pub mod CommonSet

@@ -1,0 +1,74 @@
+// Replays the set `common`: the Rust's answers to `determinant` and to what the port uses of glam's `Vec2`.
+use crate::answers::is_flag;
+use crate::answers::is_number;
+use crate::answers::is_vector;
+use crate::answers::number_at;
+use crate::answers::vector_at;
+use common::Vec2;
+use verdict::Tally;
+ghost use mathlib.Core.Path.{_≡_};
+ghost use Rattle.replay.specs.CommonSet.{operatorsAgree, functionsAgree, isReplayed};
+
+// Replays the file of the set, and tells how it went.
+pub(crate) fn replay() {
+    let fd = os::open_read(b"common");
+    if fd < 0 {
+        verdict::tell_no_file(b"common");
+        return;
+    }
+    tally_of(fd).tell(b"common");
+    libc::close(fd);
+}
+
+// The tally of a file of records of 96 bytes, named by their index. A file that has not ended at the last index is bad.
+fn tally_of(fd: i32) -> Tally {
+    let mut tally = Tally::NONE;
+    let mut bytes: [u8; 96] = [0; 96];
+    let mut index: u32 = 0;
+    while index < u32::MAX {
+        let n = io::read_full(fd, &mut bytes);
+        if n == 0 {
+            return tally;
+        }
+        tally = tally.with(is_replayed(&bytes[0..n]), index);
+        index += 1;
+    }
+    tally.with(false, index)
+}
+
+// Whether the record is whole, and each answer is the one that `common` gives, bit for bit.
+fn is_replayed(bytes: &[u8]) -> bool
+    ensures { λ r. ⌜ r ≡ isReplayed (now (bytes .entry)) ⌝ }
+{
+    if bytes.len() < 96 {
+        return false;
+    }
+    let a = vector_at(bytes, 0);
+    let b = vector_at(bytes, 8);
+    let k = number_at(bytes, 16);
+    operators_agree(bytes, a, b, k) & functions_agree(bytes, a, b)
+}
+
+// Whether the answers of the operators are those of `common`.
+fn operators_agree(bytes: &[u8], a: Vec2, b: Vec2, k: f32) -> bool
+    ensures { λ r. ⌜ r ≡ operatorsAgree (now (bytes .entry)) a b k ⌝ }
+{
+    is_vector(bytes, 24, a.add(b))
+        & is_vector(bytes, 32, a.sub(b))
+        & is_vector(bytes, 40, a.neg())
+        & is_vector(bytes, 48, a.mul(k))
+        & is_vector(bytes, 56, a.div(k))
+        & is_flag(bytes, 92, a.eq(b))
+}
+
+// Whether the answers of the functions that have a name are those of `common`.
+fn functions_agree(bytes: &[u8], a: Vec2, b: Vec2) -> bool
+    ensures { λ r. ⌜ r ≡ functionsAgree (now (bytes .entry)) a b ⌝ }
+{
+    is_number(bytes, 20, common::determinant(a, b))
+        & is_number(bytes, 64, a.dot(b))
+        & is_vector(bytes, 68, a.perp())
+        & is_number(bytes, 76, a.length_squared())
+        & is_number(bytes, 80, a.distance_squared(b))
+        & is_vector(bytes, 84, a.normalize())
+}

@@ -1,0 +1,2 @@
+-- The definitions that the contracts of `verdict` cite.
+pub mod Tallies

@@ -1,0 +1,2 @@
+-- The laws of `words` that other crates may cite.
+pub mod Laws

@@ -1,0 +1,8 @@
+-- Big-endian words in a list of bytes. Definitions only. Assumes nothing.
+use Prim.Native.Nat.{ℕ, _+_, _*_}
+use mathlib.Core.List.{List}
+use lib.ListN.{getD}
+
+-- the four bytes from a place on as one number, the first highest, a byte past the end counting as 0
+unfoldable pub wordOf : List ℕ → ℕ → ℕ
+wordOf s at = getD s at 0 * 16777216 + getD s (at + 1) 0 * 65536 + getD s (at + 2) 0 * 256 + getD s (at + 3) 0

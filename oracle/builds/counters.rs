@@ -1,0 +1,63 @@
+//! What the counted build counts, one set for each thread. The functions that
+//! count are called from the text that hooks.rs inserts, and from nowhere else.
+
+use std::cell::Cell;
+
+#[derive(Clone, Copy, PartialEq, Debug)]
+pub struct Counts {
+    /// Lines compared with the point now, and earlier lines looked at in a one-line solve.
+    pub probes: u32,
+    /// The line at which the 2D pass over the whole list failed, rigidly or not.
+    pub failed_line: Option<usize>,
+    /// The penetration at the end of relaxation; none where nothing was relaxed.
+    pub penetration: Option<f32>,
+    pub inner_solves_begun: u32,
+    pub inner_solves_succeeded: u32,
+}
+
+const NOTHING_COUNTED: Counts = Counts {
+    probes: 0,
+    failed_line: None,
+    penetration: None,
+    inner_solves_begun: 0,
+    inner_solves_succeeded: 0,
+};
+
+thread_local! {
+    static COUNTS: Cell<Counts> = const { Cell::new(NOTHING_COUNTED) };
+}
+
+/// What was counted on this thread since the last reset.
+pub fn counts() -> Counts {
+    COUNTS.get()
+}
+
+pub fn reset() {
+    COUNTS.set(NOTHING_COUNTED);
+}
+
+pub fn probe() {
+    update(|counts| counts.probes += 1);
+}
+
+pub fn failed_line(index: usize) {
+    update(|counts| counts.failed_line = Some(index));
+}
+
+pub fn penetration(penetration: f32) {
+    update(|counts| counts.penetration = Some(penetration));
+}
+
+pub fn inner_solve_begun() {
+    update(|counts| counts.inner_solves_begun += 1);
+}
+
+pub fn inner_solve_succeeded() {
+    update(|counts| counts.inner_solves_succeeded += 1);
+}
+
+fn update(change: impl FnOnce(&mut Counts)) {
+    let mut counts = COUNTS.get();
+    change(&mut counts);
+    COUNTS.set(counts);
+}

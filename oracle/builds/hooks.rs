@@ -1,0 +1,95 @@
+//! The places of linear_programming.rs where the counted build counts. Text is
+//! only inserted, within a line, so that the rest stays as given, line by line.
+
+/// `inserted` goes between `before` and `after`, which together must stand in the file exactly once.
+pub struct Hook {
+    pub name: &'static str,
+    pub before: &'static str,
+    pub inserted: &'static str,
+    pub after: &'static str,
+}
+
+/// Stands in every inserted text, and must not stand in the given file.
+pub const MARK: &str = "crate::counters::";
+
+const PROBE: &str = " crate::counters::probe();";
+
+pub const HOOKS: [Hook; 7] = [
+    Hook {
+        name: "a line is compared with the point now in the 2D solve, inner or not",
+        before: "  for (index, constraint) in constraints.iter().enumerate() {",
+        inserted: PROBE,
+        after: "\n",
+    },
+    Hook {
+        name: "a line is compared with the point now in relaxation",
+        before: "    constraints[index_of_failed_line..].iter().enumerate()\n  {",
+        inserted: PROBE,
+        after: "\n",
+    },
+    Hook {
+        name: "an earlier line is looked at in a one-line solve",
+        before: "  for constraint in constraints {",
+        inserted: PROBE,
+        after: "\n",
+    },
+    // The guard is met by every failure of the whole list's 2D pass, and by none of an inner solve.
+    Hook {
+        name: "the 2D pass over the whole list failed",
+        before: "    } if ",
+        inserted: "{ crate::counters::failed_line(index_of_failed_line); true } && ",
+        after: "index_of_failed_line < rigid_constraint_count => Err(partial_value),",
+    },
+    Hook {
+        name: "an inner solve begins",
+        before: "\n    ",
+        inserted: "crate::counters::inner_solve_begun(); ",
+        after: "if let LinearProgram2DResult::Feasible(result) = solve_linear_program_2d(",
+    },
+    Hook {
+        name: "an inner solve succeeded",
+        before: "    ) {\n      ",
+        inserted: "crate::counters::inner_solve_succeeded(); ",
+        after: "best_value = result;\n",
+    },
+    Hook {
+        name: "relaxation ends",
+        before: "\n  ",
+        inserted: "crate::counters::penetration(penetration); ",
+        after: "best_value\n}\n",
+    },
+];
+
+/// The text with every hook's insertion, or which hook does not fit it and why.
+pub fn insert_counters(text: &str) -> Result<String, String> {
+    let mut insertions = Vec::new();
+    for hook in &HOOKS {
+        insertions.push((place_of(hook, text)?, hook.inserted));
+    }
+    insertions.sort();
+    let mut counted = String::new();
+    let mut copied = 0;
+    for (place, inserted) in insertions {
+        counted.push_str(&text[copied..place]);
+        counted.push_str(inserted);
+        copied = place;
+    }
+    counted.push_str(&text[copied..]);
+    Ok(counted)
+}
+
+fn place_of(hook: &Hook, text: &str) -> Result<usize, String> {
+    let hooked = format!("{}{}", hook.before, hook.after);
+    let found: Vec<usize> = text
+        .match_indices(&hooked)
+        .map(|(place, _)| place)
+        .collect();
+    match found[..] {
+        [place] => Ok(place + hook.before.len()),
+        _ => Err(format!(
+            "hook \"{}\": its text must be found exactly once, but is found {} times: {hooked:?}",
+            hook.name,
+            found.len(),
+        )),
+    }
+}

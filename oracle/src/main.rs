@@ -1,0 +1,34 @@
+//! The oracle: asks the given Rust files, checks that they are asked rightly, writes vectors.
+
+mod builds;
+mod checks;
+mod common_vectors;
+mod line_lists;
+mod random;
+mod words;
+
+use std::process::ExitCode;
+use std::{env, fs};
+
+const USAGE: &str = "usage: oracle self-check | oracle vectors common FILE";
+
+fn main() -> ExitCode {
+    let arguments: Vec<String> = env::args().skip(1).collect();
+    let arguments: Vec<&str> = arguments.iter().map(String::as_str).collect();
+    let outcome = match arguments[..] {
+        ["self-check"] => checks::run_all(),
+        ["vectors", "common", file] => write_file(file, &common_vectors::bytes()),
+        _ => Err(USAGE.to_string()),
+    };
+    match outcome {
+        Ok(()) => ExitCode::SUCCESS,
+        Err(fault) => {
+            eprintln!("oracle: {fault}");
+            ExitCode::FAILURE
+        }
+    }
+}
+
+fn write_file(file: &str, bytes: &[u8]) -> Result<(), String> {
+    fs::write(file, bytes).map_err(|fault| format!("{file}: {fault}"))
+}

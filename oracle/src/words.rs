@@ -1,0 +1,59 @@
+//! Numbers as 32-bit words: written big-endian into vectors, shown in hex where a check fails.
+
+use glam::Vec2;
+
+/// All NaNs are written as this one, since IEEE 754 leaves sign and payload open.
+const NAN: u32 = 0x7FC0_0000;
+
+pub fn word_of(number: f32) -> u32 {
+    if number.is_nan() {
+        NAN
+    } else {
+        number.to_bits()
+    }
+}
+
+/// Both NaN, or the same bits.
+pub fn same(a: f32, b: f32) -> bool {
+    word_of(a) == word_of(b)
+}
+
+pub fn same_vector(a: Vec2, b: Vec2) -> bool {
+    same(a.x, b.x) && same(a.y, b.y)
+}
+
+pub fn hex(number: f32) -> String {
+    format!("{:08X}", number.to_bits())
+}
+
+pub fn hex_vector(vector: Vec2) -> String {
+    format!("({} {})", hex(vector.x), hex(vector.y))
+}
+
+/// Big-endian words, one after the other.
+pub struct Words {
+    bytes: Vec<u8>,
+}
+
+impl Words {
+    pub fn new() -> Words {
+        Words { bytes: Vec::new() }
+    }
+
+    pub fn word(&mut self, word: u32) {
+        self.bytes.extend_from_slice(&word.to_be_bytes());
+    }
+
+    pub fn number(&mut self, number: f32) {
+        self.word(word_of(number));
+    }
+
+    pub fn vector(&mut self, vector: Vec2) {
+        self.number(vector.x);
+        self.number(vector.y);
+    }
+
+    pub fn into_bytes(self) -> Vec<u8> {
+        self.bytes
+    }
+}
