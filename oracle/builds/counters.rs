@@ -3,6 +3,8 @@
 
 use std::cell::Cell;
 
+pub mod branches;
+
 #[derive(Clone, Copy, PartialEq, Debug)]
 pub struct Counts {
     /// Lines compared with the point now, and earlier lines looked at in a one-line solve.
@@ -34,6 +36,7 @@ pub fn counts() -> Counts {
 
 pub fn reset() {
     COUNTS.set(NOTHING_COUNTED);
+    branches::reset();
 }
 
 pub fn probe() {
@@ -46,6 +49,7 @@ pub fn failed_line(index: usize) {
 
 pub fn penetration(penetration: f32) {
     update(|counts| counts.penetration = Some(penetration));
+    branches::penetration_now(penetration);
 }
 
 pub fn inner_solve_begun() {

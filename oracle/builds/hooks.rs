@@ -1,5 +1,5 @@
-//! The places of linear_programming.rs where the counted build counts. Text is
-//! only inserted, within a line, so that the rest stays as given, line by line.
+//! The places of linear_programming.rs where the counted build counts, and where it notes which branch is
+//! taken. Text is only inserted, within a line, so that the rest stays as given, line by line.
 
 /// `inserted` goes between `before` and `after`, which together must stand in the file exactly once.
 pub struct Hook {
@@ -14,7 +14,7 @@ pub const MARK: &str = "crate::counters::";
 
 const PROBE: &str = " crate::counters::probe();";
 
-pub const HOOKS: [Hook; 7] = [
+pub const HOOKS: [Hook; 16] = [
     Hook {
         name: "a line is compared with the point now in the 2D solve, inner or not",
         before: "  for (index, constraint) in constraints.iter().enumerate() {",
@@ -57,6 +57,63 @@ pub const HOOKS: [Hook; 7] = [
         before: "\n  ",
         inserted: "crate::counters::penetration(penetration); ",
         after: "best_value\n}\n",
+    },
+    Hook {
+        name: "whether the line meets the circle",
+        before: "\n  ",
+        inserted: "crate::counters::branches::circle(discriminant); ",
+        after: "if discriminant < 0.0 {",
+    },
+    Hook {
+        name: "whether the earlier line is parallel",
+        before: "\n    ",
+        inserted: "crate::counters::branches::earlier_line(direction_determinant, numerator); ",
+        after: "if direction_determinant.abs() <= RVO_EPSILON {",
+    },
+    Hook {
+        name: "which end the earlier line cuts",
+        before: "\n    ",
+        inserted: "crate::counters::branches::cut(direction_determinant, t_left, t_right, t); ",
+        after: "if direction_determinant >= 0.0 {",
+    },
+    Hook {
+        name: "whether the ends have crossed",
+        before: "\n    ",
+        inserted: "crate::counters::branches::ends(t_left, t_right); ",
+        after: "if t_left > t_right {",
+    },
+    Hook {
+        name: "the end that a direction takes",
+        before: "\n      ",
+        inserted: "crate::counters::branches::direction_end(direction.dot(line.direction)); ",
+        after: "if direction.dot(line.direction) > 0.0 {",
+    },
+    Hook {
+        name: "the clamp to a wish",
+        before: "\n      ",
+        inserted: "crate::counters::branches::clamped(t, t_left, t_right); ",
+        after: "t.clamp(t_left, t_right)\n",
+    },
+    Hook {
+        name: "whether the point now meets the line",
+        before: "\n    ",
+        inserted: "crate::counters::branches::compared(matches!(optimal_value, OptimalValue::Direction(_)), \
+                   determinant(constraint.direction, best_value - constraint.point)); ",
+        after: "if determinant(constraint.direction, best_value - constraint.point) > 0.0 {",
+    },
+    Hook {
+        name: "whether relaxation passes over the line",
+        before: "\n    ",
+        inserted: "crate::counters::branches::relaxed(\
+                   determinant(constraint.direction, constraint.point - best_value), penetration); ",
+        after: "if determinant(constraint.direction, constraint.point - best_value)\n      <= penetration\n",
+    },
+    Hook {
+        name: "how a previous line is tightened",
+        before: "\n      ",
+        inserted: "crate::counters::branches::tightened(intersection_determinant, \
+                   constraint.direction.dot(previous_constraint.direction)); ",
+        after: "let intersection_point = if intersection_determinant.abs() <= RVO_EPSILON\n",
     },
 ];
 

@@ -57,6 +57,7 @@ fn crate_root(given: &Path, own: &Path, solver: &Path) -> String {
 fn counters(own: &Path) -> String {
     format!(
         "\n#[path = {:?}]\nmod counters;\n\
+         pub use counters::branches::{{taken, Branch, Branches}};\n\
          pub use counters::{{counts, reset, Counts}};\n",
         own.join("counters.rs"),
     )

@@ -35,10 +35,15 @@ impl fmt::Display for LineList {
     }
 }
 
-/// 0 to 20 lines, rigid count 0 to one more than the lines, of one of the layouts below.
-/// Small rigid counts are more common, or few of the failing lists would be relaxed.
+/// 0 to 20 lines of one of the layouts below.
 pub fn random_list(random: &mut Random) -> LineList {
     let count = random.below(21);
+    random_list_of(random, count)
+}
+
+/// Rigid count 0 to one more than the lines.
+/// Small rigid counts are more common, or few of the failing lists would be relaxed.
+pub fn random_list_of(random: &mut Random, count: usize) -> LineList {
     let rigid_count = random.below(count + 2).min(random.below(count + 2));
     let layout = random.pick(&[lattice, scattered, around_rest, bundles, far]);
     let (wish, limit, lines) = layout(random, count);
@@ -68,7 +73,7 @@ fn lattice_line(random: &mut Random) -> Line {
     }
 }
 
-fn whole_vector(random: &mut Random, size: usize) -> Vec2 {
+pub fn whole_vector(random: &mut Random, size: usize) -> Vec2 {
     Vec2::new(random.whole(size), random.whole(size))
 }
 

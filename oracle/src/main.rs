@@ -4,13 +4,15 @@ mod builds;
 mod checks;
 mod common_vectors;
 mod line_lists;
+mod list_vectors;
 mod random;
 mod words;
 
 use std::process::ExitCode;
 use std::{env, fs};
 
-const USAGE: &str = "usage: oracle self-check | oracle vectors common FILE";
+const USAGE: &str =
+    "usage: oracle self-check | oracle vectors common FILE | oracle vectors lists FILE";
 
 fn main() -> ExitCode {
     let arguments: Vec<String> = env::args().skip(1).collect();
@@ -18,6 +20,7 @@ fn main() -> ExitCode {
     let outcome = match arguments[..] {
         ["self-check"] => checks::run_all(),
         ["vectors", "common", file] => write_file(file, &common_vectors::bytes()),
+        ["vectors", "lists", file] => write_lists(file),
         _ => Err(USAGE.to_string()),
     };
     match outcome {
@@ -27,6 +30,14 @@ fn main() -> ExitCode {
             ExitCode::FAILURE
         }
     }
+}
+
+/// Prints what the lists cover.
+fn write_lists(file: &str) -> Result<(), String> {
+    let (bytes, table) = list_vectors::bytes()?;
+    write_file(file, &bytes)?;
+    print!("{table}");
+    Ok(())
 }
 
 fn write_file(file: &str, bytes: &[u8]) -> Result<(), String> {

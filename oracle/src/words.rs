@@ -48,6 +48,11 @@ impl Words {
         self.word(word_of(number));
     }
 
+    /// The number's own bits, also a NaN's.
+    pub fn bits(&mut self, number: f32) {
+        self.word(number.to_bits());
+    }
+
     pub fn vector(&mut self, vector: Vec2) {
         self.number(vector.x);
         self.number(vector.y);

@@ -24,6 +24,12 @@ impl Vec2 {
 
     pub const ZERO: Vec2 = Vec2 { x: 0.0, y: 0.0 };
 
+    // The greatest magnitude of a component that is admitted: of a position, a velocity, a wish or a vertex.
+    pub const REACH: f32 = 65536.0;
+
+    // The greatest length that is admitted as a speed limit or a margin.
+    pub const LONGEST: f32 = 1024.0;
+
     pub fn add(self, b: Vec2) -> Vec2
         ensures { λ r. ⌜ r ≡ addOf self b ⌝ }
     {

@@ -3,7 +3,7 @@ use Prim.Native.Nat.{ℕ, _+_}
 use mathlib.Core.Bool.{Bool, _&&_, true, false}
 use mathlib.Core.List.{List}
 use lib.Dec.{eqb}
-use lib.Ieee.{Float, binary32, ofBits}
+use lib.Ieee.{Float, binary32, ofBits, eq}
 use Rattle.words.specs.Words.{wordOf}
 use Rattle.words.specs.Patterns.{hasPattern}
 use Rattle.common.specs.Vectors.{vec}
@@ -29,3 +29,7 @@ isVector s at v = isNumber s at (v .x) && isNumber s (at + 4) (v .y)
 unfoldable pub isFlag : List ℕ → ℕ → Bool → Bool
 isFlag s at true = eqb (wordOf s at) 1
 isFlag s at false = eqb (wordOf s at) 0
+
+-- whether a number is the one with the pattern by value: a zero agrees with both, a NaN with none
+unfoldable pub agreesWith : Float → ℕ → Bool
+agreesWith x p = eq x (ofBits binary32 p)

@@ -2,7 +2,7 @@
 use common::Vec2;
 ghost use mathlib.Core.Path.{_≡_};
 ghost use Prim.Native.Nat.{_<_};
-ghost use Rattle.replay.specs.Answers.{numberAt, vectorAt, isNumber, isVector, isFlag};
+ghost use Rattle.replay.specs.Answers.{numberAt, vectorAt, isNumber, isVector, isFlag, agreesWith};
 
 // The number at the place.
 pub(crate) fn number_at(bytes: &[u8], at: usize) -> f32
@@ -43,4 +43,11 @@ pub(crate) fn is_flag(bytes: &[u8], at: usize, flag: bool) -> bool
 {
     let word = words::word_at(bytes, at);
     if flag { word == 1 } else { word == 0 }
+}
+
+// Whether the number is the one with the pattern by value: bit for bit, but for zeros, since Rust's `min` and `max` leave open which of two zeros they take. A NaN is no answer.
+pub(crate) fn agrees(x: f32, pattern: u32) -> bool
+    ensures { λ r. ⌜ r ≡ agreesWith x pattern ⌝ }
+{
+    x == words::number(pattern)
 }

@@ -1,7 +1,9 @@
-// Replays the unchanged Rust's answers: each set of data/ holds records of inputs with the answers that the Rust gave, and this code has to give the same, bit for bit.
+// Replays the unchanged Rust's answers: each set of data/ holds records of inputs with the answers that the Rust gave, and this code has to give the same.
 mod answers;
 mod common_set;
+mod lists_set;
 
 fn main() {
     common_set::replay();
+    lists_set::replay();
 }

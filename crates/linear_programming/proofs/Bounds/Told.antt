@@ -1,0 +1,78 @@
+-- A call over any list of any numbers stands, or is refused with a number below 8: 8 and 9 never come out of a solve of admitted lines. Assumes nothing.
+use mathlib.Core.Path.{_≡_, refl}
+use Prim.Native.Nat.{ℕ, _%_, _<_}
+use mathlib.Core.Bool.{Bool, true, false}
+use mathlib.Core.List.{List, [], _∷_}
+use lib.ListN.{length}
+use lib.Dec.{eqb, leb, lit<}
+use lib.Ieee.{Float}
+use Rattle.arithmetic.specs.Binary32.{0ᶠ, finite}
+use Rattle.common.specs.declared.Vec2.{Vec2}
+use Rattle.common.specs.Vectors.{lengthSquaredOf}
+use Rattle.linear_programming.specs.declared.Line.{Line}
+use Rattle.linear_programming.specs.Lines.{linesOf}
+use Rattle.linear_programming.specs.Whole.{Phase, Failed, Outcome, stands, refusal}
+use Rattle.linear_programming.specs.Admit.{Fault, fine, fault, must, _⊳_, _⟫_, mostLines, reach, longest, lineReach, bandLow, bandHigh, within, inside, wishFault, lineFault, linesFault, judgedList, listCall}
+use Rattle.linear_programming.proofs.JudgeLaws.{⊳-fine}
+use Rattle.linear_programming.proofs.Bounds.NeverRefused.{Stood, stood, never-refused}
+
+pub data Told : Outcome → Type 0 where
+  answered : {ph : Phase} {f : Failed} {n : ℕ} → Told (stands ph f n)
+  declined : {r : ℕ} → r < 8 → Told (refusal r)
+
+-- ---- faults have numbers below 8
+
+data Mild : Fault → Type 0 where
+  passes : Mild fine
+  tells : {r : ℕ} → r < 8 → Mild (fault r)
+
+⊳-mild : {f g : Fault} → Mild f → Mild g → Mild (f ⊳ g)
+⊳-mild passes k = k
+⊳-mild (tells h) k = tells h
+
+must-mild : (b : Bool) (r : ℕ) → r < 8 → Mild (must b r)
+must-mild true r h = passes
+must-mild false r h = tells h
+
+wish-mild : (wish : Vec2) (limit : Float) → Mild (wishFault wish limit)
+unfolding wishFault
+wish-mild wish limit =
+    ⊳-mild (must-mild (within reach (wish .x)) 6 (lit< tt))
+    (⊳-mild (must-mild (within reach (wish .y)) 6 (lit< tt)) (must-mild (inside 0ᶠ longest limit) 6 (lit< tt)))
+
+line-mild : (l : Line) → Mild (lineFault l)
+unfolding lineFault
+line-mild l =
+    ⊳-mild (must-mild (within lineReach (l .point .x)) 6 (lit< tt))
+    (⊳-mild (must-mild (within lineReach (l .point .y)) 6 (lit< tt))
+    (⊳-mild (must-mild (finite (l .direction .x)) 6 (lit< tt))
+    (⊳-mild (must-mild (finite (l .direction .y)) 6 (lit< tt)) (must-mild (inside bandLow bandHigh (lengthSquaredOf (l .direction))) 7 (lit< tt)))))
+
+lines-mild : (ls : List Line) → Mild (linesFault ls)
+unfolding linesFault
+lines-mild [] = passes
+lines-mild (l ∷ ls) = ⊳-mild (line-mild l) (lines-mild ls)
+
+-- ---- the calls
+
+stood-told : {o : Outcome} → Stood o → Told o
+stood-told stood = answered
+
+-- what follows the rules is told where they pass
+⟫-told : {f : Fault} {o : Outcome} → Mild f → (f ≡ fine → Told o) → Told (f ⟫ o)
+⟫-told passes h = h refl
+⟫-told (tells l) h = declined l
+
+module _ (rigid : ℕ) (wish : Vec2) (limit : Float) where
+  pub judged-told : (lines : List Line) → Told (judgedList rigid wish limit lines)
+  unfolding judgedList
+  judged-told lines =
+      ⟫-told (⊳-mild (must-mild (leb (length lines) mostLines) 4 (lit< tt)) (⊳-mild (wish-mild wish limit) (lines-mild lines)))
+      (λ e.
+      let a = ⊳-fine (must (leb (length lines) mostLines) 4) e in
+      let b = ⊳-fine (wishFault wish limit) (a .1) in
+      stood-told (never-refused rigid wish limit lines (b .0) (b .1)))
+
+  pub list-told : (xs : List Float) → Told (listCall rigid wish limit xs)
+  unfolding listCall
+  list-told xs = ⟫-told (must-mild (eqb (length xs % 4) 0) 2 (lit< tt)) (λ e. judged-told (linesOf xs))

@@ -1,0 +1,88 @@
+-- Laws of the one-line solve: each earlier line is looked at once, and an empty interval stays empty. Assumes nothing.
+use Prim.Native.Nat.{ℕ, suc, _+_, _≤_}
+use mathlib.Core.Path.{_≡_, refl, subst}
+use mathlib.Core.List.{List, [], _∷_, foldl}
+use native.Mathlib.Omega.{arith}
+use native.Mathlib.Nat.{le-refl, add-zero}
+use lib.ListN.{length}
+use lib.Ieee.{Float}
+use Rattle.arithmetic.proofs.Choice.{if-all}
+use Rattle.common.specs.declared.Vec2.{Vec2}
+use Rattle.linear_programming.specs.declared.Line.{Line}
+use Rattle.linear_programming.proofs.Fold.{fold-stays}
+use Rattle.linear_programming.specs.OneLine.{Objective, toward, along, Interval, between, empty, chord, crossed, cut, beside, narrow, Found, at, fails, refuses, choose, oneLine}
+
+pub empty-stays : (own : Line) (n : ℕ) (it : Line) → narrow own (empty n) it ≡ empty n
+unfolding narrow
+empty-stays own n it = refl
+
+-- ---- an interval that is left has looked at i lines, and one that is gone at no more
+
+pub data Opens (i : ℕ) : Interval → Type 0 where
+  opens : {l r : Float} → Opens i (between l r i)
+  shuts : {n : ℕ} → n ≤ i → Opens i (empty n)
+
+pub open-count : {i n : ℕ} {l r : Float} → Opens i (between l r n) → n ≡ i
+open-count opens = refl
+
+crossed-opens : (left right : Float) (n : ℕ) → Opens (n + 1) (crossed left right n)
+unfolding crossed
+crossed-opens left right n = if-all (Opens (n + 1)) _ (shuts (le-refl _)) opens
+
+pub narrow-opens : (own it : Line) (i : ℕ) {s : Interval} → Opens i s → Opens (i + 1) (narrow own s it)
+unfolding narrow beside cut
+narrow-opens own it i opens =
+    if-all (Opens (i + 1)) _ (if-all (Opens (i + 1)) _ (shuts (le-refl _)) opens) (if-all (Opens (i + 1)) _ (crossed-opens _ _ i) (crossed-opens _ _ i))
+narrow-opens own it i (shuts {n} h) = shuts {n = n} (omega arith)
+
+-- one line more
+pub looked-on : (own it : Line) (left right l r : Float) (n k : ℕ) → between l r k ≡ narrow own (between left right n) it → k ≡ n + 1
+looked-on own it left right l r n k e = open-count (rw (← e) at (narrow-opens own it n {s = between left right n} opens))
+
+fold-opens : (own : Line) (l : List Line) (i : ℕ) (s : Interval) → Opens i s → Opens (i + length l) (foldl (narrow own) s l)
+fold-opens own [] i s h = rw add-zero h
+fold-opens own (x ∷ xs) i s h =
+    let e : i + suc (length xs) ≡ i + 1 + length xs = omega arith in
+    rw e (fold-opens own xs (i + 1) (narrow own s x) (narrow-opens own x i h))
+
+chord-opens : (limit : Float) (own : Line) → Opens 0 (chord limit own)
+unfolding chord
+chord-opens limit own = if-all (Opens 0) _ (shuts (le-refl _)) opens
+
+-- ---- a solved line has looked at every earlier one, a failing one at no more
+
+pub data Solves (i : ℕ) : Found → Type 0 where
+  solves : {q : Vec2} → Solves i (at q i)
+  stops : {n : ℕ} → n ≤ i → Solves i (fails n)
+  turns : Solves i refuses
+
+choose-solves : (o : Objective) (own : Line) (i : ℕ) {s : Interval} → Opens i s → Solves i (choose o own s)
+unfolding choose
+choose-solves (toward w) own i opens = if-all (Solves i) _ solves turns
+choose-solves (along d) own i opens = if-all (Solves i) _ solves solves
+choose-solves (toward w) own i (shuts h) = stops h
+choose-solves (along d) own i (shuts h) = stops h
+
+pub line-solves : (o : Objective) (limit : Float) (own : Line) (e : List Line) → Solves (0 + length e) (oneLine o limit own e)
+unfolding oneLine
+line-solves o limit own e = choose-solves o own (0 + length e) (fold-opens own e 0 (chord limit own) (chord-opens limit own))
+
+-- ---- the steps of the solve, as the code takes them
+
+module _ (o : Objective) (limit : Float) (own : Line) (e : List Line) where
+  -- the line misses the circle
+  pub missed : (n : ℕ) → empty n ≡ chord limit own → fails 0 ≡ oneLine o limit own e
+  unfolding oneLine choose
+  missed n h =
+      let z : n ≡ 0 = none-looked (rw (← h) at (chord-opens limit own)) in
+      rw (← h, z, fold-stays (narrow own) (empty 0) (empty-stays own 0) e)
+    where
+      none-looked : {k : ℕ} → Opens 0 (empty k) → k ≡ 0
+      none-looked (shuts l) = omega arith
+
+  -- what the earlier lines leave of the chord is searched for the best value
+  pub narrowed : (l r : Float) (n : ℕ) (s : Interval) → between l r n ≡ chord limit own → s ≡ foldl (narrow own) (between l r 0) e → choose o own s ≡ oneLine o limit own e
+  unfolding oneLine
+  narrowed l r n s h k =
+      let z : n ≡ 0 = open-count (rw (← h) at (chord-opens limit own)) in
+      rw (k, ← h, z)

@@ -1,0 +1,94 @@
+-- Laws of a pass from any of its lines on: what ended stays, it fails at a line of the list, and each line counts at most 256 probes. Assumes nothing.
+use Prim.Native.Nat.{ℕ, suc, _+_, _*_, _≤_, _<_}
+use mathlib.Core.Path.{_≡_, refl, sym}
+use mathlib.Core.List.{List, [], _∷_, _++_}
+use native.Mathlib.Omega.{arith}
+use native.Mathlib.Nat.{add-zero}
+use lib.ListN.{length, length-append}
+use lib.Ieee.{Float}
+use Rattle.arithmetic.proofs.Choice.{if-all}
+use Rattle.common.specs.declared.Vec2.{Vec2}
+use Rattle.linear_programming.specs.declared.Line.{Line}
+use Rattle.linear_programming.specs.declared.LinearProgram2D.{LinearProgram2D}
+use Rattle.linear_programming.specs.declared.LinearProgram2D.the-variants as lp2d
+use Rattle.linear_programming.specs.Walk.{walk}
+use Rattle.linear_programming.specs.OneLine.{Objective, toward, along, Found, at, fails, refuses, oneLine}
+use Rattle.linear_programming.specs.Pass.{Failure, Pass, now, failed, refused, judged, solved, passLine}
+use Rattle.linear_programming.specs.Read.{passOf, probesOf, indexOf}
+use Rattle.linear_programming.proofs.Probes.{Counts, counts, counts-failed, counts-none, pass-counts}
+use Rattle.linear_programming.proofs.WalkLaws.{walk-stays, walk-grows}
+
+module _ (o : Objective) (limit : Float) where
+  pub pass-failed : (f : Failure) (p : Vec2) (n : ℕ) (e l : List Line) → walk (passLine o limit) e l (failed f p n) ≡ failed f p n
+  unfolding passLine
+  pass-failed f p n = walk-stays (passLine o limit) (failed f p n) (λ e x. refl)
+
+  pub pass-refused : (r : ℕ) (e l : List Line) → walk (passLine o limit) e l (refused r) ≡ refused r
+  unfolding passLine
+  pass-refused r = walk-stays (passLine o limit) (refused r) (λ e x. refl)
+
+-- ---- it fails at its own line
+
+pub data FailsAt (k : ℕ) : Pass → Type 0 where
+  still : {p : Vec2} {n : ℕ} → FailsAt k (now p n)
+  there : {f : Failure} {p : Vec2} {n : ℕ} → f .index ≡ k → FailsAt k (failed f p n)
+  never : {r : ℕ} → FailsAt k (refused r)
+
+-- a judged point never fails
+pub data Unfailed : Pass → Type 0 where
+  going : {p : Vec2} {n : ℕ} → Unfailed (now p n)
+  turned : {r : ℕ} → Unfailed (refused r)
+
+pub judged-unfailed : (o : Objective) (p : Vec2) (n : ℕ) → Unfailed (judged o p n)
+unfolding judged
+judged-unfailed (toward w) p n = if-all Unfailed _ going turned
+judged-unfailed (along d) p n = going
+
+unfailed : (k : ℕ) {q : Pass} → Unfailed q → FailsAt k q
+unfailed k going = still
+unfailed k turned = never
+
+solved-fails : (o : Objective) (k : ℕ) (p : Vec2) (n : ℕ) (q : Found) → FailsAt k (solved o k p n q)
+unfolding solved
+solved-fails o k p n (at q m) = unfailed k (judged-unfailed o q (n + m))
+solved-fails o k p n (fails m) = there refl
+solved-fails o k p n refuses = never
+
+pub pass-fails : (o : Objective) (limit : Float) (e : List Line) (own : Line) (p : Vec2) (n : ℕ) → FailsAt (length e) (passLine o limit e own (now p n))
+unfolding passLine
+pass-fails o limit e own p n = if-all (FailsAt (length e)) _ still (solved-fails o (length e) p (n + 1) (oneLine o limit own e))
+
+-- ---- how it stands after the first k lines of at most 256
+
+data Bounded (k : ℕ) : Pass → Type 0 where
+  running : {p : Vec2} {n : ℕ} → n ≤ 256 * k → Bounded k (now p n)
+  halted : {f : Failure} {p : Vec2} {n : ℕ} → f .index < k → n ≤ 256 * k → Bounded k (failed f p n)
+  barred : {r : ℕ} → Bounded k (refused r)
+
+module _ (o : Objective) (limit : Float) where
+  line-bounded : (e : List Line) (own : Line) (s : Pass) → length e < 256 → Bounded (length e) s → Bounded (length e + 1) (passLine o limit e own s)
+  unfolding passLine
+  line-bounded e own s h (halted {f} {n = n} a b) = halted {f = f} {n = n} (omega arith) (omega arith)
+  line-bounded e own s h barred = barred
+  line-bounded e own s h (running {p} {n} a) = both (pass-fails o limit e own p n) (pass-counts o limit e own p n)
+    where
+      both : {t : Pass} → FailsAt (length e) t → Counts (n + 1 + length e) t → Bounded (length e + 1) t
+      both still (counts {n = m} c) = running {n = m} (omega arith)
+      both (there {f} i) (counts-failed {n = m} c) = halted {f = f} {n = m} (omega arith) (omega arith)
+      both never c = barred
+
+  walk-bounded : (e l : List Line) (s : Pass) → length e + length l ≤ 256 → Bounded (length e) s → Bounded (length e + length l) (walk (passLine o limit) e l s)
+  walk-bounded e [] s h b = rw add-zero b
+  walk-bounded e (x ∷ xs) s h b =
+      let k : length (e ++ (x ∷ [])) ≡ length e + 1 = length-append e (x ∷ []) in
+      let n : length e + suc (length xs) ≡ length e + 1 + length xs = omega arith in
+      rw (n, ← k) (walk-bounded (e ++ (x ∷ [])) xs (passLine o limit e x s) (omega arith) (rw k (line-bounded e x s (omega arith) b)))
+
+  -- what a pass counts, and where it fails
+  pub pass-bounds : (e l : List Line) (p : Vec2) (a : LinearProgram2D) → length e + length l ≤ 256 → passOf a ≡ walk (passLine o limit) e l (now p 0) → (probesOf a ≤ 65536) × (indexOf a ≤ length e + length l)
+  pass-bounds e l p a h eq = bounds a (rw (← eq) at (walk-bounded e l (now p 0) h (running (omega arith))))
+    where
+      bounds : (a : LinearProgram2D) → Bounded (length e + length l) (passOf a) → (probesOf a ≤ 65536) × (indexOf a ≤ length e + length l)
+      bounds (lp2d.Feasible p n) (running b) = (omega arith, omega arith)
+      bounds (lp2d.Infeasible f p n) (halted i b) = (omega arith, omega arith)
+      bounds (lp2d.Refused r) b = (omega arith, omega arith)

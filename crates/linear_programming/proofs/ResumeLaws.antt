@@ -1,0 +1,123 @@
+-- The rules taken up again are the rules line by line: the probes taken before are only added, so that they may be counted from 0. Assumes nothing.
+use Prim.Native.Nat.{ℕ, _+_}
+use mathlib.Core.Path.{_≡_, refl, sym, _∙_, ap}
+use mathlib.Core.Bool.{Bool, true, false}
+use mathlib.Core.List.{List, _++_}
+use native.Mathlib.Nat.{add-zero, add-assoc}
+use lib.ListN.{length}
+use lib.Seq.{take-at, drop-at}
+use lib.Ieee.{Float}
+use Rattle.arithmetic.specs.Binary32.{0ᶠ, if_then_else_}
+use Rattle.common.specs.declared.Vec2.{Vec2}
+use Rattle.linear_programming.specs.declared.Line.{Line}
+use Rattle.linear_programming.specs.OneLine.{Objective, toward, along, Found, at, fails, refuses, oneLine}
+use Rattle.linear_programming.specs.Pass.{Pass, now, failed, refused, judged, solved, passLine}
+use Rattle.linear_programming.specs.Relax.{Relaxed, on, turned, buildProbes, replaced, relaxLine}
+use Rattle.linear_programming.specs.Whole.{Phase, solving, relaxing, rigidFailure, Failed, noLine, failedLine, Outcome, stands, refusal, relaxedOutcome, wholeList}
+use Rattle.linear_programming.specs.Resume.{addProbes, resumed}
+use Rattle.linear_programming.proofs.WalkLaws.{walk-through}
+use Rattle.linear_programming.proofs.Steps.{entered, advance, feed, feed-rigid, feed-relaxed, pass-feed, batch}
+use Rattle.linear_programming.proofs.WholeLaws.{Agrees, agree-solving, agree-relaxing, agree-rigid, whole-agrees}
+
+-- where both branches go through g, the choice does
+if-through : {A B : Type 0} (g : A → B) (b : Bool) {x y : A} {v w : B} → v ≡ g x → w ≡ g y → (if b then v else w) ≡ g (if b then x else y)
+unfolding if_then_else_
+if-through g true h k = h
+if-through g false h k = k
+
+-- ---- n probes more, of a pass and of relaxation
+
+abbrev passAfter : ℕ → Pass → Pass
+passAfter n (now p m) = now p (n + m)
+passAfter n (failed f p m) = failed f p (n + m)
+passAfter n (refused r) = refused r
+
+abbrev relaxedAfter : ℕ → Relaxed → Relaxed
+relaxedAfter n (on p depth m) = on p depth (n + m)
+relaxedAfter n (turned r) = turned r
+
+judged-after : (o : Objective) (p : Vec2) (n m : ℕ) → judged o p (n + m) ≡ passAfter n (judged o p m)
+unfolding judged
+judged-after (toward wish) p n m = if-through (passAfter n) _ refl refl
+judged-after (along d) p n m = refl
+
+solved-after : (o : Objective) (k : ℕ) (p : Vec2) (n m : ℕ) (f : Found) → solved o k p (n + m) f ≡ passAfter n (solved o k p m f)
+unfolding solved
+solved-after o k p n m (at q i) = rw add-assoc (judged-after o q n (m + i))
+solved-after o k p n m (fails i) = rw add-assoc refl
+solved-after o k p n m refuses = refl
+
+pass-after : (o : Objective) (limit : Float) (n : ℕ) (e : List Line) (own : Line) (s : Pass) → passLine o limit e own (passAfter n s) ≡ passAfter n (passLine o limit e own s)
+unfolding passLine
+pass-after o limit n e own (now p m) = if-through (passAfter n) _ (rw add-assoc refl) (rw add-assoc (solved-after o (length e) p n (m + 1) (oneLine o limit own e)))
+pass-after o limit n e own (failed f p m) = refl
+pass-after o limit n e own (refused r) = refl
+
+replaced-after : (own : Line) (p : Vec2) (depth : Float) (n m : ℕ) (s : Pass) → replaced own p depth (n + m) s ≡ relaxedAfter n (replaced own p depth m s)
+unfolding replaced
+replaced-after own p depth n m (now q i) = if-through (relaxedAfter n) _ (rw add-assoc refl) refl
+replaced-after own p depth n m (failed f q i) = rw add-assoc refl
+replaced-after own p depth n m (refused r) = refl
+
+relax-after : (rigid : ℕ) (limit : Float) (n : ℕ) (e : List Line) (own : Line) (s : Relaxed) → relaxLine rigid limit e own (relaxedAfter n s) ≡ relaxedAfter n (relaxLine rigid limit e own s)
+unfolding relaxLine
+relax-after rigid limit n e own (on p depth m) =
+    if-through (relaxedAfter n) _ (rw add-assoc refl) (rw (add-assoc n m 1, add-assoc n (m + 1) (buildProbes rigid e)) (replaced-after own p depth n (m + 1 + buildProbes rigid e) _))
+relax-after rigid limit n e own (turned r) = refl
+
+relaxed-after : (n : ℕ) (f : Failed) (s : Relaxed) → relaxedOutcome f (relaxedAfter n s) ≡ addProbes n (relaxedOutcome f s)
+relaxed-after n f (on p depth m) = refl
+relaxed-after n f (turned r) = refl
+
+-- ---- and of the rules line by line
+
+module _ (rigid : ℕ) (wish : Vec2) (limit : Float) (n : ℕ) where
+  relaxing-after : (f : Failed) (e : List Line) (own : Line) (p : Vec2) (depth : Float) (m : ℕ) →
+      relaxedOutcome f (relaxLine rigid limit e own (on p depth (n + m))) ≡ addProbes n (relaxedOutcome f (relaxLine rigid limit e own (on p depth m)))
+  relaxing-after f e own p depth m = ap (relaxedOutcome f) (relax-after rigid limit n e own (on p depth m)) ∙ relaxed-after n f (relaxLine rigid limit e own (on p depth m))
+
+  entered-after : (e : List Line) (own : Line) (q : Pass) → entered rigid limit e own (passAfter n q) ≡ addProbes n (entered rigid limit e own q)
+  unfolding entered
+  entered-after e own (now p m) = refl
+  entered-after e own (failed f p m) = if-through (addProbes n) _ refl (relaxing-after (failedLine f) e own p 0ᶠ m)
+  entered-after e own (refused r) = refl
+
+  advance-after : (e : List Line) (own : Line) (s : Outcome) → advance rigid wish limit e own (addProbes n s) ≡ addProbes n (advance rigid wish limit e own s)
+  unfolding advance
+  advance-after e own (stands (solving p) f m) = ap (entered rigid limit e own) (pass-after (toward wish) limit n e own (now p m)) ∙ entered-after e own _
+  advance-after e own (stands (relaxing p depth) f m) = relaxing-after f e own p depth m
+  advance-after e own (stands (rigidFailure k p) f m) = refl
+  advance-after e own (refusal r) = refl
+
+  feed-after : (e l : List Line) (s : Outcome) → feed rigid wish limit e l (addProbes n s) ≡ addProbes n (feed rigid wish limit e l s)
+  unfolding feed
+  feed-after = walk-through (advance rigid wish limit) (advance rigid wish limit) (addProbes n) advance-after
+
+-- ---- the rules taken up again
+
+-- solving goes with no failed line; the other phases keep theirs, whichever it is
+pub data Paired : Phase → Failed → Type 0 where
+  paired-solving : {p : Vec2} → Paired (solving p) noLine
+  paired-relaxing : {p : Vec2} {depth : Float} {f : Failed} → Paired (relaxing p depth) f
+  paired-rigid : {k : ℕ} {p : Vec2} {f : Failed} → Paired (rigidFailure k p) f
+
+pub agrees-paired : {ph : Phase} {f : Failed} {n : ℕ} → Agrees (stands ph f n) → Paired ph f
+agrees-paired agree-solving = paired-solving
+agrees-paired agree-relaxing = paired-relaxing
+agrees-paired agree-rigid = paired-rigid
+
+module _ (rigid : ℕ) (wish : Vec2) (limit : Float) (l m : List Line) where
+  from-zero : {ph : Phase} {f : Failed} → Paired ph f → feed rigid wish limit l m (stands ph f 0) ≡ resumed rigid wish limit (l ++ m) (length l) ph f
+  unfolding resumed
+  from-zero (paired-solving {p}) = rw (take-at l m (length l) refl, drop-at l m (length l) refl) (sym (pass-feed rigid wish limit l m p 0))
+  from-zero (paired-relaxing {p} {depth} {f}) = rw (take-at l m (length l) refl, drop-at l m (length l) refl) (feed-relaxed rigid wish limit f l m (on p depth 0))
+  from-zero (paired-rigid {k} {p} {f}) = feed-rigid rigid wish limit k p f 0 l m
+
+  pub resumed-feed : (ph : Phase) (f : Failed) (n : ℕ) → Paired ph f → feed rigid wish limit l m (stands ph f n) ≡ addProbes n (resumed rigid wish limit (l ++ m) (length l) ph f)
+  resumed-feed ph f n h =
+      ap (λ (k : ℕ). feed rigid wish limit l m (stands ph f k)) (sym (add-zero n)) ∙ feed-after rigid wish limit n l m (stands ph f 0) ∙ ap (addProbes n) (from-zero h)
+
+  -- a list that stands, with lines behind it: the rules taken up again end as the whole list does
+  pub resumed-whole : {ph : Phase} {f : Failed} {n : ℕ} → wholeList rigid wish limit l ≡ stands ph f n → addProbes n (resumed rigid wish limit (l ++ m) (length l) ph f) ≡ wholeList rigid wish limit (l ++ m)
+  resumed-whole {ph} {f} {n} e =
+      sym (resumed-feed ph f n (agrees-paired (rw e at (whole-agrees rigid wish limit l)))) ∙ rw (← e) (batch rigid wish limit l m)

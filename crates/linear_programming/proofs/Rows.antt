@@ -1,0 +1,75 @@
+-- A list of numbers read by fours: how many lines it holds, and which. Assumes nothing.
+use Prim.Native.Nat.{ℕ, zero, suc, _+_, _*_, _/_, _%_, _≤_}
+use mathlib.Core.Path.{_≡_, refl, ap}
+use mathlib.Core.List.{List, [], _∷_, _++_}
+use native.Mathlib.Omega.{arith}
+use native.Mathlib.Numerals.{add-one, add-two, add-three}
+use lib.ListN.{length, take, getD, set}
+use lib.Seq.{take-length}
+use lib.Ieee.{Float, nan}
+use Rattle.common.specs.Vectors.{vec}
+use Rattle.linear_programming.specs.declared.Line.{Line}
+use Rattle.linear_programming.specs.Lines.{line, offLine, linesOf}
+
+pub fits : (b : List Float) (n : ℕ) → 4 * n ≤ length b → n ≤ length (linesOf b)
+unfolding linesOf
+fits b zero h = omega arith
+fits [] (suc n) h = absurd (omega arith)
+fits (w ∷ []) (suc n) h = absurd (omega arith)
+fits (w ∷ x ∷ []) (suc n) h = absurd (omega arith)
+fits (w ∷ x ∷ y ∷ []) (suc n) h = absurd (omega arith)
+fits (w ∷ x ∷ y ∷ z ∷ r) (suc n) h = omega (arith, fits r n (omega arith))
+
+-- the four numbers from k on, as a line
+abbrev pub lineAt : List Float → ℕ → Line
+lineAt b k = line (vec (getD b k nan) (getD b (k + 1) nan)) (vec (getD b (k + 2) nan) (getD b (k + 3) nan))
+
+pub nth : (b : List Float) (i k : ℕ) → k ≡ 4 * i → k + 4 ≤ length b → getD (linesOf b) i offLine ≡ lineAt b k
+unfolding linesOf
+nth [] i k e h = absurd (omega arith)
+nth (w ∷ []) i k e h = absurd (omega arith)
+nth (w ∷ x ∷ []) i k e h = absurd (omega arith)
+nth (w ∷ x ∷ y ∷ []) i k e h = absurd (omega arith)
+nth (w ∷ x ∷ y ∷ z ∷ r) zero k e h =
+    let f : k ≡ 0 = omega arith in
+    rw f refl
+nth (w ∷ x ∷ y ∷ z ∷ r) (suc i) k e h =
+    let f : k ≡ suc (suc (suc (suc (4 * i)))) = omega arith in
+    let ih = nth r i (4 * i) refl (omega arith) in
+    rw (f, add-one, add-two, add-three) (rw (add-one, add-two, add-three) at ih)
+
+pub four-set : (b : List Float) (i k : ℕ) (p q s t : Float) → k ≡ 4 * i → k + 4 ≤ length b
+    → linesOf (set (set (set (set b k p) (k + 1) q) (k + 2) s) (k + 3) t) ≡ set (linesOf b) i (line (vec p q) (vec s t))
+unfolding linesOf
+four-set [] i k p q s t e h = absurd (omega arith)
+four-set (w ∷ []) i k p q s t e h = absurd (omega arith)
+four-set (w ∷ x ∷ []) i k p q s t e h = absurd (omega arith)
+four-set (w ∷ x ∷ y ∷ []) i k p q s t e h = absurd (omega arith)
+four-set (w ∷ x ∷ y ∷ z ∷ r) zero k p q s t e h =
+    let f : k ≡ 0 = omega arith in
+    rw f refl
+four-set (w ∷ x ∷ y ∷ z ∷ r) (suc i) k p q s t e h =
+    let f : k ≡ suc (suc (suc (suc (4 * i)))) = omega arith in
+    let ih = four-set r i (4 * i) p q s t refl (omega arith) in
+    rw (f, add-one, add-two, add-three) (ap (λ ls. line (vec w x) (vec y z) ∷ ls) (rw (add-one, add-two, add-three) at ih))
+
+-- how many lines there are
+pub count : (b : List Float) → length (linesOf b) ≡ length b / 4
+unfolding linesOf
+count [] = refl
+count (w ∷ []) = refl
+count (w ∷ x ∷ []) = refl
+count (w ∷ x ∷ y ∷ []) = refl
+count (w ∷ x ∷ y ∷ z ∷ r) = let h = count r in omega arith
+
+pub all-lines : (b : List Float) → take (length b / 4) (linesOf b) ≡ linesOf b
+all-lines b = rw (← count b) (take-length (linesOf b))
+
+-- numbers behind whole lines are the lines behind them
+pub lines-append : (b c : List Float) → length b % 4 ≡ 0 → linesOf (b ++ c) ≡ linesOf b ++ linesOf c
+unfolding linesOf
+lines-append [] c h = refl
+lines-append (w ∷ []) c h = absurd (omega arith)
+lines-append (w ∷ x ∷ []) c h = absurd (omega arith)
+lines-append (w ∷ x ∷ y ∷ []) c h = absurd (omega arith)
+lines-append (w ∷ x ∷ y ∷ z ∷ r) c h = ap (λ ls. line (vec w x) (vec y z) ∷ ls) (lines-append r c (omega arith))

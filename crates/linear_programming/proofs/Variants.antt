@@ -1,0 +1,43 @@
+-- Which variant an enum of the code is where a `let .. else` left it, and what its numbers are at most. Assumes nothing.
+use Prim.Native.Nat.{ℕ, _+_, _≤_}
+use mathlib.Core.Path.{_≡_, refl, subst, sym}
+use mathlib.Core.List.{List, [], _∷_}
+use mathlib.Core.Logic.{⊎-elim}
+use native.Mathlib.Omega.{arith}
+use types.Run.{OneOf}
+use denote.Enum.Declared.{tagOf}
+use lib.ListN.{length}
+use lib.Ieee.{Float}
+use Rattle.linear_programming.specs.declared.Line.{Line}
+use Rattle.linear_programming.specs.declared.AlongLine.{AlongLine}
+use Rattle.linear_programming.specs.declared.AlongLine.the-variants as along-line
+use Rattle.linear_programming.proofs.AlongLine.{the-type as along-type}
+use Rattle.linear_programming.specs.declared.LinearProgram2D.{LinearProgram2D}
+use Rattle.linear_programming.specs.declared.LinearProgram2D.the-variants as lp2d
+use Rattle.linear_programming.proofs.LinearProgram2D.{the-type as pass-type}
+use Rattle.linear_programming.specs.OneLine.{Objective, Found, oneLine}
+use Rattle.linear_programming.specs.Pass.{passLine}
+use Rattle.linear_programming.specs.Read.{foundOf, passOf, probesIn}
+use Rattle.linear_programming.proofs.OneLineLaws.{Solves, solves, stops, turns, line-solves}
+
+-- neither a point nor a failure
+pub refuses-left : (a : AlongLine) → OneOf (1 ∷ 2 ∷ []) (tagOf along-type a) → OneOf (0 ∷ 2 ∷ []) (tagOf along-type a) → a ≡ along-line.Refuses
+refuses-left (along-line.At p n) h k = absurd (⊎-elim (λ (e : _≡_ {A = ℕ} 0 1). omega arith) (λ (e : _≡_ {A = ℕ} 0 2). omega arith) h)
+refuses-left (along-line.Fails n) h k = absurd (⊎-elim (λ (e : _≡_ {A = ℕ} 1 0). omega arith) (λ (e : _≡_ {A = ℕ} 1 2). omega arith) k)
+refuses-left along-line.Refuses h k = refl
+
+-- a one-line solve looks at no more lines than there are
+pub looked-most : (o : Objective) (limit : Float) (own : Line) (e : List Line) (a : AlongLine) → foundOf a ≡ oneLine o limit own e → probesIn a ≤ length e
+looked-most o limit own e a h = most a (rw (← h) at (line-solves o limit own e))
+  where
+    most : (a : AlongLine) → Solves (0 + length e) (foundOf a) → probesIn a ≤ length e
+    most (along-line.At p n) solves = omega arith
+    most (along-line.Fails n) (stops l) = omega arith
+    most along-line.Refuses s = omega arith
+
+-- a pass that failed or was refused stays so
+pub ended-stays : (o : Objective) (limit : Float) (a : LinearProgram2D) → OneOf (1 ∷ 2 ∷ []) (tagOf pass-type a) → (e : List Line) (x : Line) → passLine o limit e x (passOf a) ≡ passOf a
+unfolding passLine
+ended-stays o limit (lp2d.Feasible p n) h e x = absurd (⊎-elim (λ (k : _≡_ {A = ℕ} 0 1). omega arith) (λ (k : _≡_ {A = ℕ} 0 2). omega arith) h)
+ended-stays o limit (lp2d.Infeasible f p n) h e x = refl
+ended-stays o limit (lp2d.Refused r) h e x = refl

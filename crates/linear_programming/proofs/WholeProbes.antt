@@ -1,0 +1,93 @@
+-- The probes of whole lists: a list that never fails takes n to n(n+1)/2, and every total fits 32 bits. Assumes nothing.
+use Prim.Native.Nat.{ℕ, _+_, _*_, _≤_}
+use mathlib.Core.Path.{_≡_, refl}
+use mathlib.Core.List.{List, [], _∷_, _++_}
+use native.Mathlib.Omega.{arith}
+use lib.ListN.{length, length-append, take, drop, take-append-drop}
+use lib.Ieee.{Float}
+use Rattle.arithmetic.specs.Binary32.{0ᶠ}
+use Rattle.arithmetic.proofs.Choice.{if-all}
+use Rattle.common.specs.declared.Vec2.{Vec2}
+use Rattle.linear_programming.specs.declared.Line.{Line}
+use Rattle.linear_programming.specs.Walk.{walk}
+use Rattle.linear_programming.specs.OneLine.{toward}
+use Rattle.linear_programming.specs.Pass.{Pass, now, failed, refused, pass}
+use Rattle.linear_programming.specs.Relax.{Relaxed, on, turned, relaxLine}
+use Rattle.linear_programming.specs.Whole.{Phase, solving, relaxing, rigidFailure, Failed, failedLine, Outcome, stands, refusal, relaxedOutcome, afterPass, wholeList}
+use Rattle.linear_programming.proofs.WalkLaws.{walk-grows}
+use Rattle.linear_programming.proofs.Probes.{Within, within, beside, outside, pass-within, pass-probes, bound-grows, Deepens, deepens, deepens-none, looser, relax-deepens}
+
+-- ---- a list that never fails
+
+-- of a list of k lines: solving, its probes are between k and k(k+1)/2
+data Solving (k : ℕ) : Outcome → Type 0 where
+  in-solving : {p : Vec2} {f : Failed} {n : ℕ} → (k ≤ n) × (2 * n ≤ k * (k + 1)) → Solving k (stands (solving p) f n)
+  in-relaxing : {p : Vec2} {depth : Float} {f : Failed} {n : ℕ} → Solving k (stands (relaxing p depth) f n)
+  in-rigid : {i : ℕ} {p : Vec2} {f : Failed} {n : ℕ} → Solving k (stands (rigidFailure i p) f n)
+  in-refusal : {r : ℕ} → Solving k (refusal r)
+
+relaxed-solving : (k : ℕ) (f : Failed) (s : Relaxed) → Solving k (relaxedOutcome f s)
+relaxed-solving k f (on p depth n) = in-relaxing
+relaxed-solving k f (turned r) = in-refusal
+
+module _ (rigid : ℕ) (wish : Vec2) (limit : Float) (lines : List Line) where
+  after-solving : (q : Pass) → pass (toward wish) limit lines ≡ q → Solving (length lines) (afterPass rigid limit lines q)
+  unfolding afterPass
+  after-solving (now p n) e = in-solving (pass-probes (toward wish) limit lines e)
+  after-solving (failed f p n) e = if-all (Solving (length lines)) _ in-rigid (relaxed-solving (length lines) (failedLine f) (walk (relaxLine rigid limit) (take (f .index) lines) (drop (f .index) lines) (on p 0ᶠ n)))
+  after-solving (refused r) e = in-refusal
+
+  -- 01: "A list of n lines that never fails takes n to n(n+1)/2 probes."
+  pub whole-probes : {p : Vec2} {f : Failed} {n : ℕ} → wholeList rigid wish limit lines ≡ stands (solving p) f n → (length lines ≤ n) × (2 * n ≤ length lines * (length lines + 1))
+  unfolding wholeList
+  whole-probes e = counted (rw e at (after-solving _ refl))
+    where
+      counted : {k : ℕ} {p : Vec2} {f : Failed} {n : ℕ} → Solving k (stands (solving p) f n) → (k ≤ n) × (2 * n ≤ k * (k + 1))
+      counted (in-solving b) = b
+
+-- ---- every list of at most 256 lines
+
+-- a total of at most b, or none
+data Totals (b : ℕ) : Outcome → Type 0 where
+  totals : {ph : Phase} {f : Failed} {n : ℕ} → n ≤ b → Totals b (stands ph f n)
+  totals-none : {r : ℕ} → Totals b (refusal r)
+
+relaxed-totals : {b : ℕ} (f : Failed) {s : Relaxed} → Deepens b s → Totals b (relaxedOutcome f s)
+relaxed-totals f (deepens h) = totals h
+relaxed-totals f deepens-none = totals-none
+
+module _ (rigid : ℕ) (limit : Float) where
+  line-deepens : (b : ℕ) (e : List Line) (own : Line) (s : Relaxed) → (length e ≤ 256 → Deepens (b + 32896 * length e) s) →
+      length (e ++ (own ∷ [])) ≤ 256 → Deepens (b + 32896 * length (e ++ (own ∷ []))) (relaxLine rigid limit e own s)
+  unfolding relaxLine
+  line-deepens b e own s h short =
+      let k : length (e ++ (own ∷ [])) ≡ length e + 1 = length-append e (own ∷ []) in
+      rw k (deeper (h (omega arith)) (omega arith))
+    where
+      deeper : {t : Relaxed} → Deepens (b + 32896 * length e) t → length e ≤ 255 → Deepens (b + 32896 * (length e + 1)) (relaxLine rigid limit e own t)
+      deeper (deepens {p} {depth} {n} d) room = looser {a = n + 32896} (omega arith) (relax-deepens rigid limit e own room p depth n)
+      deeper deepens-none room = deepens-none
+
+  -- relaxation over l behind e, of a pass that took b
+  walk-deepens : (b : ℕ) (e l : List Line) (s : Relaxed) → length (e ++ l) ≤ 256 → Deepens b s → Deepens (b + 32896 * length (e ++ l)) (walk (relaxLine rigid limit) e l s)
+  walk-deepens b e l s short d =
+      walk-grows (relaxLine rigid limit) (λ i t. length i ≤ 256 → Deepens (b + 32896 * length i) t) (line-deepens b) e l s (λ room. looser (omega arith) d) short
+
+  after-totals : (lines : List Line) → length lines ≤ 256 → {q : Pass} → Within (length lines) q → Totals 16777216 (afterPass rigid limit lines q)
+  unfolding afterPass
+  after-totals lines short (within {n = n} a b) = totals {n = n} (omega (arith, bound-grows 256 (length lines) n short b))
+  after-totals lines short (beside {f} {p} {n} b) =
+      let most : n ≤ 32896 = omega (arith, bound-grows 256 (length lines) n short b) in
+      let whole = take-append-drop (f .index) lines in
+      if-all (Totals 16777216) _ (totals (omega arith))
+      (relaxed-totals (failedLine f) (looser {a = 32896 + 32896 * length lines} (omega arith)
+      (rw whole at (walk-deepens 32896 (take (f .index) lines) (drop (f .index) lines) (on p 0ᶠ n) (rw whole short) (deepens most)))))
+  after-totals lines short outside = totals-none
+
+-- at most 2 ^ 24, so no total comes near 2 ^ 32
+pub whole-fits : (rigid : ℕ) (wish : Vec2) (limit : Float) (lines : List Line) {ph : Phase} {f : Failed} {n : ℕ} → length lines ≤ 256 → wholeList rigid wish limit lines ≡ stands ph f n → n ≤ 16777216
+unfolding wholeList
+whole-fits rigid wish limit lines short e = counted (rw e at (after-totals rigid limit lines short (pass-within (toward wish) limit lines)))
+  where
+    counted : {b : ℕ} {ph : Phase} {f : Failed} {n : ℕ} → Totals b (stands ph f n) → n ≤ b
+    counted (totals h) = h

@@ -1,0 +1,75 @@
+-- `linear_programming::along_line::best_on` meets its contract. Assumes nothing.
+use Rattle.arithmetic.specs.Binary32.{if_then_else_}
+use Rattle.linear_programming.specs.OneLine.{choose}
+use borrow.Author.Needs.{needs}
+use Rattle.linear_programming.proofs.along_line.best_on.Statement.{statement}
+use Rattle.linear_programming.proofs.along_line.best_on.Tie as tie
+
+enum-known-optimal-value : tie.Need-enum-known-optimal-value
+enum-known-optimal-value c = search needs
+
+new-requires : tie.Need-new-requires
+new-requires c κs = search needs
+
+dot-requires : tie.Need-dot-requires
+dot-requires c κs = search needs
+
+point-on-requires : tie.Need-point-on-requires
+point-on-requires c κs = search needs
+
+returns : tie.Need-returns
+unfolding choose if_then_else_
+returns c = simp (← c .point-on .ensures, c .before .if1 .taken, ← c .before .before .dot .ensures, ← c .before .before .before .new .ensures, c .before .before .before .before .before .optimal-value .given .1)
+
+point-on-requires-2 : tie.Need-point-on-requires-2
+point-on-requires-2 c κs = search needs
+
+enum-known-optimal-value-2 : tie.Need-enum-known-optimal-value-2
+enum-known-optimal-value-2 c = search needs
+
+new-requires-2 : tie.Need-new-requires-2
+new-requires-2 c κs = search needs
+
+sub-requires : tie.Need-sub-requires
+sub-requires c κs = search needs
+
+dot-requires-2 : tie.Need-dot-requires-2
+dot-requires-2 c κs = search needs
+
+clamp-requires : tie.Need-clamp-requires
+clamp-requires c κs = search needs
+
+point-on-requires-3 : tie.Need-point-on-requires-3
+point-on-requires-3 c κs = search needs
+
+returns-2 : tie.Need-returns-2
+unfolding choose if_then_else_
+returns-2 c = simp (← c .point-on3 .ensures, ← c .before .clamp .ensures, ← c .before .before .dot2 .ensures, ← c .before .before .before .sub .ensures, ← c .before .before .before .before .new2 .ensures, c .before .before .before .before .before .if2 .taken, c .before .before .before .before .before .before .before .optimal-value2 .given .1)
+
+returns-3 : tie.Need-returns-3
+unfolding choose if_then_else_
+returns-3 c = simp (← c .point-on2 .ensures, c .before .if1 .left, ← c .before .before .dot .ensures, ← c .before .before .before .new .ensures, c .before .before .before .before .before .optimal-value .given .1)
+
+returns-4 : tie.Need-returns-4
+unfolding choose if_then_else_
+returns-4 c = simp (c .if2 .left, c .before .before .optimal-value2 .given .1)
+
+pub best-on-spec : {M : Type 1} → statement M
+best-on-spec =
+    tie.close
+    (tie.spec
+    enum-known-optimal-value
+    new-requires
+    dot-requires
+    point-on-requires
+    returns
+    point-on-requires-2
+    enum-known-optimal-value-2
+    new-requires-2
+    sub-requires
+    dot-requires-2
+    clamp-requires
+    point-on-requires-3
+    returns-2
+    returns-3
+    returns-4)

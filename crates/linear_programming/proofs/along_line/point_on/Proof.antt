@@ -1,0 +1,18 @@
+-- `linear_programming::along_line::point_on` meets its contract. Assumes nothing.
+use Rattle.linear_programming.specs.OneLine.{pointOn}
+use borrow.Author.Needs.{needs}
+use Rattle.linear_programming.proofs.along_line.point_on.Statement.{statement}
+use Rattle.linear_programming.proofs.along_line.point_on.Tie as tie
+
+mul-requires : tie.Need-mul-requires
+mul-requires c κs = search needs
+
+add-requires : tie.Need-add-requires
+add-requires c κs = search needs
+
+returns : tie.Need-returns
+unfolding pointOn
+returns c = simp (← c .add .ensures, ← c .before .mul .ensures)
+
+pub point-on-spec : {M : Type 1} → statement M
+point-on-spec = tie.close (tie.spec mul-requires add-requires returns)

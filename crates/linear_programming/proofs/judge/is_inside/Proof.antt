@@ -1,0 +1,16 @@
+-- `linear_programming::judge::is_inside` meets its contract. Assumes nothing.
+use Rattle.linear_programming.specs.Admit.{inside}
+use borrow.Author.Needs.{needs}
+use Rattle.linear_programming.proofs.judge.is_inside.Statement.{statement}
+use Rattle.linear_programming.proofs.judge.is_inside.Tie as tie
+
+returns : tie.Need-returns
+unfolding inside
+returns c = simp (c .if1 .taken)
+
+returns-2 : tie.Need-returns-2
+unfolding inside
+returns-2 c = simp (c .if1 .left)
+
+pub is-inside-spec : {M : Type 1} → statement M
+is-inside-spec = tie.close (tie.spec returns returns-2)

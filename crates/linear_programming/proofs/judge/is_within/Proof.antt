@@ -1,0 +1,15 @@
+-- `linear_programming::judge::is_within` meets its contract. Assumes nothing.
+use Rattle.linear_programming.specs.Admit.{within}
+use borrow.Author.Needs.{needs}
+use Rattle.linear_programming.proofs.judge.is_within.Statement.{statement}
+use Rattle.linear_programming.proofs.judge.is_within.Tie as tie
+
+abs-requires : tie.Need-abs-requires
+abs-requires c κs = search needs
+
+returns : tie.Need-returns
+unfolding within
+returns c = simp (← c .abs .ensures)
+
+pub is-within-spec : {M : Type 1} → statement M
+is-within-spec = tie.close (tie.spec abs-requires returns)

@@ -1,0 +1,31 @@
+-- `linear_programming::solve_2d::judge_point` meets its contract. Assumes nothing.
+use Rattle.arithmetic.specs.Binary32.{if_then_else_}
+use Rattle.linear_programming.specs.Pass.{judged}
+use borrow.Author.Needs.{needs}
+use Rattle.linear_programming.proofs.solve_2d.judge_point.Statement.{statement}
+use Rattle.linear_programming.proofs.solve_2d.judge_point.Tie as tie
+
+enum-told : tie.Need-enum-told
+enum-told c = search needs
+
+enum-told-2 : tie.Need-enum-told-2
+enum-told-2 c = search needs
+
+is-finite-point-requires : tie.Need-is-finite-point-requires
+is-finite-point-requires c κs = search needs
+
+returns : tie.Need-returns
+unfolding judged if_then_else_
+returns c = simp (c .if1 .taken, ← c .before .is-finite-point .ensures, c .before .before .enum-told2 .given .1)
+
+returns-2 : tie.Need-returns-2
+unfolding judged if_then_else_
+returns-2 c = simp (c .enum-told .given .1)
+
+returns-3 : tie.Need-returns-3
+unfolding judged if_then_else_
+returns-3 c = simp (c .if1 .left, ← c .before .is-finite-point .ensures, c .before .before .enum-told2 .given .1)
+
+pub judge-point-spec : {M : Type 1} → statement M
+judge-point-spec =
+    tie.close (tie.spec enum-told enum-told-2 is-finite-point-requires returns returns-2 returns-3)

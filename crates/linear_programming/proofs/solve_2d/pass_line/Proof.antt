@@ -1,0 +1,60 @@
+-- `linear_programming::solve_2d::pass_line` meets its contract. Assumes nothing.
+use Rattle.arithmetic.specs.Binary32.{if_then_else_}
+use native.Mathlib.Omega.{arith}
+use denote.Ref.{now}
+use lib.Seq.{length-take-le}
+use Rattle.linear_programming.specs.Lines.{linesOf}
+use Rattle.linear_programming.specs.Pass.{passLine}
+use Rattle.linear_programming.proofs.Rows.{fits}
+use Rattle.linear_programming.proofs.Variants.{looked-most}
+use borrow.Author.Needs.{needs}
+use Rattle.linear_programming.proofs.solve_2d.pass_line.Statement.{statement}
+use Rattle.linear_programming.proofs.solve_2d.pass_line.Tie as tie
+
+line-of-requires : tie.Need-line-of-requires
+line-of-requires c κs = search needs
+
+sub-requires : tie.Need-sub-requires
+sub-requires c κs = search needs
+
+determinant-requires : tie.Need-determinant-requires
+determinant-requires c κs = search needs
+
+add-t12 : tie.Need-add-t12
+add-t12 c = search needs
+
+returns : tie.Need-returns
+unfolding passLine if_then_else_
+returns c = simp (c .if1 .taken, ← c .before .determinant .ensures, ← c .before .before .sub .ensures, ← c .before .before .before .line-of .ensures)
+
+solve-linear-program-along-line-requires : tie.Need-solve-linear-program-along-line-requires
+solve-linear-program-along-line-requires c κs = search needs
+
+add-after-solve : tie.Need-add-after-solve
+add-after-solve c = search needs
+
+after-solve-requires : tie.Need-after-solve-requires
+after-solve-requires c κs =
+    let a = c .before .before .before .before .before .before .args in
+    let short = length-take-le (a .index) (linesOf (now (a .lines))) (fits (now (a .lines)) (a .index) (omega arith)) in
+    (omega arith, omega (arith, short, looked-most _ _ _ _ (c .solve-linear-program-along-line .result) (c .solve-linear-program-along-line .ensures)))
+
+returns-2 : tie.Need-returns-2
+unfolding passLine if_then_else_
+returns-2 c =
+    let a = c .before .before .before .before .before .before .before .args in
+    simp (length-take-le (a .index) (linesOf (now (a .lines))) (fits (now (a .lines)) (a .index) (omega arith)), ← c .after-solve .ensures, ← c .before .solve-linear-program-along-line .ensures, c .before .before .if1 .left, ← c .before .before .before .determinant .ensures, ← c .before .before .before .before .sub .ensures, ← c .before .before .before .before .before .line-of .ensures)
+
+pub pass-line-spec : {M : Type 1} → statement M
+pass-line-spec =
+    tie.close
+    (tie.spec
+    line-of-requires
+    sub-requires
+    determinant-requires
+    add-t12
+    returns
+    solve-linear-program-along-line-requires
+    add-after-solve
+    after-solve-requires
+    returns-2)

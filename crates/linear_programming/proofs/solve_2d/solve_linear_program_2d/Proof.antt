@@ -1,0 +1,81 @@
+-- `linear_programming::solve_2d::solve_linear_program_2d` meets its contract. The invariant: the lines from i on take the point now to the same end. Assumes nothing.
+use Prim.Native.Nat.{_+_, _-_, _*_, _≤_}
+use mathlib.Core.Path.{_≡_, refl, sym, _∙_}
+use native.Mathlib.Omega.{arith}
+use denote.Ref.{now as held}
+use lib.ListN.{take, drop}
+use lib.Seq.{length-take-le}
+use Rattle.linear_programming.specs.Walk.{walk}
+use Rattle.linear_programming.specs.Lines.{linesOf, offLine}
+use Rattle.linear_programming.specs.Pass.{now, passLine}
+use Rattle.linear_programming.specs.Read.{objectiveOf}
+use Rattle.linear_programming.proofs.Rows.{fits}
+use Rattle.linear_programming.proofs.WalkLaws.{walk-on, walk-stop, walk-done}
+use Rattle.linear_programming.proofs.Variants.{ended-stays}
+use Rattle.linear_programming.proofs.Probes.{line-most}
+use borrow.Author.Needs.{needs}
+use Rattle.linear_programming.proofs.solve_2d.solve_linear_program_2d.Statement.{statement}
+use Rattle.linear_programming.proofs.solve_2d.solve_linear_program_2d.Tie as tie
+
+abbrev Inv-loop : tie.InvT-loop
+Inv-loop lines from count radius optimal-value best-value₀ probes₀ i₀ best-value probes i =
+    (from ≤ i) × (i ≤ count) × (probes ≤ 256 * i)
+    × (walk (passLine (objectiveOf optimal-value) radius) (take from (linesOf lines)) (drop from (take count (linesOf lines))) (now best-value₀ 0)
+    ≡ walk (passLine (objectiveOf optimal-value) radius) (take i (linesOf lines)) (drop i (take count (linesOf lines))) (now best-value probes))
+
+abbrev μ-loop : tie.MeasureT-loop
+μ-loop lines from count radius optimal-value best-value₀ probes₀ i₀ best-value probes i = count - i
+
+loop-holds : tie.Need-loop-holds Inv-loop μ-loop
+loop-holds c = (omega arith, omega arith, omega arith, refl)
+
+pass-line-requires : tie.Need-pass-line-requires Inv-loop μ-loop
+pass-line-requires c κs = search needs
+
+enum-known-pass : tie.Need-enum-known-pass Inv-loop μ-loop
+enum-known-pass c = search needs
+
+returns : tie.Need-returns Inv-loop μ-loop
+returns c =
+    let a = c .before .before .before .before .before .args in
+    let l = c .before .before .before .loop in
+    sym (l .inv .3 ∙ walk-stop (passLine (objectiveOf (a .optimal-value)) (a .radius)) (linesOf (held (a .lines))) (a .count) (l .i) (fits (held (a .lines)) (a .count) (omega arith)) offLine (omega arith) (sym (c .before .pass-line .ensures)) (ended-stays _ _ (c .before .pass-line .result) (c .match .keys2)))
+
+add-i : tie.Need-add-i Inv-loop μ-loop
+add-i c = search needs
+
+loop-less : tie.Need-loop-less Inv-loop μ-loop
+loop-less c = search needs
+
+loop-again : tie.Need-loop-again Inv-loop μ-loop
+loop-again c =
+    let a = c .before .before .before .before .before .before .before .args in
+    let l = c .before .before .before .before .before .loop in
+    let step = rw (c .before .pass .given .1) at (c .before .before .before .pass-line .ensures) in
+    let short = length-take-le (l .i) (linesOf (held (a .lines))) (fits (held (a .lines)) (l .i) (omega arith)) in (
+      omega arith,
+      omega arith,
+      omega (arith, short, line-most _ _ _ _ _ _ _ _ step),
+      l .inv .3 ∙ walk-on (passLine (objectiveOf (a .optimal-value)) (a .radius)) (linesOf (held (a .lines))) (a .count) (l .i) (fits (held (a .lines)) (a .count) (omega arith)) offLine (omega arith) (sym step),
+    )
+
+returns-2 : tie.Need-returns-2 Inv-loop μ-loop
+returns-2 c =
+    let a = c .before .before .before .args in
+    let l = c .before .loop in
+    sym (l .inv .3 ∙ walk-done (passLine (objectiveOf (a .optimal-value)) (a .radius)) (linesOf (held (a .lines))) (a .count) (l .i) (fits (held (a .lines)) (a .count) (omega arith)) (omega arith))
+
+pub solve-linear-program-2d-spec : {M : Type 1} → statement M
+solve-linear-program-2d-spec =
+    tie.close
+    (tie.spec
+    Inv-loop
+    μ-loop
+    loop-holds
+    pass-line-requires
+    enum-known-pass
+    returns
+    add-i
+    loop-less
+    loop-again
+    returns-2)

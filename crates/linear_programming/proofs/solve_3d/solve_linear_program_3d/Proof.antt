@@ -1,0 +1,87 @@
+-- `linear_programming::solve_3d::solve_linear_program_3d` meets its contract. The invariant: the lines from i on take value and penetration now to the same end.
+-- Assumes nothing.
+use Prim.Native.Nat.{_+_, _-_, _*_, _≤_}
+use mathlib.Core.Path.{_≡_, refl, sym, _∙_}
+use native.Mathlib.Omega.{arith}
+use denote.Ref.{now}
+use lib.ListN.{take, drop}
+use lib.Seq.{length-take-le}
+use Rattle.linear_programming.specs.Walk.{walk}
+use Rattle.linear_programming.specs.Lines.{linesOf, offLine}
+use Rattle.linear_programming.specs.Relax.{on, relaxLine}
+use Rattle.linear_programming.proofs.Rows.{fits}
+use Rattle.linear_programming.proofs.WalkLaws.{walk-on, walk-stop, walk-done}
+use Rattle.linear_programming.proofs.TightLaws.{turned-stays}
+use Rattle.linear_programming.proofs.Probes.{relax-most}
+use borrow.Author.Needs.{needs}
+use Rattle.linear_programming.proofs.solve_3d.solve_linear_program_3d.Statement.{statement}
+use Rattle.linear_programming.proofs.solve_3d.solve_linear_program_3d.Tie as tie
+
+abbrev Inv-loop : tie.InvT-loop
+Inv-loop lines rigid from count radius penetration probes best-value₀ depth₀ counted₀ i₀ best-value depth counted i =
+    (from ≤ i) × (i ≤ count) × (counted ≤ 65536 + 32896 * i)
+    × (walk (relaxLine rigid radius) (take from (linesOf lines)) (drop from (take count (linesOf lines))) (on best-value₀ depth₀ counted₀)
+    ≡ walk (relaxLine rigid radius) (take i (linesOf lines)) (drop i (take count (linesOf lines))) (on best-value depth counted))
+
+abbrev μ-loop : tie.MeasureT-loop
+μ-loop lines rigid from count radius penetration probes best-value₀ depth₀ counted₀ i₀ best-value depth counted i = count - i
+
+loop-holds : tie.Need-loop-holds Inv-loop μ-loop
+loop-holds c = (omega arith, omega arith, omega arith, refl)
+
+relax-line-requires : tie.Need-relax-line-requires Inv-loop μ-loop
+relax-line-requires c κs = search needs
+
+enum-known-relaxed : tie.Need-enum-known-relaxed Inv-loop μ-loop
+enum-known-relaxed c = search needs
+
+enum-told : tie.Need-enum-told Inv-loop μ-loop
+enum-told c = search needs
+
+returns : tie.Need-returns Inv-loop μ-loop
+returns c =
+    let a = c .before .before .before .before .before .before .args in
+    let l = c .before .before .before .before .loop in
+    let step = rw (c .enum-told .given .1) at (c .before .before .relax-line .ensures) in
+    rw (c .enum-told .given .1)
+    (sym (l .inv .3 ∙ walk-stop (relaxLine (a .rigid) (a .radius)) (linesOf (now (a .lines))) (a .count) (l .i) (fits (now (a .lines)) (a .count) (omega arith)) offLine (omega arith) (sym step) (turned-stays _ _ _)))
+
+add-i : tie.Need-add-i Inv-loop μ-loop
+add-i c = search needs
+
+loop-less : tie.Need-loop-less Inv-loop μ-loop
+loop-less c = search needs
+
+loop-again : tie.Need-loop-again Inv-loop μ-loop
+loop-again c =
+    let a = c .before .before .before .before .before .before .before .args in
+    let l = c .before .before .before .before .before .loop in
+    let step = rw (c .before .relaxed .given .1) at (c .before .before .before .relax-line .ensures) in
+    let short = length-take-le (l .i) (linesOf (now (a .lines))) (fits (now (a .lines)) (l .i) (omega arith)) in (
+      omega arith,
+      omega arith,
+      omega (arith, relax-most _ _ _ _ (omega (arith, short)) _ _ _ _ _ _ step),
+      l .inv .3 ∙ walk-on (relaxLine (a .rigid) (a .radius)) (linesOf (now (a .lines))) (a .count) (l .i) (fits (now (a .lines)) (a .count) (omega arith)) offLine (omega arith) (sym step),
+    )
+
+returns-2 : tie.Need-returns-2 Inv-loop μ-loop
+returns-2 c =
+    let a = c .before .before .before .args in
+    let l = c .before .loop in
+    sym (l .inv .3 ∙ walk-done (relaxLine (a .rigid) (a .radius)) (linesOf (now (a .lines))) (a .count) (l .i) (fits (now (a .lines)) (a .count) (omega arith)) (omega arith))
+
+pub solve-linear-program-3d-spec : {M : Type 1} → statement M
+solve-linear-program-3d-spec =
+    tie.close
+    (tie.spec
+    Inv-loop
+    μ-loop
+    loop-holds
+    relax-line-requires
+    enum-known-relaxed
+    enum-told
+    returns
+    add-i
+    loop-less
+    loop-again
+    returns-2)

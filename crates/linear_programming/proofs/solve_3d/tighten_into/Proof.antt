@@ -1,0 +1,126 @@
+-- `linear_programming::solve_3d::tighten_into` meets its contract. The invariant: the lines from i on, tightened behind the first n that are made, give the same list.
+-- Assumes nothing.
+use Prim.Native.Nat.{_+_, _-_, _*_, _≤_, _<_}
+use mathlib.Core.Path.{_≡_, refl, sym, _∙_}
+use mathlib.Core.List.{foldl}
+use native.Mathlib.Omega.{arith}
+use denote.Ref.{now}
+use lib.ListN.{length, take, drop}
+use lib.Seq.{take-take}
+use Rattle.linear_programming.specs.Lines.{linesOf, offLine}
+use Rattle.linear_programming.specs.Relax.{tightenNext, tightened}
+use Rattle.linear_programming.proofs.Fold.{fold-on, fold-done, take-set-next}
+use Rattle.linear_programming.proofs.Rows.{fits}
+use Rattle.linear_programming.proofs.TightLaws.{next-kept, next-skipped}
+use borrow.Author.Needs.{needs}
+use Rattle.linear_programming.proofs.solve_3d.tighten_into.Statement.{statement}
+use Rattle.linear_programming.proofs.solve_3d.tighten_into.Tie as tie
+
+abbrev Inv-loop : tie.InvT-loop
+Inv-loop lines rigid index constraint tight₀ n₀ i₀ tight n i =
+    (n ≤ i) × (i ≤ index) × (length tight ≡ 1020)
+    × (tightened rigid constraint (take index (linesOf lines)) ≡ foldl (tightenNext constraint) (take n (linesOf tight)) (drop i (take index (linesOf lines))))
+
+abbrev μ-loop : tie.MeasureT-loop
+μ-loop lines rigid index constraint tight₀ n₀ i₀ tight n i = index - i
+
+copy-rigid-requires : tie.Need-copy-rigid-requires Inv-loop μ-loop
+copy-rigid-requires c κs = search needs
+
+loop-holds : tie.Need-loop-holds Inv-loop μ-loop
+unfolding tightened
+loop-holds c =
+    let a = c .before .before .before .before .before .before .args in (
+      omega arith,
+      omega arith,
+      c .before .before .copy-rigid .ensures .0,
+      rw (take-take (a .rigid) (a .index) (linesOf (now (a .lines))) (omega arith), c .before .before .copy-rigid .ensures .1),
+    )
+
+line-of-requires : tie.Need-line-of-requires Inv-loop μ-loop
+line-of-requires c κs = search needs
+
+add-i : tie.Need-add-i Inv-loop μ-loop
+add-i c = search needs
+
+tighten-requires : tie.Need-tighten-requires Inv-loop μ-loop
+tighten-requires c κs = search needs
+
+enum-known-line : tie.Need-enum-known-line Inv-loop μ-loop
+enum-known-line c = search needs
+
+put-requires : tie.Need-put-requires Inv-loop μ-loop
+put-requires c κs = search needs
+
+add-n : tie.Need-add-n Inv-loop μ-loop
+add-n c = search needs
+
+loop-less : tie.Need-loop-less Inv-loop μ-loop
+loop-less c = search needs
+
+loop-again : tie.Need-loop-again Inv-loop μ-loop
+loop-again c =
+    let a = c .before .before .before .before .before .before .before .before .before .before .before .before .before .before .before .before .before .args in
+    let l = c .before .before .before .before .before .before .before .before .before .before .loop in
+    let b = now (a .lines) in
+    let few = c .before .before .before .before .before .before .before .before .before .before .before .before .before .before .before .before .before .pre .1 in
+    let all = c .before .before .before .before .before .before .before .before .before .before .before .before .before .before .before .before .before .pre .2 in
+    let k : l .n < length (linesOf (l .tight)) = omega (arith, fits (l .tight) 255 (omega arith)) in
+    let made = rw (c .before .before .before .before .before .line .given .1, c .before .before .before .before .before .before .before .before .line-of .ensures) at (c .before .before .before .before .before .before .before .tighten .ensures) in (
+      omega arith,
+      omega arith,
+      c .before .before .put .ensures .0 ∙ l .inv .2,
+      l .inv .3
+          ∙ fold-on (tightenNext (a .constraint)) (linesOf b) (a .index) (l .i) (fits b (a .index) (omega arith)) offLine (omega arith)
+          (next-kept _ _ _ _ made ∙ rw (c .before .before .put .ensures .1, take-set-next (linesOf (l .tight)) (l .n) k)),
+    )
+
+enum-told : tie.Need-enum-told Inv-loop μ-loop
+enum-told c = search needs
+
+loop-less-2 : tie.Need-loop-less-2 Inv-loop μ-loop
+loop-less-2 c = search needs
+
+loop-again-2 : tie.Need-loop-again-2 Inv-loop μ-loop
+loop-again-2 c =
+    let a = c .before .before .before .before .before .before .before .before .before .before .before .before .args in
+    let l = c .before .before .before .before .before .loop in
+    let b = now (a .lines) in
+    let made = rw (c .enum-told .given .1, c .before .before .before .line-of .ensures) at (c .before .before .tighten .ensures) in (
+      omega arith,
+      omega arith,
+      l .inv .2,
+      l .inv .3 ∙ fold-on (tightenNext (a .constraint)) (linesOf b) (a .index) (l .i) (fits b (a .index) (omega arith)) offLine (omega arith) (next-skipped _ _ _ made),
+    )
+
+same-length : tie.Need-same-length Inv-loop μ-loop
+same-length c = search needs
+
+returns : tie.Need-returns Inv-loop μ-loop
+returns c =
+    let a = c .before .before .before .before .before .before .before .before .args in
+    let l = c .before .loop in
+    let b = now (a .lines) in
+    (omega arith, l .inv .2, sym (l .inv .3 ∙ fold-done (tightenNext (a .constraint)) (linesOf b) (a .index) (l .i) (fits b (a .index) (omega arith)) (omega arith)))
+
+pub tighten-into-spec : {M : Type 1} → statement M
+tighten-into-spec =
+    tie.close
+    (tie.spec
+    Inv-loop
+    μ-loop
+    copy-rigid-requires
+    loop-holds
+    line-of-requires
+    add-i
+    tighten-requires
+    enum-known-line
+    put-requires
+    add-n
+    loop-less
+    loop-again
+    enum-told
+    loop-less-2
+    loop-again-2
+    same-length
+    returns)

@@ -1,0 +1,102 @@
+-- `linear_programming::solve_linear_program` meets its contract. Assumes nothing.
+use Prim.Native.Nat.{ℕ, _/_, _%_, _<_, _≤_}
+use mathlib.Core.Path.{_≡_, _∙_, ap}
+use mathlib.Core.Bool.{true, false}
+use mathlib.Core.List.{List}
+use denote.Ref.{now}
+use lib.Dec.{eqb, leb}
+use lib.ListN.{length}
+use lib.Ieee.{Float}
+use borrow.Author.Tests.{eq-eqb, ne-eqb, le-leb, lt-leb}
+use Rattle.linear_programming.specs.declared.Line.{Line}
+use Rattle.linear_programming.specs.Lines.{linesOf}
+use Rattle.linear_programming.specs.Whole.{wholeList}
+use Rattle.linear_programming.specs.Admit.{linesFault, judgedList, listCall}
+use Rattle.linear_programming.proofs.Rows.{count, all-lines}
+use borrow.Author.Needs.{needs}
+use Rattle.linear_programming.proofs.solve_linear_program.Statement.{statement}
+use Rattle.linear_programming.proofs.solve_linear_program.Tie as tie
+
+four : (n : ℕ) → n % 4 ≡ 0 → eqb (n % 4) 0 ≡ true
+four n h = eq-eqb (n % 4) 0 h
+
+few : (xs : List Float) → length xs / 4 ≤ 256 → leb (length (linesOf xs)) 256 ≡ true
+few xs h = rw (count xs) (le-leb (length xs / 4) 256 h)
+
+too-many : (xs : List Float) → 256 < length xs / 4 → leb (length (linesOf xs)) 256 ≡ false
+too-many xs h = rw (count xs) (lt-leb (length xs / 4) 256 h)
+
+returns : tie.Need-returns
+unfolding listCall judgedList
+returns c = simp (ne-eqb _ _ (c .if1 .taken))
+
+returns-2 : tie.Need-returns-2
+unfolding listCall judgedList
+returns-2 c =
+    let xs = now (c .before .before .before .args .numbers) in
+    simp (four _ (c .before .if1 .left), too-many xs (c .if2 .taken))
+
+judge-wish-requires : tie.Need-judge-wish-requires
+judge-wish-requires c κs = search needs
+
+judge-lines-requires : tie.Need-judge-lines-requires
+judge-lines-requires c κs = search needs
+
+first-of-requires : tie.Need-first-of-requires
+first-of-requires c κs = search needs
+
+enum-known-judged : tie.Need-enum-known-judged
+enum-known-judged c = search needs
+
+returns-3 : tie.Need-returns-3
+unfolding listCall judgedList
+returns-3 c =
+    let start = c .before .before .before .before .before .before .before .before .before in
+    let xs = now (start .args .numbers) in
+    let lines = c .before .before .before .before .judge-lines .ensures ∙ ap linesFault (all-lines xs) in
+    simp (
+      four _ (c .before .before .before .before .before .before .before .if1 .left),
+      few xs (c .before .before .before .before .before .before .if2 .left),
+      ← c .before .before .before .before .before .judge-wish .ensures,
+      ← lines,
+      ← c .before .before .before .first-of .ensures,
+      c .before .judged .given .1,
+    )
+
+enum-told : tie.Need-enum-told
+enum-told c = search needs
+
+solve-from-start-requires : tie.Need-solve-from-start-requires
+solve-from-start-requires c κs = search needs
+
+returns-4 : tie.Need-returns-4
+unfolding listCall judgedList
+returns-4 c =
+    let start = c .before .before .before .before .before .before .before .before .before in
+    let xs = now (start .args .numbers) in
+    let lines = c .before .before .before .before .judge-lines .ensures ∙ ap linesFault (all-lines xs) in
+    let whole = c .solve-from-start .ensures ∙ ap (λ (l : List Line). wholeList (start .args .rigid) (start .args .wish) (start .args .limit) l) (all-lines xs) in
+    simp (
+      four _ (c .before .before .before .before .before .before .before .if1 .left),
+      few xs (c .before .before .before .before .before .before .if2 .left),
+      ← c .before .before .before .before .before .judge-wish .ensures,
+      ← lines,
+      ← c .before .before .before .first-of .ensures,
+      c .before .enum-told .given .1,
+    )
+    whole
+
+pub solve-linear-program-spec : {M : Type 1} → statement M
+solve-linear-program-spec =
+    tie.close
+    (tie.spec
+    returns
+    returns-2
+    judge-wish-requires
+    judge-lines-requires
+    first-of-requires
+    enum-known-judged
+    returns-3
+    enum-told
+    solve-from-start-requires
+    returns-4)

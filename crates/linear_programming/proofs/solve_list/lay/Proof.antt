@@ -1,0 +1,68 @@
+-- `linear_programming::solve_list::lay` meets its contract. The invariant: the first n lines are laid out. Assumes nothing.
+use Prim.Native.Nat.{_+_, _-_, _≤_, _<_}
+use mathlib.Core.Path.{_≡_, refl, _∙_}
+use native.Mathlib.Omega.{arith}
+use lib.ListN.{length, take}
+use Rattle.linear_programming.specs.Lines.{linesOf, offLine}
+use Rattle.linear_programming.proofs.Fold.{take-next, take-set-next}
+use Rattle.linear_programming.proofs.Rows.{fits}
+use borrow.Author.Needs.{needs}
+use Rattle.linear_programming.proofs.solve_list.lay.Statement.{statement}
+use Rattle.linear_programming.proofs.solve_list.lay.Tie as tie
+
+abbrev Inv-loop : tie.InvT-loop
+Inv-loop count numbers₀ lines n₀ numbers n = (n ≤ count) × (length numbers ≡ 1024) × (take n (linesOf numbers) ≡ take n lines)
+
+abbrev μ-loop : tie.MeasureT-loop
+μ-loop count numbers₀ lines n₀ numbers n = count - n
+
+loop-holds : tie.Need-loop-holds Inv-loop μ-loop
+loop-holds c = (search needs, search needs, refl)
+
+mul-put : tie.Need-mul-put Inv-loop μ-loop
+mul-put c = search needs
+
+array-copy-out-put : tie.Need-array-copy-out-put Inv-loop μ-loop
+array-copy-out-put c = search needs
+
+put-requires : tie.Need-put-requires Inv-loop μ-loop
+put-requires c κs = search needs
+
+add-n : tie.Need-add-n Inv-loop μ-loop
+add-n c = search needs
+
+loop-less : tie.Need-loop-less Inv-loop μ-loop
+loop-less c = search needs
+
+loop-again : tie.Need-loop-again Inv-loop μ-loop
+loop-again c =
+    let l = c .before .before .before .before .before .before .loop in
+    let k : l .n < length (linesOf (l .numbers)) = omega (arith, fits (l .numbers) 256 (omega arith)) in (
+      omega arith,
+      c .before .before .put .ensures .0 ∙ l .inv .1,
+      rw (c .before .before .put .ensures .1, take-set-next (linesOf (l .numbers)) (l .n) k, take-next (c .before .before .before .before .before .before .before .before .args .t1) (l .n) (omega arith) offLine, l .inv .2),
+    )
+
+same-length : tie.Need-same-length Inv-loop μ-loop
+same-length c = search needs
+
+returns : tie.Need-returns Inv-loop μ-loop
+returns c =
+    let e : c .before .loop .n ≡ c .before .before .before .args .count = omega arith in
+    (c .before .loop .inv .1, rw e at (c .before .loop .inv .2))
+
+pub lay-spec : {M : Type 1} → statement M
+lay-spec =
+    tie.close
+    (tie.spec
+    Inv-loop
+    μ-loop
+    loop-holds
+    mul-put
+    array-copy-out-put
+    put-requires
+    add-n
+    loop-less
+    loop-again
+    same-length
+    returns)

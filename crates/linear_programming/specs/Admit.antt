@@ -1,0 +1,102 @@
+-- 01, "What is admitted" and "Refusal numbers" for a line list: the first fault in order is told. Definitions only. Assumes nothing.
+use Prim.Native.Nat.{ℕ, _%_}
+use mathlib.Core.Bool.{Bool, true, false, _&&_}
+use mathlib.Core.List.{List, [], _∷_}
+use lib.ListN.{length}
+use lib.Dec.{leb, eqb}
+use lib.Ieee.{Float}
+use Rattle.arithmetic.specs.Binary32.{bits, _≤ᶠ_, 0ᶠ, finite}
+use Rattle.arithmetic.specs.Ends.{absOf}
+use Rattle.common.specs.declared.Vec2.{Vec2}
+use Rattle.common.specs.Vectors.{lengthSquaredOf}
+use Rattle.linear_programming.specs.declared.Line.{Line}
+use Rattle.linear_programming.specs.Lines.{linesOf}
+use Rattle.linear_programming.specs.Whole.{Outcome, refusal, wholeList}
+
+-- ---- the first fault
+
+pub data Fault : Type 0 where
+  fine : Fault
+  fault : ℕ → Fault
+
+infixr 20 _⊳_
+infix 15 _⟫_
+-- the rule passes, or the number is told
+abbrev pub must : Bool → ℕ → Fault
+must true r = fine
+must false r = fault r
+
+-- the left one first
+abbrev pub _⊳_ : Fault → Fault → Fault
+fine ⊳ f = f
+fault r ⊳ f = fault r
+
+-- what comes where there is no fault
+abbrev pub _⟫_ : Fault → Outcome → Outcome
+fine ⟫ o = o
+fault r ⟫ o = refusal r
+
+-- ---- limits
+
+abbrev pub mostLines : ℕ
+mostLines = 256
+
+-- 65,536
+abbrev pub reach : Float
+reach = bits 0x4780_0000
+
+-- 1,024
+abbrev pub longest : Float
+longest = bits 0x4480_0000
+
+-- 268,435,456
+abbrev pub lineReach : Float
+lineReach = bits 0x4D80_0000
+
+-- 1023/1024 and 1025/1024
+abbrev pub bandLow : Float
+bandLow = bits 0x3F7F_C000
+
+abbrev pub bandHigh : Float
+bandHigh = bits 0x3F80_2000
+
+-- ends are admitted; a NaN or an infinity is not
+unfoldable pub within : Float → Float → Bool
+within bound x = absOf x ≤ᶠ bound
+
+unfoldable pub inside : Float → Float → Float → Bool
+inside low high x = low ≤ᶠ x && x ≤ᶠ high
+
+-- ---- faults of a wish with its limit, of a line, of lines
+
+-- "wish x, wish y, limit (6)"
+unfoldable pub wishFault : Vec2 → Float → Fault
+wishFault wish limit = must (within reach (wish .x)) 6 ⊳ must (within reach (wish .y)) 6 ⊳ must (inside 0ᶠ longest limit) 6
+
+-- "7 follows both direction components"
+unfoldable pub lineFault : Line → Fault
+lineFault l =
+    must (within lineReach (l .point .x)) 6
+    ⊳ must (within lineReach (l .point .y)) 6
+    ⊳ must (finite (l .direction .x)) 6
+    ⊳ must (finite (l .direction .y)) 6
+    ⊳ must (inside bandLow bandHigh (lengthSquaredOf (l .direction))) 7
+
+-- "lines in order (6, 7)"
+unfoldable pub linesFault : List Line → Fault
+linesFault [] = fine
+linesFault (l ∷ ls) = lineFault l ⊳ linesFault ls
+
+-- ---- the single call
+
+-- a complete list of lines: 4; wish and limit; lines; then the rules, whose first word is the starting point's (9)
+unfoldable pub judgedList : ℕ → Vec2 → Float → List Line → Outcome
+judgedList rigid wish limit lines =
+    (must (leb (length lines) mostLines) 4 ⊳ wishFault wish limit ⊳ linesFault lines) ⟫ wholeList rigid wish limit lines
+
+-- "four numbers a line, else 2"
+abbrev pub fours : List Float → Fault
+fours xs = must (eqb (length xs % 4) 0) 2
+
+unfoldable pub listCall : ℕ → Vec2 → Float → List Float → Outcome
+listCall rigid wish limit xs = fours xs ⟫ judgedList rigid wish limit (linesOf xs)

@@ -1,0 +1,112 @@
+-- What each enum of the code says, in 01's values and numbers. Definitions only. Assumes nothing.
+use Prim.Native.Nat.{ℕ}
+use Rattle.common.specs.Vectors.{vec}
+use Rattle.linear_programming.specs.declared.OptimalValue.{OptimalValue}
+use Rattle.linear_programming.specs.declared.OptimalValue.the-variants.{Point, Direction}
+use Rattle.linear_programming.specs.declared.Interval.{Interval as IntervalCode}
+use Rattle.linear_programming.specs.declared.Interval.the-variants as interval
+use Rattle.linear_programming.specs.declared.AlongLine.{AlongLine}
+use Rattle.linear_programming.specs.declared.AlongLine.the-variants as along-line
+use Rattle.linear_programming.specs.declared.Failure.{Failure as FailureCode}
+use Rattle.linear_programming.specs.declared.LinearProgram2D.{LinearProgram2D}
+use Rattle.linear_programming.specs.declared.LinearProgram2D.the-variants as lp2d
+use Rattle.linear_programming.specs.declared.LinearProgram3D.{LinearProgram3D}
+use Rattle.linear_programming.specs.declared.LinearProgram3D.the-variants as lp3d
+use Rattle.linear_programming.specs.declared.Tightened.{Tightened}
+use Rattle.linear_programming.specs.declared.Tightened.the-variants as tightened
+use Rattle.linear_programming.specs.declared.Phase.{Phase as PhaseCode}
+use Rattle.linear_programming.specs.declared.Phase.the-variants as phase
+use Rattle.linear_programming.specs.declared.FailedLine.{FailedLine}
+use Rattle.linear_programming.specs.declared.FailedLine.the-variants as failed-line
+use Rattle.linear_programming.specs.declared.Answer.{Answer}
+use Rattle.linear_programming.specs.declared.Answer.the-variants as answer
+use Rattle.linear_programming.specs.declared.Judged.{Judged}
+use Rattle.linear_programming.specs.declared.Judged.the-variants as judged-code
+use Rattle.linear_programming.specs.OneLine.{Objective, toward, along, Interval, between, empty, Found, at, fails, refuses}
+use Rattle.linear_programming.specs.Pass.{Failure, Pass, now, failed, refused}
+use Rattle.linear_programming.specs.Relax.{Tight, kept, skipped, Relaxed, on, turned}
+use Rattle.linear_programming.specs.Whole.{Phase, solving, relaxing, rigidFailure, Failed, noLine, failedLine, Outcome, stands, refusal}
+use Rattle.linear_programming.specs.Admit.{Fault, fine, fault}
+
+abbrev pub objectiveOf : OptimalValue → Objective
+objectiveOf (Point x y) = toward (vec x y)
+objectiveOf (Direction x y) = along (vec x y)
+
+abbrev pub intervalOf : IntervalCode → Interval
+intervalOf (interval.Between left right n) = between left right n
+intervalOf (interval.Empty n) = empty n
+
+abbrev pub foundOf : AlongLine → Found
+foundOf (along-line.At p n) = at p n
+foundOf (along-line.Fails n) = fails n
+foundOf along-line.Refuses = refuses
+
+abbrev pub passOf : LinearProgram2D → Pass
+passOf (lp2d.Feasible p n) = now p n
+passOf (lp2d.Infeasible f p n) = failed (record { index = f .index }) p n
+passOf (lp2d.Refused r) = refused r
+
+abbrev pub tightOf : Tightened → Tight
+tightOf (tightened.Kept l) = kept l
+tightOf tightened.Skipped = skipped
+
+abbrev pub relaxedOf : LinearProgram3D → Relaxed
+relaxedOf (lp3d.Relaxed p depth n) = on p depth n
+relaxedOf (lp3d.Refused r) = turned r
+
+abbrev pub phaseOf : PhaseCode → Phase
+phaseOf (phase.Solving x y) = solving (vec x y)
+phaseOf (phase.Relaxing x y depth) = relaxing (vec x y) depth
+phaseOf (phase.RigidFailure k x y) = rigidFailure k (vec x y)
+
+abbrev pub failedAt : FailureCode → Failed
+failedAt f = failedLine (record { index = f .index })
+
+abbrev pub failedOf : FailedLine → Failed
+failedOf failed-line.NoLine = noLine
+failedOf (failed-line.At f) = failedAt f
+
+abbrev pub outcomeOf : Answer → Outcome
+outcomeOf (answer.Stands p f n) = stands (phaseOf p) (failedOf f) n
+outcomeOf (answer.Refused r) = refusal r
+
+abbrev pub faultOf : Judged → Fault
+faultOf judged-code.Fine = fine
+faultOf (judged-code.Fault r) = fault r
+
+-- the probes that a one-line solve counts
+abbrev pub probesIn : AlongLine → ℕ
+probesIn (along-line.At p n) = n
+probesIn (along-line.Fails n) = n
+probesIn along-line.Refuses = 0
+
+-- and those that a pass counts
+abbrev pub probesOf : LinearProgram2D → ℕ
+probesOf (lp2d.Feasible p n) = n
+probesOf (lp2d.Infeasible f p n) = n
+probesOf (lp2d.Refused r) = 0
+
+-- the line that a pass failed at, or 0
+abbrev pub indexOf : LinearProgram2D → ℕ
+indexOf (lp2d.Feasible p n) = 0
+indexOf (lp2d.Infeasible f p n) = f .index
+indexOf (lp2d.Refused r) = 0
+
+-- ---- and back: the enum that says a phase, a failed line, an outcome, a fault
+
+abbrev pub phaseAs : Phase → PhaseCode
+phaseAs (solving p) = phase.Solving (p .x) (p .y)
+phaseAs (relaxing p depth) = phase.Relaxing (p .x) (p .y) depth
+phaseAs (rigidFailure k p) = phase.RigidFailure k (p .x) (p .y)
+
+abbrev pub failedAs : Failed → FailedLine
+failedAs noLine = failed-line.NoLine
+failedAs (failedLine f) = failed-line.At (record { index = f .index })
+
+abbrev pub answerAs : Outcome → Answer
+answerAs (stands p f n) = answer.Stands (phaseAs p) (failedAs f) n
+answerAs (refusal r) = answer.Refused r
+
+abbrev pub judgedAs : Fault → Judged
+judgedAs fine = judged-code.Fine
+judgedAs (fault r) = judged-code.Fault r

@@ -1,0 +1,84 @@
+-- 01, "Relaxation". Definitions only. Assumes nothing.
+use Prim.Native.Nat.{ℕ, _+_}
+use mathlib.Core.Bool.{_&&_}
+use mathlib.Core.List.{List, [], _∷_, _++_, foldl}
+use lib.ListN.{take, drop}
+use lib.Ieee.{Float}
+use Rattle.arithmetic.specs.Binary32.{_⊘_, _<ᶠ_, _≤ᶠ_, bits, 0ᶠ, if_then_else_, finite}
+use Rattle.arithmetic.specs.Ends.{absOf}
+use Rattle.common.specs.declared.Vec2.{Vec2}
+use Rattle.common.specs.Vectors.{addOf, subOf, mulOf, dotOf, determinantOf, perpOf, normalizeOf}
+use Rattle.linear_programming.specs.declared.Line.{Line}
+use Rattle.linear_programming.specs.Lines.{line, epsilon}
+use Rattle.linear_programming.specs.OneLine.{along, pointOn}
+use Rattle.linear_programming.specs.Pass.{Pass, now, failed, refused, finitePoint, pass}
+
+-- ---- the tightened list
+
+abbrev pub halfᶠ : Float
+halfᶠ = bits 0x3F00_0000
+
+-- what a previous line becomes: a line, or nothing where it points the same way
+pub data Tight : Type 0 where
+  kept : Line → Tight
+  skipped : Tight
+
+-- "direction is normalize(previous − own)"
+unfoldable pub tightAt : Line → Line → Vec2 → Tight
+tightAt own prev p = kept (line p (normalizeOf (subOf (prev .direction) (own .direction))))
+
+-- "the midpoint, (own point + previous point) · 0.5"
+unfoldable pub midpoint : Line → Line → Vec2
+midpoint own prev = mulOf (addOf (own .point) (prev .point)) halfᶠ
+
+-- "the intersection, own point + t · own direction, t = determinant(previous direction, own point − previous point) / determinant(own direction, previous direction)"
+unfoldable pub intersection : Line → Line → Vec2
+intersection own prev =
+    pointOn own (determinantOf (prev .direction) (subOf (own .point) (prev .point)) ⊘ determinantOf (own .direction) (prev .direction))
+
+-- "if |determinant| of the two directions ≤ 0.00001: skip if their dot > 0, else the midpoint; if not parallel, the intersection"
+unfoldable pub tighten : Line → Line → Tight
+tighten own prev =
+    if absOf (determinantOf (own .direction) (prev .direction)) ≤ᶠ epsilon
+    then (if 0ᶠ <ᶠ dotOf (own .direction) (prev .direction) then skipped else tightAt own prev (midpoint own prev))
+    else tightAt own prev (intersection own prev)
+
+-- behind the tightened lines made before it
+abbrev pub behind : List Line → Tight → List Line
+behind made (kept l) = made ++ (l ∷ [])
+behind made skipped = made
+
+unfoldable pub tightenNext : Line → List Line → Line → List Line
+tightenNext own made prev = behind made (tighten own prev)
+
+-- "the rigid lines unchanged; from each later previous line .."
+unfoldable pub tightened : ℕ → Line → List Line → List Line
+tightened rigid own earlier = foldl (tightenNext own) (take rigid earlier) (drop rigid earlier)
+
+-- the probes of building that list: none
+abbrev pub buildProbes : ℕ → List Line → ℕ
+buildProbes rigid earlier = 0
+
+-- ---- relaxation
+
+-- relaxation so far: the point, the penetration, the probes; or a refusal
+pub data Relaxed : Type 0 where
+  on : Vec2 → Float → ℕ → Relaxed
+  turned : ℕ → Relaxed
+
+-- how deep a point lies on the wrong side of a line
+unfoldable pub depthIn : Line → Vec2 → Float
+depthIn own p = determinantOf (own .direction) (subOf (own .point) p)
+
+-- "Success replaces the point and recomputes penetration; failure keeps both." Refusal 9: the new point or penetration is not finite
+unfoldable pub replaced : Line → Vec2 → Float → ℕ → Pass → Relaxed
+replaced own p depth n (now q m) = if finitePoint q && finite (depthIn own q) then on q (depthIn own q) (n + m) else turned 9
+replaced own p depth n (failed f q m) = on p depth (n + m)
+replaced own p depth n (refused r) = turned r
+
+-- "determinant(direction, line point − point now) ≤ penetration passes. Otherwise build a fresh list .. Solve it along perp(own direction)."
+unfoldable pub relaxLine : ℕ → Float → List Line → Line → Relaxed → Relaxed
+relaxLine rigid limit earlier own (on p depth n) =
+    if depthIn own p ≤ᶠ depth then on p depth (n + 1)
+    else replaced own p depth (n + 1 + buildProbes rigid earlier) (pass (along (perpOf (own .direction))) limit (tightened rigid own earlier))
+relaxLine rigid limit earlier own (turned r) = turned r

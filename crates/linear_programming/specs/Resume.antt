@@ -1,0 +1,31 @@
+-- The rules taken up again: a list whose first lines have been worked, and left a phase and a failed line. Definitions only. Assumes nothing.
+use Prim.Native.Nat.{ℕ, _+_}
+use mathlib.Core.List.{List}
+use lib.ListN.{take, drop}
+use lib.Dec.{leb}
+use lib.Ieee.{Float}
+use Rattle.common.specs.declared.Vec2.{Vec2}
+use Rattle.linear_programming.specs.declared.Line.{Line}
+use Rattle.linear_programming.specs.Walk.{walk}
+use Rattle.linear_programming.specs.OneLine.{toward}
+use Rattle.linear_programming.specs.Pass.{now, passLine}
+use Rattle.linear_programming.specs.Relax.{on, relaxLine}
+use Rattle.linear_programming.specs.Whole.{Phase, solving, relaxing, rigidFailure, Failed, Outcome, stands, refusal, relaxedOutcome, afterPass}
+use Rattle.linear_programming.specs.Admit.{must, _⟫_, mostLines}
+
+-- the lines from `from` on, the probes counted from 0
+unfoldable pub resumed : ℕ → Vec2 → Float → List Line → ℕ → Phase → Failed → Outcome
+resumed rigid wish limit lines from (solving p) f =
+    afterPass rigid limit lines (walk (passLine (toward wish) limit) (take from lines) (drop from lines) (now p 0))
+resumed rigid wish limit lines from (relaxing p depth) f =
+    relaxedOutcome f (walk (relaxLine rigid limit) (take from lines) (drop from lines) (on p depth 0))
+resumed rigid wish limit lines from (rigidFailure k p) f = stands (rigidFailure k p) f 0
+
+-- the first `count` of the lines, which are too many beyond 256
+unfoldable pub resumedCall : ℕ → Vec2 → Float → List Line → ℕ → ℕ → Phase → Failed → Outcome
+resumedCall rigid wish limit lines count from ph f = must (leb count mostLines) 4 ⟫ resumed rigid wish limit (take count lines) from ph f
+
+-- the probes of the lines worked before
+abbrev pub addProbes : ℕ → Outcome → Outcome
+addProbes n (stands ph f m) = stands ph f (n + m)
+addProbes n (refusal r) = refusal r

@@ -1,0 +1,155 @@
+// The one-line solve: the best value on a line within the circle and the earlier lines.
+use crate::AlongLine;
+use crate::Interval;
+use crate::Line;
+use crate::OptimalValue;
+use crate::lines;
+use common::Vec2;
+ghost use mathlib.Core.Path.{_≡_};
+ghost use Prim.Native.Nat.{_+_, _*_, _≤_, _<_};
+ghost use mathlib.Core.List.{foldl};
+ghost use lib.ListN.{length, take};
+ghost use Rattle.linear_programming.specs.Lines.{linesOf};
+ghost use Rattle.linear_programming.specs.OneLine.{between, chord, crossed, cut, beside, narrow, pointOn, choose, oneLine};
+ghost use Rattle.linear_programming.specs.Read.{objectiveOf, intervalOf, foundOf};
+
+// Where the line lies within the circle.
+fn circle_interval(line: Line, radius: f32) -> Interval
+    ensures { λ r. ⌜ intervalOf r ≡ chord radius line ⌝ }
+{
+    let line_dot_product = line.point.dot(line.direction);
+    let discriminant = line_dot_product * line_dot_product + radius * radius
+        - line.point.dot(line.point);
+    if discriminant < 0.0 {
+        return Interval::Empty(0);
+    }
+    let root = arithmetic::sqrt(discriminant);
+    Interval::Between(-line_dot_product - root, -line_dot_product + root, 0)
+}
+
+// One more line looked at, the ends as it left them.
+fn unless_crossed(left: f32, right: f32, looked: u32) -> Interval
+    requires { ⌜ looked < 256 ⌝ }
+    ensures { λ r. ⌜ intervalOf r ≡ crossed left right looked ⌝ }
+{
+    if left > right {
+        return Interval::Empty(looked + 1);
+    }
+    Interval::Between(left, right, looked + 1)
+}
+
+// A line that is nearly parallel leaves the interval, or empties it where `line` lies on its wrong side.
+fn unless_outside(left: f32, right: f32, looked: u32, numerator: f32) -> Interval
+    requires { ⌜ looked < 256 ⌝ }
+    ensures { λ r. ⌜ intervalOf r ≡ beside left right looked numerator ⌝ }
+{
+    if numerator < 0.0 {
+        return Interval::Empty(looked + 1);
+    }
+    Interval::Between(left, right, looked + 1)
+}
+
+// The time of intersection caps the right end or raises the left one, by the side that the constraint leaves.
+fn cut_at(left: f32, right: f32, looked: u32, direction_determinant: f32, t: f32) -> Interval
+    requires { ⌜ looked < 256 ⌝ }
+    ensures { λ r. ⌜ intervalOf r ≡ cut left right looked «direction_determinant» t ⌝ }
+{
+    if direction_determinant >= 0.0 {
+        return unless_crossed(left, arithmetic::min(right, t), looked);
+    }
+    unless_crossed(arithmetic::max(left, t), right, looked)
+}
+
+// One earlier line narrows the interval.
+fn narrow_by(line: Line, left: f32, right: f32, looked: u32, constraint: Line) -> Interval
+    requires { ⌜ looked < 256 ⌝ }
+    ensures { λ r. ⌜ intervalOf r ≡ narrow line (between left right looked) constraint ⌝ }
+{
+    let direction_determinant = common::determinant(line.direction, constraint.direction);
+    let numerator = common::determinant(constraint.direction, line.point.sub(constraint.point));
+    if arithmetic::abs(direction_determinant) <= Line::EPSILON {
+        return unless_outside(left, right, looked, numerator);
+    }
+    cut_at(
+        left,
+        right,
+        looked,
+        direction_determinant,
+        numerator / direction_determinant,
+    )
+}
+
+// The first `count` lines narrow the interval, one by one.
+fn narrow_all(line: Line, left: f32, right: f32, lines: &[f32], count: usize) -> Interval
+    requires { ⌜ (count ≤ 256) × (4 * count ≤ length (now lines)) ⌝ }
+    ensures { λ r. ⌜ intervalOf r ≡ foldl (narrow line) (between left right 0) (take count (linesOf (now (lines .entry)))) ⌝ }
+{
+    let mut t_left = left;
+    let mut t_right = right;
+    let mut looked = 0u32;
+    let mut i = 0usize;
+    while i < count {
+        let interval = narrow_by(line, t_left, t_right, looked, lines::line_of(lines, i));
+        let Interval::Between(l, r, n) = interval else {
+            return interval;
+        };
+        t_left = l;
+        t_right = r;
+        looked = n;
+        i += 1;
+    }
+    Interval::Between(t_left, t_right, looked)
+}
+
+fn point_on(line: Line, t: f32) -> Vec2
+    ensures { λ r. ⌜ r ≡ pointOn line t ⌝ }
+{
+    line.point.add(line.direction.mul(t))
+}
+
+// The best value of an interval that is left: refused where its ends are not in order at the clamp to a point.
+fn best_on(line: Line, left: f32, right: f32, looked: u32, optimal_value: OptimalValue) -> AlongLine
+    ensures { λ r. ⌜ foundOf r ≡ choose (objectiveOf «optimal_value») line (between left right looked) ⌝ }
+{
+    match optimal_value {
+        OptimalValue::Direction(x, y) => {
+            if Vec2::new(x, y).dot(line.direction) > 0.0 {
+                return AlongLine::At(point_on(line, right), looked);
+            }
+            AlongLine::At(point_on(line, left), looked)
+        }
+        OptimalValue::Point(x, y) => {
+            if left <= right {
+                let t = line.direction.dot(Vec2::new(x, y).sub(line.point));
+                return AlongLine::At(point_on(line, arithmetic::clamp(t, left, right)), looked);
+            }
+            AlongLine::Refuses
+        }
+    }
+}
+
+// The best value on `line` within the circle and the first `count` lines.
+pub(crate) fn solve_linear_program_along_line(
+    line: Line,
+    radius: f32,
+    lines: &[f32],
+    count: usize,
+    optimal_value: OptimalValue,
+) -> AlongLine
+    requires { ⌜ (count ≤ 256) × (4 * count ≤ length (now lines)) ⌝ }
+    ensures { λ r. ⌜ foundOf r ≡ oneLine (objectiveOf «optimal_value») radius line (take count (linesOf (now (lines .entry)))) ⌝ }
+{
+    let Interval::Between(left, right, _) = circle_interval(line, radius) else {
+        return AlongLine::Fails(0);
+    };
+    match narrow_all(line, left, right, lines, count) {
+        Interval::Empty(looked) => AlongLine::Fails(looked),
+        Interval::Between(t_left, t_right, looked) => best_on(
+            line,
+            t_left,
+            t_right,
+            looked,
+            optimal_value,
+        ),
+    }
+}

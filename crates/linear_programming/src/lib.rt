@@ -1,0 +1,190 @@
+// The linear program of a cart's velocity (the Rust's linear_programming.rs): the one-line, 2D and relaxation solves, and the single call over a list of lines.
+use common::Vec2;
+ghost use mathlib.Core.Path.{_≡_};
+ghost use lib.ListN.{getD};
+ghost use Rattle.linear_programming.specs.Lines.{line, linesOf, offLine};
+ghost use Rattle.linear_programming.specs.Admit.{lineFault, linesFault, listCall};
+ghost use Rattle.linear_programming.specs.Resume.{resumedCall};
+ghost use Rattle.linear_programming.specs.Read.{faultOf, phaseOf, failedOf, outcomeOf};
+
+mod along_line;
+mod judge;
+mod lines;
+mod solve_2d;
+mod solve_3d;
+mod solve_list;
+
+// A half-plane to the left of `direction` through `point`.
+pub struct Line {
+    pub point: Vec2,
+    pub direction: Vec2,
+}
+
+impl Line {
+    // Directions whose determinant is no greater are parallel.
+    pub const EPSILON: f32 = 0.00001;
+
+    // The greatest magnitude of a point's component.
+    pub const REACH: f32 = 268435456.0;
+
+    // The band of a direction's squared length: 1023/1024 to 1025/1024.
+    pub const BAND_LOW: f32 = 0.9990234375;
+
+    pub const BAND_HIGH: f32 = 1.0009765625;
+
+    // The most lines of a list or a session.
+    pub const MOST: usize = 256;
+
+    pub fn new(point: Vec2, direction: Vec2) -> Line
+        ensures { λ r. ⌜ r ≡ line point direction ⌝ }
+    {
+        Line { point, direction }
+    }
+}
+
+// What the best value is nearest to, or farthest along, by components.
+pub enum OptimalValue {
+    Point(f32, f32),
+    Direction(f32, f32),
+}
+
+// The interval left on a line, with the earlier lines looked at; or none.
+pub enum Interval {
+    Between(f32, f32, u32),
+    Empty(u32),
+}
+
+// What a one-line solve finds, with its probes.
+pub enum AlongLine {
+    At(Vec2, u32),
+    Fails(u32),
+    Refuses,
+}
+
+// The line that a 2D pass failed at.
+pub struct Failure {
+    pub index: usize,
+}
+
+// The 2D pass so far, with its probes: the point now; the line it failed at and the point before it; or a refusal.
+pub enum LinearProgram2D {
+    Feasible(Vec2, u32),
+    Infeasible(Failure, Vec2, u32),
+    Refused(u8),
+}
+
+// What a previous line becomes for a relaxed one.
+pub enum Tightened {
+    Kept(Line),
+    Skipped,
+}
+
+// Relaxation so far: point, penetration and probes; or a refusal.
+pub enum LinearProgram3D {
+    Relaxed(Vec2, f32, u32),
+    Refused(u8),
+}
+
+// The phase that a list ends in: its point, by components, with the penetration where it is relaxed and the failed line where that is rigid.
+pub enum Phase {
+    Solving(f32, f32),
+    Relaxing(f32, f32, f32),
+    RigidFailure(usize, f32, f32),
+}
+
+pub enum FailedLine {
+    NoLine,
+    At(Failure),
+}
+
+// How a list of lines stands, with its probes; or the number of its refusal.
+pub enum Answer {
+    Stands(Phase, FailedLine, u32),
+    Refused(u8),
+}
+
+// Whether input is admitted, or the number of its first fault.
+pub enum Judged {
+    Fine,
+    Fault(u8),
+}
+
+// Solves a list of lines that is lent as numbers, four a line: the value nearest to the wish within the limit and the lines, the ones behind the
+// first `rigid` relaxed where they cannot all be met. Refused, in this order: numbers that are no whole lines (2), too many lines (4),
+// a wish or limit out of range (6), a line (6, 7), a starting point that is not finite (9), the solve itself (8, 9).
+pub fn solve_linear_program(numbers: &[f32], rigid: usize, limit: f32, wish: Vec2) -> Answer
+    ensures { λ r. ⌜ outcomeOf r ≡ listCall rigid wish limit (now (numbers .entry)) ⌝ }
+{
+    if numbers.len() % 4 != 0 {
+        return Answer::Refused(2);
+    }
+    let count = numbers.len() / 4;
+    if count > Line::MOST {
+        return Answer::Refused(4);
+    }
+    let judged = judge::first_of(
+        judge::judge_wish(wish, limit),
+        judge::judge_lines(numbers, count),
+    );
+    if let Judged::Fault(number) = judged {
+        return Answer::Refused(number);
+    }
+    solve_list::solve_from_start(numbers, count, rigid, limit, wish)
+}
+
+// Takes the rules up again at the line `from`, where the lines before it left `phase` and `failed`: how all of the first `count` lines stand then, with
+// the probes of the lines from `from` on. Refused: more than 256 lines (4), the solve itself (8, 9).
+pub fn resume_linear_program(
+    lines: [Line; 256],
+    count: usize,
+    from: usize,
+    rigid: usize,
+    limit: f32,
+    wish: Vec2,
+    phase: Phase,
+    failed: FailedLine,
+) -> Answer
+    ensures { λ r. ⌜ outcomeOf r ≡ resumedCall rigid wish limit lines count from (phaseOf phase) (failedOf failed) ⌝ }
+{
+    if count > Line::MOST {
+        return Answer::Refused(4);
+    }
+    solve_list::resume_lines(
+        lines,
+        count,
+        solve_3d::least(from, count),
+        rigid,
+        limit,
+        wish,
+        phase,
+        failed,
+    )
+}
+
+// The line at an index of a list that is lent as numbers, four a line; past its end a line of NaNs.
+pub fn line_at(numbers: &[f32], i: usize) -> Line
+    ensures { λ r. ⌜ r ≡ getD (linesOf (now (numbers .entry))) i offLine ⌝ }
+{
+    if i < numbers.len() / 4 {
+        return lines::line_of(numbers, i);
+    }
+    let nan = 0.0 / 0.0;
+    Line {
+        point: Vec2 { x: nan, y: nan },
+        direction: Vec2 { x: nan, y: nan },
+    }
+}
+
+// The first fault of a line: 6 for a number that is not finite or out of range, then 7 for a direction out of its band.
+pub fn judge_line(line: Line) -> Judged
+    ensures { λ r. ⌜ faultOf r ≡ lineFault line ⌝ }
+{
+    judge::judge_line(line)
+}
+
+// The first fault of a list of lines that is lent as numbers, four a line; numbers that make no whole line are passed over.
+pub fn judge_lines(numbers: &[f32]) -> Judged
+    ensures { λ r. ⌜ faultOf r ≡ linesFault (linesOf (now (numbers .entry))) ⌝ }
+{
+    judge::judge_lines(numbers, numbers.len() / 4)
+}

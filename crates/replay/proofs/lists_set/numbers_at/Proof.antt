@@ -1,0 +1,70 @@
+-- `replay::lists_set::numbers_at` meets its contract. The invariant: the first i numbers are those of the bytes. Assumes nothing.
+use Prim.Native.Nat.{_-_, _≤_}
+use mathlib.Core.Path.{_≡_, refl}
+use native.Mathlib.Omega.{arith}
+use native.Mathlib.Numerals.{add-one}
+use lib.ListN.{length, take, length-set}
+use lib.Seq.{take-suc-set}
+use borrow.Author.Needs.{needs}
+use Rattle.replay.specs.ListsSet.{numbersOf}
+use Rattle.replay.proofs.lists_set.numbers_at.Statement.{statement}
+use Rattle.replay.proofs.lists_set.numbers_at.Tie as tie
+
+abbrev Inv-loop : tie.InvT-loop
+Inv-loop bytes count numbers₀ i₀ numbers i =
+    (i ≤ count) × (length numbers ≡ 1280) × (take i numbers ≡ numbersOf bytes i)
+
+abbrev μ-loop : tie.MeasureT-loop
+μ-loop bytes count numbers₀ i₀ numbers i = count - i
+
+loop-holds : tie.Need-loop-holds Inv-loop μ-loop
+unfolding numbersOf
+loop-holds c = (omega arith, search needs, refl)
+
+mul-number-at : tie.Need-mul-number-at Inv-loop μ-loop
+mul-number-at c = search needs
+
+number-at-requires : tie.Need-number-at-requires Inv-loop μ-loop
+number-at-requires c κs = search needs
+
+mul-numbers : tie.Need-mul-numbers Inv-loop μ-loop
+mul-numbers c = search needs
+
+array-write-numbers : tie.Need-array-write-numbers Inv-loop μ-loop
+array-write-numbers c = search needs
+
+add-i : tie.Need-add-i Inv-loop μ-loop
+add-i c = search needs
+
+loop-less : tie.Need-loop-less Inv-loop μ-loop
+loop-less c = search needs
+
+loop-again : tie.Need-loop-again Inv-loop μ-loop
+unfolding numbersOf
+loop-again c =
+    let l = c .before .before .loop in (
+      omega arith,
+      simp length-set (l .inv .1),
+      rw (add-one, take-suc-set (l .numbers) (l .i) (c .number-at .result) (omega arith), l .inv .2, c .number-at .ensures),
+    )
+
+returns : tie.Need-returns Inv-loop μ-loop
+returns c =
+    let ended : c .before .loop .i ≡ c .before .before .before .args .count = omega arith in
+    rw ended at (c .before .loop .inv .2)
+
+pub numbers-at-spec : {M : Type 1} → statement M
+numbers-at-spec =
+    tie.close
+    (tie.spec
+    Inv-loop
+    μ-loop
+    loop-holds
+    mul-number-at
+    number-at-requires
+    mul-numbers
+    array-write-numbers
+    add-i
+    loop-less
+    loop-again
+    returns)

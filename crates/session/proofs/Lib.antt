@@ -1,0 +1,4 @@
+pub mod BatchWork
+pub mod HandedLaws
+pub mod StartLaws
+pub mod CutLaws

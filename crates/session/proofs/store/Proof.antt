@@ -1,0 +1,81 @@
+-- `session::store` meets its contract. The invariant: the lines from i on, stored behind those that are, give the same array. Assumes nothing.
+use Prim.Native.Nat.{ℕ, suc, _+_, _-_, _/_, _≤_, _<_}
+use mathlib.Core.Path.{_≡_, refl, sym, _∙_, ap}
+use mathlib.Core.List.{List, [], _∷_}
+use native.Mathlib.Omega.{arith}
+use native.Mathlib.Nat.{add-zero}
+use native.Mathlib.Numerals.{add-one}
+use denote.Ref.{now}
+use lib.ListN.{length, drop, getD, set, length-set, drop-of-length-le}
+use lib.Seq.{sets, drop-cons}
+use Rattle.linear_programming.specs.declared.Line.{Line}
+use Rattle.linear_programming.specs.Lines.{linesOf, offLine}
+use Rattle.linear_programming.proofs.Rows.{count}
+use borrow.Author.Needs.{needs}
+use Rattle.session.proofs.store.Statement.{statement}
+use Rattle.session.proofs.store.Tie as tie
+
+-- one line more, and no line left
+store-on : (l m : List Line) (n i : ℕ) (d x : Line) → i < length m → x ≡ getD m i d → sets l (n + i) (drop i m) ≡ sets (set l (n + i) x) (n + (i + 1)) (drop (i + 1) m)
+store-on l m n i d x h e =
+    let k : n + (i + 1) ≡ suc (n + i) = omega arith in
+    rw (drop-cons m i d h, e, k, add-one)
+
+store-done : (l m : List Line) (n i : ℕ) → length m ≤ i → sets l (n + i) (drop i m) ≡ l
+store-done l m n i h = rw (drop-of-length-le m h)
+
+abbrev Inv-loop : tie.InvT-loop
+Inv-loop count numbers stored₀ i₀ stored i = (i ≤ length numbers / 4) × (length stored ≡ 256) × (sets stored₀ count (linesOf numbers) ≡ sets stored (count + i) (drop i (linesOf numbers)))
+
+abbrev μ-loop : tie.MeasureT-loop
+μ-loop count numbers stored₀ i₀ stored i = length numbers / 4 - i
+
+loop-holds : tie.Need-loop-holds Inv-loop μ-loop
+loop-holds c = (omega arith, search needs, rw add-zero)
+
+line-at-requires : tie.Need-line-at-requires Inv-loop μ-loop
+line-at-requires c κs = search needs
+
+add-stored : tie.Need-add-stored Inv-loop μ-loop
+add-stored c = search needs
+
+mul-stored : tie.Need-mul-stored Inv-loop μ-loop
+mul-stored c = search needs
+
+array-set-from-stored : tie.Need-array-set-from-stored Inv-loop μ-loop
+array-set-from-stored c = search needs
+
+add-i : tie.Need-add-i Inv-loop μ-loop
+add-i c = search needs
+
+loop-less : tie.Need-loop-less Inv-loop μ-loop
+loop-less c = search needs
+
+loop-again : tie.Need-loop-again Inv-loop μ-loop
+loop-again c =
+    let a = c .before .before .before .before .args in
+    let l = c .before .before .loop in
+    let m = linesOf (now (a .numbers)) in
+    (omega arith, simp length-set (l .inv .1), l .inv .2 ∙ store-on (l .stored) m (a .count) (l .i) offLine _ (omega (arith, count (now (a .numbers)))) (c .line-at .ensures))
+
+returns : tie.Need-returns Inv-loop μ-loop
+returns c =
+    let a = c .before .before .before .args in
+    let l = c .before .loop in
+    sym (l .inv .2 ∙ store-done (l .stored) (linesOf (now (a .numbers))) (a .count) (l .i) (omega (arith, count (now (a .numbers)))))
+
+pub store-spec : {M : Type 1} → statement M
+store-spec =
+    tie.close
+    (tie.spec
+    Inv-loop
+    μ-loop
+    loop-holds
+    line-at-requires
+    add-stored
+    mul-stored
+    array-set-from-stored
+    add-i
+    loop-less
+    loop-again
+    returns)

@@ -1,0 +1,30 @@
+-- A list of lines cut into consecutive batches (demand 3). Definitions only. Assumes nothing.
+use Prim.Native.Nat.{ℕ, _%_}
+use mathlib.Core.Path.{_≡_}
+use mathlib.Core.List.{List, [], _∷_, _++_}
+use lib.ListN.{length}
+use lib.Ieee.{Float}
+use Rattle.linear_programming.specs.Admit.{fine}
+use Rattle.linear_programming.specs.Read.{faultOf}
+use Rattle.session.specs.declared.Session.{Session}
+use Rattle.session.specs.Batches.{fedAs}
+
+-- the session after each batch of a list, one after the other
+abbrev pub fedAll : Session → List (List Float) → Session
+fedAll s [] = s
+fedAll s (xs ∷ xss) = fedAll (fedAs s xs .session) xss
+
+-- no batch is refused
+pub data Taken : Session → List (List Float) → Type 0 where
+  all-taken : {s : Session} → Taken s []
+  taken : {s : Session} {xs : List Float} {xss : List (List Float)} → faultOf (fedAs s xs .judged) ≡ fine → Taken (fedAs s xs .session) xss → Taken s (xs ∷ xss)
+
+-- each batch is whole lines, or empty
+pub data WholeLines : List (List Float) → Type 0 where
+  none : WholeLines []
+  more : {xs : List Float} {xss : List (List Float)} → length xs % 4 ≡ 0 → WholeLines xss → WholeLines (xs ∷ xss)
+
+-- the numbers of the batches, one behind the other
+abbrev pub joined : List (List Float) → List Float
+joined [] = []
+joined (xs ∷ xss) = xs ++ joined xss

@@ -1,0 +1,42 @@
+-- Sessions that a start and later calls handed out, and what start and batch promise of them (01, "What must change shape"; demand 3). Definitions only. Assumes nothing.
+use Prim.Native.Nat.{ℕ, _≤_}
+use mathlib.Core.Path.{_≡_}
+use mathlib.Core.List.{List, [], _++_}
+use lib.ListN.{length}
+use lib.Ieee.{Float}
+use Rattle.common.specs.declared.Vec2.{Vec2}
+use Rattle.linear_programming.specs.Lines.{linesOf}
+use Rattle.linear_programming.specs.Whole.{Outcome, refusal}
+use Rattle.linear_programming.specs.Admit.{Fault, fine, fault, _⟫_, fours, judgedList, listCall}
+use Rattle.linear_programming.specs.Read.{faultOf}
+use Rattle.session.specs.declared.Session.{Session}
+use Rattle.session.specs.declared.Fed.{Fed}
+use Rattle.session.specs.Sessions.{linesIn, outcomeIn}
+
+-- the session stands as the single call over its own lines does: phase, point, penetration, failed line and probes
+pub record Handed (s : Session) : Type 0 where
+  pub size : length (s .lines) ≡ 256
+  pub fits : s .count ≤ 256
+  pub stand : judgedList (s .rigid) (s .wish) (s .limit) (linesIn s) ≡ outcomeIn s
+
+-- what a call tells: how its session stands, or the number of its refusal
+abbrev pub toldIn : Fault → Session → Outcome
+toldIn fine s = outcomeIn s
+toldIn (fault r) s = refusal r
+
+abbrev pub toldBy : Fed → Outcome
+toldBy r = toldIn (faultOf (r .judged)) (r .session)
+
+-- a start tells what the single call over no lines tells, and hands a session out
+pub record Begins (wish : Vec2) (limit : Float) (rigid : ℕ) (r : Fed) : Type 0 where
+  pub handed : Handed (r .session)
+  pub tells : toldBy r ≡ listCall rigid wish limit []
+
+-- a session that was handed out, given a batch, tells what the single call over all lines tells, and is one that was handed out again, over its own lines
+-- and those of the batch; refused, it is the session it was
+pub record Continues (s : Session) (xs : List Float) (r : Fed) : Type 0 where
+  pub handed : Handed (r .session)
+  pub tells : toldBy r ≡ (fours xs ⟫ judgedList (s .rigid) (s .wish) (s .limit) (linesIn s ++ linesOf xs))
+  pub grows : faultOf (r .judged) ≡ fine → linesIn (r .session) ≡ linesIn s ++ linesOf xs
+  pub aims : (r .session .rigid ≡ s .rigid) × (r .session .wish ≡ s .wish) × (r .session .limit ≡ s .limit)
+  pub untouched : (n : ℕ) → faultOf (r .judged) ≡ fault n → r .session ≡ s

@@ -1,0 +1,5 @@
+-- The definitions that the contracts of `session` cite.
+pub mod Sessions
+pub mod Batches
+pub mod Handed
+pub mod Cuts

@@ -1,0 +1,59 @@
+-- A session, and how one starts (01, "What must change shape"; the order of a line list's faults without lines). Definitions only. Assumes nothing.
+use Prim.Native.Nat.{ℕ}
+use mathlib.Core.List.{List, []}
+use lib.ListN.{take, replicate}
+use lib.Ieee.{Float}
+use Rattle.arithmetic.specs.Binary32.{0ᶠ}
+use Rattle.common.specs.declared.Vec2.{Vec2}
+use Rattle.common.specs.Vectors.{vec}
+use Rattle.linear_programming.specs.declared.Line.{Line}
+use Rattle.linear_programming.specs.Lines.{line}
+use Rattle.linear_programming.specs.Whole.{solving, noLine, Outcome, stands, refusal}
+use Rattle.linear_programming.specs.Admit.{fine, fault, listCall}
+use Rattle.linear_programming.specs.Read.{phaseOf, phaseAs, failedOf, failedAs, judgedAs}
+use Rattle.session.specs.declared.Session.{Session}
+use Rattle.session.specs.declared.Fed.{Fed}
+
+-- the lines that stand, and how they stand
+abbrev pub linesIn : Session → List Line
+linesIn s = take (s .count) (s .lines)
+
+abbrev pub outcomeIn : Session → Outcome
+outcomeIn s = stands (phaseOf (s .phase)) (failedOf (s .failed)) (s .probes)
+
+-- the array behind the lines that stand
+unfoldable pub blankLines : List Line
+blankLines = replicate 256 (line (vec 0ᶠ 0ᶠ) (vec 0ᶠ 0ᶠ))
+
+unfoldable pub blankSession : Session
+blankSession = record {
+  lines = blankLines;
+  count = 0;
+  rigid = 0;
+  wish = vec 0ᶠ 0ᶠ;
+  limit = 0ᶠ;
+  phase = phaseAs (solving (vec 0ᶠ 0ᶠ));
+  failed = failedAs noLine;
+  probes = 0;
+}
+
+-- a session with no lines that stands as told; a blank one beside a refusal
+abbrev pub startedBy : Vec2 → Float → ℕ → Outcome → Fed
+startedBy wish limit rigid (stands ph f n) = record {
+  judged = judgedAs fine;
+  session = record {
+    lines = blankLines;
+    count = 0;
+    rigid = rigid;
+    wish = wish;
+    limit = limit;
+    phase = phaseAs ph;
+    failed = failedAs f;
+    probes = n;
+  };
+}
+startedBy wish limit rigid (refusal r) = record { judged = judgedAs (fault r); session = blankSession }
+
+-- as the single call over no lines
+unfoldable pub startedAs : Vec2 → Float → ℕ → Fed
+startedAs wish limit rigid = startedBy wish limit rigid (listCall rigid wish limit [])

@@ -1,0 +1,189 @@
+// The batch session (01, "The session has three phases"): lines come in batches, and after each the session stands as the whole list of its lines does.
+use common::Vec2;
+use linear_programming::Answer;
+use linear_programming::FailedLine;
+use linear_programming::Judged;
+use linear_programming::Line;
+use linear_programming::Phase;
+ghost use mathlib.Core.Path.{_≡_};
+ghost use Prim.Native.Nat.{_+_, _/_, _≤_};
+ghost use lib.ListN.{length};
+ghost use lib.Seq.{sets};
+ghost use Rattle.linear_programming.specs.Lines.{linesOf};
+ghost use Rattle.linear_programming.specs.Read.{faultOf, outcomeOf};
+ghost use Rattle.session.specs.Sessions.{blankLines, blankSession, startedAs};
+ghost use Rattle.session.specs.Batches.{batchFault, settledOn, settled, worked, fedAs};
+ghost use Rattle.session.specs.Handed.{Handed, Begins, Continues};
+
+// The lines so far and their count, what they are solved for, and how they stand: the phase, the failed line beside it, and the probes.
+pub struct Session {
+    pub lines: [Line; 256],
+    pub count: usize,
+    pub rigid: usize,
+    pub wish: Vec2,
+    pub limit: f32,
+    pub phase: Phase,
+    pub failed: FailedLine,
+    pub probes: u32,
+}
+
+// What a call hands back: whether it was refused, and the session. A session holds an array, so the answer is a struct.
+pub struct Fed {
+    pub judged: Judged,
+    pub session: Session,
+}
+
+fn blank_lines() -> [Line; 256]
+    ensures { λ r. ⌜ r ≡ blankLines ⌝ }
+{
+    [Line {
+        point: Vec2::ZERO,
+        direction: Vec2::ZERO,
+    }; 256]
+}
+
+// The session that stands beside a refusal to start: nothing is wished, and nothing stands in the way.
+fn blank() -> Session
+    ensures { λ r. ⌜ r ≡ blankSession ⌝ }
+{
+    Session {
+        lines: blank_lines(),
+        count: 0,
+        rigid: 0,
+        wish: Vec2::ZERO,
+        limit: 0.0,
+        phase: Phase::Solving(0.0, 0.0),
+        failed: FailedLine::NoLine,
+        probes: 0,
+    }
+}
+
+// The first fault of a batch for a session of `count` lines: more lines than a session holds (4), numbers that are no whole lines (2),
+// too many lines with those that stand (4), a line (6, 7).
+fn judge_batch(count: usize, numbers: &[f32]) -> Judged
+    ensures { λ r. ⌜ faultOf r ≡ batchFault count (now (numbers .entry)) ⌝ }
+{
+    if count > Line::MOST {
+        return Judged::Fault(4);
+    }
+    if numbers.len() % 4 != 0 {
+        return Judged::Fault(2);
+    }
+    if numbers.len() / 4 > Line::MOST - count {
+        return Judged::Fault(4);
+    }
+    linear_programming::judge_lines(numbers)
+}
+
+// The lines with those of a batch behind the first `count`.
+fn store(lines: [Line; 256], count: usize, numbers: &[f32]) -> [Line; 256]
+    requires { ⌜ count + length (now numbers) / 4 ≤ 256 ⌝ }
+    ensures { λ r. ⌜ r ≡ sets lines count (linesOf (now (numbers .entry))) ⌝ }
+{
+    let mut stored = lines;
+    let mut i = 0usize;
+    while i < numbers.len() / 4 {
+        stored[count + i] = linear_programming::line_at(numbers, i);
+        i += 1;
+    }
+    stored
+}
+
+impl Session {
+    // A session with no lines yet. Refused: a wish or limit out of range (6), a starting point that is not finite (9).
+    pub fn start(wish: Vec2, limit: f32, rigid: usize) -> Fed
+        ensures { λ r. ⌜ r ≡ startedAs wish limit rigid ⌝ }
+        ensures { λ r. ⌜ Begins wish limit rigid r ⌝ }
+    {
+        let none = [0.0f32; 4];
+        let answer = linear_programming::solve_linear_program(&none[0..0], rigid, limit, wish);
+        match answer {
+            Answer::Stands(phase, failed, probes) => Fed {
+                judged: Judged::Fine,
+                session: Session {
+                    lines: blank_lines(),
+                    count: 0,
+                    rigid,
+                    wish,
+                    limit,
+                    phase,
+                    failed,
+                    probes,
+                },
+            },
+            Answer::Refused(number) => Fed {
+                judged: Judged::Fault(number),
+                session: blank(),
+            },
+        }
+    }
+
+    // The session with a batch of lines, four numbers each, behind its own, and how all of them stand. Only the new lines are worked.
+    // A refused batch leaves the session as it was: refused are a session of more than 256 lines (4), numbers that are no whole lines (2),
+    // too many lines (4), a line (6, 7), the solve (8, 9).
+    pub fn batch(self, numbers: &[f32]) -> Fed
+        ensures { λ r. ⌜ r ≡ fedAs self (now (numbers .entry)) ⌝ }
+        ensures { λ r. ⌜ (Handed self → Continues self (now (numbers .entry)) r) ⌝ }
+    {
+        let count = self.count;
+        let judged = judge_batch(count, numbers);
+        if let Judged::Fault(_) = judged {
+            return Fed {
+                judged,
+                session: self,
+            };
+        }
+        work(self, numbers)
+    }
+}
+
+// A batch that is admitted and fits, stored and worked.
+fn work(session: Session, numbers: &[f32]) -> Fed
+    requires { ⌜ session .count + length (now numbers) / 4 ≤ 256 ⌝ }
+    ensures { λ r. ⌜ r ≡ settled session (linesOf (now (numbers .entry))) (worked session (linesOf (now (numbers .entry)))) ⌝ }
+{
+    let from = session.count;
+    let count = from + numbers.len() / 4;
+    let before = session.lines;
+    let lines = store(before, from, numbers);
+    let phase = session.phase;
+    let failed = session.failed;
+    let wish = session.wish;
+    let answer = linear_programming::resume_linear_program(
+        lines,
+        count,
+        from,
+        session.rigid,
+        session.limit,
+        wish,
+        phase,
+        failed,
+    );
+    settle(session, lines, count, answer)
+}
+
+// The session as the solve leaves it.
+fn settle(session: Session, lines: [Line; 256], count: usize, answer: Answer) -> Fed
+    ensures { λ r. ⌜ r ≡ settledOn session lines count (outcomeOf answer) ⌝ }
+{
+    let wish = session.wish;
+    match answer {
+        Answer::Stands(phase, failed, probes) => Fed {
+            judged: Judged::Fine,
+            session: Session {
+                lines,
+                count,
+                rigid: session.rigid,
+                wish,
+                limit: session.limit,
+                phase,
+                failed,
+                probes: std::num::wrapping_add_u32(session.probes, probes),
+            },
+        },
+        Answer::Refused(number) => Fed {
+            judged: Judged::Fault(number),
+            session,
+        },
+    }
+}

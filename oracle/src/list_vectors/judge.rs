@@ -1,0 +1,37 @@
+//! What is admitted, written from the definition of the build alone: "What is admitted", and the order of a
+//! line list in "Refusal numbers". Ends are admitted; a NaN fails every rule.
+
+use super::call::Call;
+
+pub const REACH: f32 = 65_536.0;
+pub const LONGEST: f32 = 1_024.0;
+pub const LINE_REACH: f32 = 268_435_456.0;
+pub const BAND_LOW: f32 = 1023.0 / 1024.0;
+pub const BAND_HIGH: f32 = 1025.0 / 1024.0;
+pub const MOST_LINES: usize = 256;
+
+/// Every fault in the order in which it is looked for. The first is told; none: the list is admitted.
+pub fn faults(call: &Call) -> Vec<u32> {
+    let mut faults = Vec::new();
+    let mut must = |rule: bool, number: u32| {
+        if !rule {
+            faults.push(number);
+        }
+    };
+    must(call.numbers.len() % 4 == 0, 2);
+    must(call.line_count() <= MOST_LINES, 4);
+    must(call.wish.x.abs() <= REACH, 6);
+    must(call.wish.y.abs() <= REACH, 6);
+    must((0.0..=LONGEST).contains(&call.limit), 6);
+    for (point, direction) in call.lines() {
+        must(point.x.abs() <= LINE_REACH, 6);
+        must(point.y.abs() <= LINE_REACH, 6);
+        must(direction.x.is_finite(), 6);
+        must(direction.y.is_finite(), 6);
+        must(
+            (BAND_LOW..=BAND_HIGH).contains(&direction.dot(direction)),
+            7,
+        );
+    }
+    faults
+}
