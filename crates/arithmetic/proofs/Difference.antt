@@ -1,12 +1,12 @@
 -- A number less itself is zero exactly where the number is finite. Assumes nothing.
-use Prim.Native.Nat.{ℕ, _+_, _-_, _*_, _^_, _<_, _≤_}
-use mathlib.Core.Path.{_≡_, refl, sym, _∙_, ap}
-use mathlib.Core.Bool.{Bool, true, false, not}
+use Prim.Native.Nat.{ℕ, _*_, _<_}
+use mathlib.Core.Path.{_≡_, refl, sym, _∙_}
+use mathlib.Core.Bool.{Bool, true, false}
 use native.Mathlib.Nat.{zero-mul, sub-self, le-refl, mul-pos, eq-of-mul-eq-mul-right}
 use borrow.Author.Tests.{le-ltb}
 use lib.Dec.{lit<}
 use lib.IntN.{ℤ}
-use lib.Ieee.{Float, Format, binary32, nan, inf, fin, up, down, low, emax, prec, add, sub, neg, sum, round, eq, ofBits}
+use lib.Ieee.{Float, binary32, nan, inf, fin, up, down, add, sub, neg, sum, round, eq, ofBits}
 use lib.Ieee.Exact.{HasValue, round-exact}
 use lib.Ieee.Fits.{down-pos}
 use Rattle.arithmetic.specs.Binary32.{0ᶠ, finite}

@@ -1,6 +1,5 @@
 -- Two answers, or two judgements, that one promise allows are the same: what they say can be turned back. Assumes nothing.
 use mathlib.Core.Path.{_≡_, refl}
-use Prim.Native.Nat.{ℕ}
 use Rattle.arithmetic.proofs.Agree.{agree-read}
 use Rattle.linear_programming.specs.declared.Phase.{Phase as PhaseCode}
 use Rattle.linear_programming.specs.declared.Phase.the-variants as phase
@@ -10,8 +9,8 @@ use Rattle.linear_programming.specs.declared.Answer.{Answer}
 use Rattle.linear_programming.specs.declared.Answer.the-variants as answer
 use Rattle.linear_programming.specs.declared.Judged.{Judged}
 use Rattle.linear_programming.specs.declared.Judged.the-variants as judged
-use Rattle.linear_programming.specs.Whole.{Phase, solving, relaxing, rigidFailure, Failed, noLine, failedLine, Outcome, stands, refusal}
-use Rattle.linear_programming.specs.Admit.{Fault, fine, fault}
+use Rattle.linear_programming.specs.Whole.{Outcome}
+use Rattle.linear_programming.specs.Admit.{Fault}
 use Rattle.linear_programming.specs.Read.{phaseOf, phaseAs, failedOf, failedAs, outcomeOf, answerAs, faultOf, judgedAs}
 
 pub phase-back : (p : PhaseCode) → phaseAs (phaseOf p) ≡ p

@@ -1,6 +1,6 @@
 -- Laws of a pass from any of its lines on: what ended stays, it fails at a line of the list, and each line counts at most 256 probes. Assumes nothing.
 use Prim.Native.Nat.{ℕ, suc, _+_, _*_, _≤_, _<_}
-use mathlib.Core.Path.{_≡_, refl, sym}
+use mathlib.Core.Path.{_≡_, refl}
 use mathlib.Core.List.{List, [], _∷_, _++_}
 use native.Mathlib.Omega.{arith}
 use native.Mathlib.Nat.{add-zero}
@@ -15,8 +15,8 @@ use Rattle.linear_programming.specs.Walk.{walk}
 use Rattle.linear_programming.specs.OneLine.{Objective, toward, along, Found, at, fails, refuses, oneLine}
 use Rattle.linear_programming.specs.Pass.{Failure, Pass, now, failed, refused, judged, solved, passLine}
 use Rattle.linear_programming.specs.Read.{passOf, probesOf, indexOf}
-use Rattle.linear_programming.proofs.Probes.{Counts, counts, counts-failed, counts-none, pass-counts}
-use Rattle.linear_programming.proofs.WalkLaws.{walk-stays, walk-grows}
+use Rattle.linear_programming.proofs.Probes.{Counts, counts, counts-failed, pass-counts}
+use Rattle.linear_programming.proofs.WalkLaws.{walk-stays}
 
 module _ (o : Objective) (limit : Float) where
   pub pass-failed : (f : Failure) (p : Vec2) (n : ℕ) (e l : List Line) → walk (passLine o limit) e l (failed f p n) ≡ failed f p n

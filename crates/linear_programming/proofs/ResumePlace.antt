@@ -1,11 +1,11 @@
 -- Rules that are taken up behind the last line have nothing left to do: the lesser of the place and the list's length is as good. Assumes nothing.
 use Prim.Native.Nat.{ℕ, _≤_, _<_}
-use mathlib.Core.Path.{_≡_, refl, sym, _∙_, ap}
+use mathlib.Core.Path.{_≡_, refl, ap}
 use mathlib.Core.Logic.{_⊎_, inl, inr}
-use mathlib.Core.List.{List, []}
+use mathlib.Core.List.{List}
 use native.Mathlib.Omega.{arith}
-use native.Mathlib.Nat.{le-refl, eq-or-lt-of-le}
-use lib.ListN.{length, take, drop, drop-of-length-le}
+use native.Mathlib.Nat.{eq-or-lt-of-le}
+use lib.ListN.{length, drop-of-length-le}
 use lib.Seq.{take-all}
 use lib.Ieee.{Float}
 use Rattle.common.specs.declared.Vec2.{Vec2}

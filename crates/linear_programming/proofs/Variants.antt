@@ -1,6 +1,6 @@
 -- Which variant an enum of the code is where a `let .. else` left it, and what its numbers are at most. Assumes nothing.
 use Prim.Native.Nat.{ℕ, _+_, _≤_}
-use mathlib.Core.Path.{_≡_, refl, subst, sym}
+use mathlib.Core.Path.{_≡_, refl}
 use mathlib.Core.List.{List, [], _∷_}
 use mathlib.Core.Logic.{⊎-elim}
 use native.Mathlib.Omega.{arith}
@@ -15,10 +15,10 @@ use Rattle.linear_programming.proofs.AlongLine.{the-type as along-type}
 use Rattle.linear_programming.specs.declared.LinearProgram2D.{LinearProgram2D}
 use Rattle.linear_programming.specs.declared.LinearProgram2D.the-variants as lp2d
 use Rattle.linear_programming.proofs.LinearProgram2D.{the-type as pass-type}
-use Rattle.linear_programming.specs.OneLine.{Objective, Found, oneLine}
+use Rattle.linear_programming.specs.OneLine.{Objective, oneLine}
 use Rattle.linear_programming.specs.Pass.{passLine}
 use Rattle.linear_programming.specs.Read.{foundOf, passOf, probesIn}
-use Rattle.linear_programming.proofs.OneLineLaws.{Solves, solves, stops, turns, line-solves}
+use Rattle.linear_programming.proofs.OneLineLaws.{Solves, solves, stops, line-solves}
 
 -- neither a point nor a failure
 pub refuses-left : (a : AlongLine) → OneOf (1 ∷ 2 ∷ []) (tagOf along-type a) → OneOf (0 ∷ 2 ∷ []) (tagOf along-type a) → a ≡ along-line.Refuses

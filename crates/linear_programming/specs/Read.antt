@@ -23,7 +23,7 @@ use Rattle.linear_programming.specs.declared.Answer.the-variants as answ
 use Rattle.linear_programming.specs.declared.Judged.{Judged}
 use Rattle.linear_programming.specs.declared.Judged.the-variants as judged-code
 use Rattle.linear_programming.specs.OneLine.{Objective, toward, along, Interval, between, empty, Found, at, fails, refuses}
-use Rattle.linear_programming.specs.Pass.{Failure, Pass, now, failed, refused}
+use Rattle.linear_programming.specs.Pass.{Pass, now, failed, refused}
 use Rattle.linear_programming.specs.Relax.{Tight, kept, skipped, Relaxed, on, turned}
 use Rattle.linear_programming.specs.Whole.{Phase, solving, relaxing, rigidFailure, Failed, noLine, failedLine, Outcome, stands, refusal}
 use Rattle.linear_programming.specs.Admit.{Fault, fine, fault}

@@ -43,19 +43,19 @@ impl Line {
 }
 
 // What the best value is nearest to, or farthest along, by components.
-pub enum OptimalValue {
+pub(crate) enum OptimalValue {
     Point(f32, f32),
     Direction(f32, f32),
 }
 
 // The interval left on a line, with the earlier lines looked at; or none.
-pub enum Interval {
+pub(crate) enum Interval {
     Between(f32, f32, u32),
     Empty(u32),
 }
 
 // What a one-line solve finds, with its probes.
-pub enum AlongLine {
+pub(crate) enum AlongLine {
     At(Vec2, u32),
     Fails(u32),
     Refuses,
@@ -67,20 +67,20 @@ pub struct Failure {
 }
 
 // The 2D pass so far, with its probes: the point now; the line it failed at and the point before it; or a refusal.
-pub enum LinearProgram2D {
+pub(crate) enum LinearProgram2D {
     Feasible(Vec2, u32),
     Infeasible(Failure, Vec2, u32),
     Refused(u8),
 }
 
 // What a previous line becomes for a relaxed one.
-pub enum Tightened {
+pub(crate) enum Tightened {
     Kept(Line),
     Skipped,
 }
 
 // Relaxation so far: point, penetration and probes; or a refusal.
-pub enum LinearProgram3D {
+pub(crate) enum LinearProgram3D {
     Relaxed(Vec2, f32, u32),
     Refused(u8),
 }

@@ -1,7 +1,6 @@
 -- What the code of a batch rests on: where the lines come to stand, that a batch without a fault fits, and that the solve over all lines is the session's. Assumes nothing.
 use Prim.Native.Nat.{ℕ, _+_, _/_, _≤_}
 use mathlib.Core.Path.{_≡_, refl, sym, _∙_, ap}
-use mathlib.Core.Bool.{true}
 use mathlib.Core.List.{List, _++_, map}
 use native.Mathlib.Omega.{arith}
 use lib.Dec.{leb}
@@ -12,13 +11,12 @@ use borrow.Author.Tests.{le-leb, leb-true}
 use Rattle.linear_programming.specs.declared.Line.{Line}
 use Rattle.linear_programming.specs.Lines.{linesOf}
 use Rattle.linear_programming.specs.Whole.{Outcome}
-use Rattle.linear_programming.specs.Admit.{fine, must, fours, linesFault}
+use Rattle.linear_programming.specs.Admit.{fine, must, fours}
 use Rattle.linear_programming.specs.Read.{phaseOf, failedOf}
-use Rattle.linear_programming.specs.Resume.{resumed, resumedCall}
+use Rattle.linear_programming.specs.Resume.{resumedCall}
 use Rattle.linear_programming.proofs.JudgeLaws.{⊳-fine, must-fine}
 use Rattle.linear_programming.proofs.Rows.{count}
 use Rattle.session.specs.declared.Session.{Session}
-use Rattle.session.specs.Sessions.{linesIn}
 use Rattle.session.specs.Batches.{batchFault, settledOn, settled, worked}
 
 -- the length of an array of structs in a struct's field stands under a map in what is known of the parameter

@@ -2,29 +2,27 @@
 -- so that it stands as the whole-list rules and as the single call do. Assumes nothing.
 use Prim.Native.Nat.{ℕ, _+_, _%_, _≤_}
 use mathlib.Core.Path.{_≡_, refl, sym, _∙_, ap}
-use mathlib.Core.Bool.{true}
 use mathlib.Core.List.{List, [], _∷_, _++_, append-assoc, append-nil}
 use native.Mathlib.Omega.{arith}
-use lib.Dec.{leb, eqb}
+use lib.Dec.{leb}
 use lib.ListN.{length, length-append}
 use lib.Ieee.{Float}
-use borrow.Author.Tests.{eq-eqb, eqb-true, le-leb, leb-true}
+use borrow.Author.Tests.{eq-eqb, le-leb, leb-true}
 use Rattle.common.specs.declared.Vec2.{Vec2}
 use Rattle.linear_programming.specs.declared.Line.{Line}
 use Rattle.linear_programming.specs.Lines.{linesOf}
-use Rattle.linear_programming.specs.Whole.{Phase, Failed, Outcome, stands, refusal, wholeList}
-use Rattle.linear_programming.specs.Admit.{Fault, fine, fault, must, _⊳_, _⟫_, mostLines, fours, wishFault, linesFault, judgedList, listCall}
+use Rattle.linear_programming.specs.Whole.{Phase, Failed, Outcome, stands, wholeList}
+use Rattle.linear_programming.specs.Admit.{Fault, fine, fault, must, _⊳_, fours, wishFault, linesFault, judgedList, listCall}
 use Rattle.linear_programming.specs.Read.{faultOf}
 use Rattle.linear_programming.proofs.JudgeLaws.{⊳-fine, must-fine, ⟫-stands, faults-append}
 use Rattle.linear_programming.proofs.Rows.{lines-append}
 use Rattle.linear_programming.proofs.Bounds.NeverRefused.{Stood, stood, never-refused}
 use Rattle.session.specs.declared.Session.{Session}
-use Rattle.session.specs.declared.Fed.{Fed}
 use Rattle.session.specs.Sessions.{linesIn, outcomeIn, startedBy, startedAs}
 use Rattle.session.specs.Batches.{fedAs}
-use Rattle.session.specs.Handed.{Handed, toldIn, toldBy, Continues, Begins}
+use Rattle.session.specs.Handed.{Handed, toldIn}
 use Rattle.session.specs.Cuts.{fedAll, Taken, all-taken, taken, WholeLines, none, more, joined}
-use Rattle.session.proofs.HandedLaws.{judged, count-is, continues}
+use Rattle.session.proofs.HandedLaws.{judged, continues}
 use Rattle.session.proofs.StartLaws.{begins}
 
 -- what is told of a session that stands was not refused

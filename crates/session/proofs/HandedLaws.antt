@@ -1,30 +1,29 @@
 -- A start hands a session out, and a batch hands it on: what it tells is what the single call over all lines tells. Assumes nothing.
 use Prim.Native.Nat.{ℕ, _+_, _%_, _^_, _≤_}
 use mathlib.Core.Path.{_≡_, refl, sym, _∙_, ap}
-use mathlib.Core.Bool.{Bool, true, false}
-use mathlib.Core.List.{List, [], _++_}
+use mathlib.Core.List.{List, _++_}
 use native.Mathlib.Omega.{arith}
 use native.Mathlib.Nat.{mod-eq-of-lt}
 use lib.Dec.{leb}
 use lib.ListN.{length, length-append}
 use lib.Seq.{length-take-le, length-sets}
 use lib.Ieee.{Float}
-use borrow.Author.Tests.{le-leb, leb-true}
+use borrow.Author.Tests.{le-leb}
 use Rattle.linear_programming.specs.declared.Line.{Line}
 use Rattle.linear_programming.specs.Lines.{linesOf}
 use Rattle.linear_programming.specs.Whole.{Phase, solving, relaxing, rigidFailure, Failed, noLine, failedLine, Outcome, stands, refusal, wholeList}
 use Rattle.linear_programming.specs.Admit.{Fault, fine, fault, must, _⊳_, _⟫_, fours, wishFault, linesFault, judgedList}
 use Rattle.linear_programming.specs.Read.{phaseOf, phaseAs, failedOf, failedAs}
 use Rattle.linear_programming.specs.Resume.{resumed, addProbes}
-use Rattle.linear_programming.proofs.JudgeLaws.{⊳-fine, must-fine, ⟫-stands, faults-append}
+use Rattle.linear_programming.proofs.JudgeLaws.{⊳-fine, ⟫-stands, faults-append}
 use Rattle.linear_programming.proofs.Rows.{count}
 use Rattle.linear_programming.proofs.ResumeLaws.{resumed-whole}
 use Rattle.linear_programming.proofs.WholeProbes.{whole-fits}
 use Rattle.session.specs.declared.Session.{Session}
 use Rattle.session.specs.declared.Fed.{Fed}
 use Rattle.session.specs.Sessions.{linesIn, outcomeIn}
-use Rattle.session.specs.Batches.{batchFault, settledOn, settled, worked, fedAs}
-use Rattle.session.specs.Handed.{Handed, toldIn, toldBy, Continues}
+use Rattle.session.specs.Batches.{batchFault, settled, worked, fedAs}
+use Rattle.session.specs.Handed.{Handed, toldBy, Continues}
 use Rattle.session.proofs.BatchWork.{lines-behind, batch-fits}
 
 -- ---- enums there and back

@@ -1,7 +1,6 @@
 -- `session::blank_lines` meets its contract. Assumes nothing.
 use mathlib.Core.Path.{refl}
 use Rattle.session.specs.Sessions.{blankLines}
-use borrow.Author.Needs.{needs}
 use Rattle.session.proofs.blank_lines.Statement.{statement}
 use Rattle.session.proofs.blank_lines.Tie as tie
 

@@ -1,5 +1,5 @@
 -- `linear_programming::along_line::narrow_all` meets its contract. The invariant: the lines from i on narrow what is left to the same interval. Assumes nothing.
-use Prim.Native.Nat.{_+_, _-_, _*_, _≤_}
+use Prim.Native.Nat.{_-_, _≤_}
 use mathlib.Core.Path.{_≡_, refl, sym, _∙_}
 use mathlib.Core.List.{foldl}
 use native.Mathlib.Omega.{arith}

@@ -1,5 +1,4 @@
 -- `linear_programming::judge::fault_unless` meets its contract. Assumes nothing.
-use borrow.Author.Needs.{needs}
 use Rattle.linear_programming.proofs.judge.fault_unless.Statement.{statement}
 use Rattle.linear_programming.proofs.judge.fault_unless.Tie as tie
 

@@ -1,6 +1,5 @@
 -- `linear_programming::judge::is_inside` meets its contract. Assumes nothing.
 use Rattle.linear_programming.specs.Admit.{inside}
-use borrow.Author.Needs.{needs}
 use Rattle.linear_programming.proofs.judge.is_inside.Statement.{statement}
 use Rattle.linear_programming.proofs.judge.is_inside.Tie as tie
 

@@ -1,5 +1,5 @@
 -- `linear_programming::judge::judge_lines` meets its contract. The invariant: the lines before i pass. Assumes nothing.
-use Prim.Native.Nat.{_-_, _*_, _≤_}
+use Prim.Native.Nat.{_-_, _≤_}
 use mathlib.Core.Path.{_≡_, refl, sym, _∙_}
 use native.Mathlib.Omega.{arith}
 use denote.Ref.{now}

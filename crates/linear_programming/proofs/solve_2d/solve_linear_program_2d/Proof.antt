@@ -1,5 +1,5 @@
 -- `linear_programming::solve_2d::solve_linear_program_2d` meets its contract. The invariant: the lines from i on take the point now to the same end. Assumes nothing.
-use Prim.Native.Nat.{_+_, _-_, _*_, _≤_}
+use Prim.Native.Nat.{_-_, _*_, _≤_}
 use mathlib.Core.Path.{_≡_, refl, sym, _∙_}
 use native.Mathlib.Omega.{arith}
 use denote.Ref.{now as held}

@@ -1,10 +1,9 @@
 -- `linear_programming::solve_3d::relax_line` meets its contract. Assumes nothing.
 use mathlib.Core.Path.{_∙_}
-use Prim.Native.Nat.{_≤_}
 use native.Mathlib.Omega.{arith}
 use native.Mathlib.Nat.{add-zero}
 use denote.Ref.{now}
-use lib.ListN.{length, take, length-take}
+use lib.ListN.{length-take}
 use lib.Seq.{length-take-le}
 use Rattle.arithmetic.specs.Binary32.{if_then_else_}
 use Rattle.linear_programming.specs.Lines.{linesOf}

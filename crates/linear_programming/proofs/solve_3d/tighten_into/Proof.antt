@@ -1,7 +1,7 @@
 -- `linear_programming::solve_3d::tighten_into` meets its contract. The invariant: the lines from i on, tightened behind the first n that are made, give the same list.
 -- Assumes nothing.
-use Prim.Native.Nat.{_+_, _-_, _*_, _≤_, _<_}
-use mathlib.Core.Path.{_≡_, refl, sym, _∙_}
+use Prim.Native.Nat.{_-_, _≤_, _<_}
+use mathlib.Core.Path.{_≡_, sym, _∙_}
 use mathlib.Core.List.{foldl}
 use native.Mathlib.Omega.{arith}
 use denote.Ref.{now}

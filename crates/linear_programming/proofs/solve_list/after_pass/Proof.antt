@@ -1,6 +1,5 @@
 -- `linear_programming::solve_list::after_pass` meets its contract. Assumes nothing.
 use denote.Ref.{now}
-use native.Mathlib.Omega.{arith}
 use lib.Seq.{take-take}
 use borrow.Author.Tests.{lt-ltb, le-ltb}
 use Rattle.arithmetic.specs.Binary32.{if_then_else_}

@@ -1,5 +1,5 @@
 -- `linear_programming::solve_list::lay` meets its contract. The invariant: the first n lines are laid out. Assumes nothing.
-use Prim.Native.Nat.{_+_, _-_, _≤_, _<_}
+use Prim.Native.Nat.{_-_, _≤_, _<_}
 use mathlib.Core.Path.{_≡_, refl, _∙_}
 use native.Mathlib.Omega.{arith}
 use lib.ListN.{length, take}
