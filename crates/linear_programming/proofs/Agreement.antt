@@ -1,4 +1,4 @@
--- Two answers, or two judgements, that one promise allows are the same: what they say can be turned back. Assumes nothing.
+-- Two answers that one promise allows are the same: what they say can be turned back. Assumes nothing.
 use mathlib.Core.Path.{_≡_, refl}
 use Rattle.arithmetic.proofs.Agree.{agree-read}
 use Rattle.linear_programming.specs.declared.Phase.{Phase as PhaseCode}
@@ -7,11 +7,8 @@ use Rattle.linear_programming.specs.declared.FailedLine.{FailedLine}
 use Rattle.linear_programming.specs.declared.FailedLine.the-variants as failed-line
 use Rattle.linear_programming.specs.declared.Answer.{Answer}
 use Rattle.linear_programming.specs.declared.Answer.the-variants as answer
-use Rattle.linear_programming.specs.declared.Judged.{Judged}
-use Rattle.linear_programming.specs.declared.Judged.the-variants as judged
 use Rattle.linear_programming.specs.Whole.{Outcome}
-use Rattle.linear_programming.specs.Admit.{Fault}
-use Rattle.linear_programming.specs.Read.{phaseOf, phaseAs, failedOf, failedAs, outcomeOf, answerAs, faultOf, judgedAs}
+use Rattle.linear_programming.specs.Read.{phaseOf, phaseAs, failedOf, failedAs, outcomeOf, answerAs}
 
 pub phase-back : (p : PhaseCode) → phaseAs (phaseOf p) ≡ p
 phase-back (phase.Solving x y) = refl
@@ -28,10 +25,3 @@ answer-back (answer.Refused r) = refl
 
 pub answers-agree : {one other : Answer} {promised : Outcome} → outcomeOf one ≡ promised → outcomeOf other ≡ promised → one ≡ other
 answers-agree = agree-read outcomeOf answerAs answer-back
-
-judged-back : (j : Judged) → judgedAs (faultOf j) ≡ j
-judged-back judged.Fine = refl
-judged-back (judged.Fault r) = refl
-
-pub judgements-agree : {one other : Judged} {promised : Fault} → faultOf one ≡ promised → faultOf other ≡ promised → one ≡ other
-judgements-agree = agree-read faultOf judgedAs judged-back

@@ -1,34 +1,20 @@
 -- Laws of faults: the first one is told, and no fault means that each rule passed. Assumes nothing.
 use Prim.Native.Nat.{ℕ, _+_, _≤_, _<_}
 use mathlib.Core.Path.{_≡_, refl}
-use mathlib.Core.Bool.{Bool, true, false}
 use mathlib.Core.List.{List, [], _∷_, _++_}
 use native.Mathlib.Omega.{arith}
 use lib.ListN.{length, take, drop, getD}
+use Rattle.admission.proofs.FaultLaws.{⊳-assoc}
 use Rattle.linear_programming.specs.declared.Line.{Line}
 use Rattle.linear_programming.specs.Whole.{Phase, Failed, Outcome, stands}
-use Rattle.linear_programming.specs.Admit.{Fault, fine, fault, must, _⊳_, _⟫_, lineFault, linesFault}
+use Rattle.admission.specs.Faults.{Fault, fine, fault, _⊳_}
+use Rattle.linear_programming.specs.Admit.{_⟫_, lineFault, linesFault}
 use Rattle.linear_programming.proofs.Fold.{left-next, left-none}
-
-zero-one : _≡_ {A = ℕ} 0 1 → ⊥
-zero-one z = omega arith
-
-pub ⊳-fine : (f : Fault) {g : Fault} → (f ⊳ g) ≡ fine → (f ≡ fine) × (g ≡ fine)
-⊳-fine fine e = (refl, e)
-⊳-fine (fault r) e = let z : _≡_ {A = ℕ} 0 1 = cc in absurd (zero-one z)
-
-pub must-fine : (b : Bool) (r : ℕ) → must b r ≡ fine → b ≡ true
-must-fine true r e = refl
-must-fine false r e = let z : _≡_ {A = ℕ} 0 1 = cc in absurd (zero-one z)
 
 -- what stands was not refused: each rule before it passed
 pub ⟫-stands : (f : Fault) {o : Outcome} {ph : Phase} {k : Failed} {n : ℕ} → (f ⟫ o) ≡ stands ph k n → (f ≡ fine) × (o ≡ stands ph k n)
 ⟫-stands fine e = (refl, e)
-⟫-stands (fault r) e = let z : _≡_ {A = ℕ} 0 1 = cc in absurd (zero-one z)
-
-pub ⊳-assoc : (f g h : Fault) → (f ⊳ (g ⊳ h)) ≡ ((f ⊳ g) ⊳ h)
-⊳-assoc fine g h = refl
-⊳-assoc (fault r) g h = refl
+⟫-stands (fault r) e = let z : _≡_ {A = ℕ} 0 1 = cc in absurd (omega arith)
 
 pub faults-append : (l m : List Line) → linesFault (l ++ m) ≡ (linesFault l ⊳ linesFault m)
 unfolding linesFault

@@ -1,36 +1,18 @@
 -- 01, "What is admitted" and "Refusal numbers" for a line list: the first fault in order is told. Definitions only. Assumes nothing.
 use Prim.Native.Nat.{ℕ, _%_}
-use mathlib.Core.Bool.{Bool, true, false, _&&_}
 use mathlib.Core.List.{List, [], _∷_}
 use lib.ListN.{length}
 use lib.Dec.{leb, eqb}
 use lib.Ieee.{Float}
-use Rattle.arithmetic.specs.Binary32.{bits, _≤ᶠ_, 0ᶠ, finite}
-use Rattle.arithmetic.specs.Ends.{absOf}
+use Rattle.arithmetic.specs.Binary32.{bits, 0ᶠ, finite}
+use Rattle.admission.specs.Faults.{Fault, fine, fault, must, _⊳_, within, inside}
 use Rattle.common.specs.declared.Vec2.{Vec2}
 use Rattle.common.specs.Vectors.{lengthSquaredOf}
 use Rattle.linear_programming.specs.declared.Line.{Line}
 use Rattle.linear_programming.specs.Lines.{linesOf}
 use Rattle.linear_programming.specs.Whole.{Outcome, refusal, wholeList}
 
--- ---- the first fault
-
-pub data Fault : Type 0 where
-  fine : Fault
-  fault : ℕ → Fault
-
-infixr 20 _⊳_
 infix 15 _⟫_
--- the rule passes, or the number is told
-abbrev pub must : Bool → ℕ → Fault
-must true r = fine
-must false r = fault r
-
--- the left one first
-abbrev pub _⊳_ : Fault → Fault → Fault
-fine ⊳ f = f
-fault r ⊳ f = fault r
-
 -- what comes where there is no fault
 abbrev pub _⟫_ : Fault → Outcome → Outcome
 fine ⟫ o = o
@@ -59,13 +41,6 @@ bandLow = bits 0x3F7F_C000
 
 abbrev pub bandHigh : Float
 bandHigh = bits 0x3F80_2000
-
--- ends are admitted; a NaN or an infinity is not
-unfoldable pub within : Float → Float → Bool
-within bound x = absOf x ≤ᶠ bound
-
-unfoldable pub inside : Float → Float → Float → Bool
-inside low high x = low ≤ᶠ x && x ≤ᶠ high
 
 -- ---- faults of a wish with its limit, of a line, of lines
 

@@ -20,13 +20,10 @@ use Rattle.linear_programming.specs.declared.FailedLine.{FailedLine}
 use Rattle.linear_programming.specs.declared.FailedLine.the-variants as failed-line
 use Rattle.linear_programming.specs.declared.Answer.{Answer}
 use Rattle.linear_programming.specs.declared.Answer.the-variants as answer
-use Rattle.linear_programming.specs.declared.Judged.{Judged}
-use Rattle.linear_programming.specs.declared.Judged.the-variants as judged-code
 use Rattle.linear_programming.specs.OneLine.{Objective, toward, along, Interval, between, empty, Found, at, fails, refuses}
 use Rattle.linear_programming.specs.Pass.{Pass, now, failed, refused}
 use Rattle.linear_programming.specs.Relax.{Tight, kept, skipped, Relaxed, on, turned}
 use Rattle.linear_programming.specs.Whole.{Phase, solving, relaxing, rigidFailure, Failed, noLine, failedLine, Outcome, stands, refusal}
-use Rattle.linear_programming.specs.Admit.{Fault, fine, fault}
 
 abbrev pub objectiveOf : OptimalValue → Objective
 objectiveOf (Point x y) = toward (vec x y)
@@ -70,10 +67,6 @@ abbrev pub outcomeOf : Answer → Outcome
 outcomeOf (answer.Stands p f n) = stands (phaseOf p) (failedOf f) n
 outcomeOf (answer.Refused r) = refusal r
 
-abbrev pub faultOf : Judged → Fault
-faultOf judged-code.Fine = fine
-faultOf (judged-code.Fault r) = fault r
-
 -- the probes that a one-line solve counts
 abbrev pub probesIn : AlongLine → ℕ
 probesIn (along-line.At p n) = n
@@ -106,7 +99,3 @@ failedAs (failedLine f) = failed-line.At (record { index = f .index })
 abbrev pub answerAs : Outcome → Answer
 answerAs (stands p f n) = answer.Stands (phaseAs p) (failedAs f) n
 answerAs (refusal r) = answer.Refused r
-
-abbrev pub judgedAs : Fault → Judged
-judgedAs fine = judged-code.Fine
-judgedAs (fault r) = judged-code.Fault r

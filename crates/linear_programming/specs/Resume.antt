@@ -11,7 +11,8 @@ use Rattle.linear_programming.specs.OneLine.{toward}
 use Rattle.linear_programming.specs.Pass.{now, passLine}
 use Rattle.linear_programming.specs.Relax.{on, relaxLine}
 use Rattle.linear_programming.specs.Whole.{Phase, solving, relaxing, rigidFailure, Failed, Outcome, stands, refusal, relaxedOutcome, afterPass}
-use Rattle.linear_programming.specs.Admit.{must, _⟫_, mostLines}
+use Rattle.admission.specs.Faults.{must}
+use Rattle.linear_programming.specs.Admit.{_⟫_, mostLines}
 
 -- the lines from `from` on, the probes counted from 0
 unfoldable pub resumed : ℕ → Vec2 → Float → List Line → ℕ → Phase → Failed → Outcome

@@ -1,48 +1,18 @@
 // What is admitted: the first fault of a wish with its limit, of a line, of a list of lines.
-use crate::Judged;
 use crate::Line;
 use crate::lines;
+use admission::Judged;
+use admission::fault_unless;
+use admission::first_of;
+use admission::is_inside;
+use admission::is_within;
 use common::Vec2;
 ghost use mathlib.Core.Path.{_≡_};
 ghost use Prim.Native.Nat.{_*_, _≤_};
 ghost use lib.ListN.{length, take};
 ghost use Rattle.linear_programming.specs.Lines.{linesOf};
-ghost use Rattle.linear_programming.specs.Admit.{_⊳_, must, within, inside, wishFault, lineFault, linesFault};
-ghost use Rattle.linear_programming.specs.Read.{faultOf};
-
-// Whether a number's magnitude is at most the bound. A NaN's is not.
-fn is_within(bound: f32, x: f32) -> bool
-    ensures { λ r. ⌜ r ≡ within bound x ⌝ }
-{
-    arithmetic::abs(x) <= bound
-}
-
-// Whether a number lies between two ends, which are admitted.
-fn is_inside(low: f32, high: f32, x: f32) -> bool
-    ensures { λ r. ⌜ r ≡ inside low high x ⌝ }
-{
-    low <= x && x <= high
-}
-
-// The fault with the number, unless the rule passes.
-fn fault_unless(passes: bool, number: u8) -> Judged
-    ensures { λ r. ⌜ faultOf r ≡ must passes number ⌝ }
-{
-    if passes {
-        return Judged::Fine;
-    }
-    Judged::Fault(number)
-}
-
-// The first fault of two.
-pub(crate) fn first_of(first: Judged, second: Judged) -> Judged
-    ensures { λ r. ⌜ faultOf r ≡ (faultOf first ⊳ faultOf second) ⌝ }
-{
-    match first {
-        Judged::Fine => second,
-        Judged::Fault(number) => Judged::Fault(number),
-    }
-}
+ghost use Rattle.admission.specs.Faults.{_⊳_, must, within, inside, faultOf};
+ghost use Rattle.linear_programming.specs.Admit.{wishFault, lineFault, linesFault};
 
 pub(crate) fn judge_wish(wish: Vec2, limit: f32) -> Judged
     ensures { λ r. ⌜ faultOf r ≡ wishFault wish limit ⌝ }

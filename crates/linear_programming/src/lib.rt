@@ -1,11 +1,13 @@
 // The linear program of a cart's velocity (the Rust's linear_programming.rs): the one-line, 2D and relaxation solves, and the single call over a list of lines.
+use admission::Judged;
 use common::Vec2;
 ghost use mathlib.Core.Path.{_≡_};
 ghost use lib.ListN.{getD};
 ghost use Rattle.linear_programming.specs.Lines.{line, linesOf, offLine};
 ghost use Rattle.linear_programming.specs.Admit.{lineFault, linesFault, listCall};
 ghost use Rattle.linear_programming.specs.Resume.{resumedCall};
-ghost use Rattle.linear_programming.specs.Read.{faultOf, phaseOf, failedOf, outcomeOf};
+ghost use Rattle.admission.specs.Faults.{faultOf};
+ghost use Rattle.linear_programming.specs.Read.{phaseOf, failedOf, outcomeOf};
 
 mod along_line;
 mod judge;
@@ -103,12 +105,6 @@ pub enum Answer {
     Refused(u8),
 }
 
-// Whether input is admitted, or the number of its first fault.
-pub enum Judged {
-    Fine,
-    Fault(u8),
-}
-
 // Solves a list of lines that is lent as numbers, four a line: the value nearest to the wish within the limit and the lines, the ones behind the
 // first `rigid` relaxed where they cannot all be met. Refused, in this order: numbers that are no whole lines (2), too many lines (4),
 // a wish or limit out of range (6), a line (6, 7), a starting point that is not finite (9), the solve itself (8, 9).
@@ -122,7 +118,7 @@ pub fn solve_linear_program(numbers: &[f32], rigid: usize, limit: f32, wish: Vec
     if count > Line::MOST {
         return Answer::Refused(4);
     }
-    let judged = judge::first_of(
+    let judged = admission::first_of(
         judge::judge_wish(wish, limit),
         judge::judge_lines(numbers, count),
     );

@@ -12,9 +12,10 @@ use Rattle.common.specs.declared.Vec2.{Vec2}
 use Rattle.linear_programming.specs.declared.Line.{Line}
 use Rattle.linear_programming.specs.Lines.{linesOf}
 use Rattle.linear_programming.specs.Whole.{Phase, Failed, Outcome, stands, wholeList}
-use Rattle.linear_programming.specs.Admit.{Fault, fine, fault, must, _⊳_, fours, wishFault, linesFault, judgedList, listCall}
-use Rattle.linear_programming.specs.Read.{faultOf}
-use Rattle.linear_programming.proofs.JudgeLaws.{⊳-fine, must-fine, ⟫-stands, faults-append}
+use Rattle.admission.specs.Faults.{Fault, fine, fault, must, _⊳_, faultOf}
+use Rattle.linear_programming.specs.Admit.{fours, wishFault, linesFault, judgedList, listCall}
+use Rattle.admission.proofs.FaultLaws.{⊳-fine, must-fine}
+use Rattle.linear_programming.proofs.JudgeLaws.{⟫-stands, faults-append}
 use Rattle.linear_programming.proofs.Rows.{lines-append}
 use Rattle.linear_programming.proofs.Bounds.NeverRefused.{Stood, stood, never-refused}
 use Rattle.session.specs.declared.Session.{Session}

@@ -12,10 +12,12 @@ use borrow.Author.Tests.{le-leb}
 use Rattle.linear_programming.specs.declared.Line.{Line}
 use Rattle.linear_programming.specs.Lines.{linesOf}
 use Rattle.linear_programming.specs.Whole.{Phase, solving, relaxing, rigidFailure, Failed, noLine, failedLine, Outcome, stands, refusal, wholeList}
-use Rattle.linear_programming.specs.Admit.{Fault, fine, fault, must, _⊳_, _⟫_, fours, wishFault, linesFault, judgedList}
+use Rattle.admission.specs.Faults.{Fault, fine, fault, must, _⊳_}
+use Rattle.linear_programming.specs.Admit.{_⟫_, fours, wishFault, linesFault, judgedList}
 use Rattle.linear_programming.specs.Read.{phaseOf, phaseAs, failedOf, failedAs}
 use Rattle.linear_programming.specs.Resume.{resumed, addProbes}
-use Rattle.linear_programming.proofs.JudgeLaws.{⊳-fine, ⟫-stands, faults-append}
+use Rattle.admission.proofs.FaultLaws.{no-fault, ⊳-fine}
+use Rattle.linear_programming.proofs.JudgeLaws.{⟫-stands, faults-append}
 use Rattle.linear_programming.proofs.Rows.{count}
 use Rattle.linear_programming.proofs.ResumeLaws.{resumed-whole}
 use Rattle.linear_programming.proofs.WholeProbes.{whole-fits}
@@ -40,9 +42,6 @@ failed-there (failedLine f) = refl
 ⟫-assoc : (f g : Fault) (o : Outcome) → ((f ⊳ g) ⟫ o) ≡ (f ⟫ (g ⟫ o))
 ⟫-assoc fine g o = refl
 ⟫-assoc (fault r) g o = refl
-
-no-fault : (r : ℕ) → fine ≡ fault r → ⊥
-no-fault r e = let z : _≡_ {A = ℕ} 0 1 = cc in omega arith
 
 by-four : (n : ℕ) (xs : List Float) → batchFault n xs ≡ fine → fours xs ≡ fine
 unfolding batchFault

@@ -10,7 +10,8 @@ use Rattle.common.specs.declared.Vec2.{Vec2}
 use Rattle.common.specs.Vectors.{vec}
 use Rattle.linear_programming.specs.Lines.{linesOf}
 use Rattle.linear_programming.specs.Whole.{Outcome, stands, refusal, solving, noLine}
-use Rattle.linear_programming.specs.Admit.{within, inside, wishFault, linesFault, judgedList, listCall}
+use Rattle.admission.specs.Faults.{within, inside}
+use Rattle.linear_programming.specs.Admit.{wishFault, linesFault, judgedList, listCall}
 use Rattle.linear_programming.proofs.BenchCases.{computed}
 use Rattle.session.specs.declared.Fed.{Fed}
 use Rattle.session.specs.Sessions.{blankLines, blankSession, startedBy, startedAs}

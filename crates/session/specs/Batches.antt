@@ -8,9 +8,10 @@ use lib.Ieee.{Float}
 use Rattle.linear_programming.specs.declared.Line.{Line}
 use Rattle.linear_programming.specs.Lines.{linesOf}
 use Rattle.linear_programming.specs.Whole.{Outcome, stands, refusal}
-use Rattle.linear_programming.specs.Admit.{Fault, fine, fault, must, _⊳_, _⟫_, mostLines, fours, linesFault}
+use Rattle.admission.specs.Faults.{Fault, fine, fault, must, _⊳_, judgedAs}
+use Rattle.linear_programming.specs.Admit.{_⟫_, mostLines, fours, linesFault}
 use Rattle.linear_programming.specs.Resume.{resumed}
-use Rattle.linear_programming.specs.Read.{phaseOf, phaseAs, failedOf, failedAs, judgedAs}
+use Rattle.linear_programming.specs.Read.{phaseOf, phaseAs, failedOf, failedAs}
 use Rattle.session.specs.declared.Session.{Session}
 use Rattle.session.specs.declared.Fed.{Fed}
 use Rattle.session.specs.Sessions.{linesIn}

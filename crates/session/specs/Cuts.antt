@@ -4,8 +4,7 @@ use mathlib.Core.Path.{_≡_}
 use mathlib.Core.List.{List, [], _∷_, _++_}
 use lib.ListN.{length}
 use lib.Ieee.{Float}
-use Rattle.linear_programming.specs.Admit.{fine}
-use Rattle.linear_programming.specs.Read.{faultOf}
+use Rattle.admission.specs.Faults.{fine, faultOf}
 use Rattle.session.specs.declared.Session.{Session}
 use Rattle.session.specs.Batches.{fedAs}
 

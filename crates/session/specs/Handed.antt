@@ -7,8 +7,8 @@ use lib.Ieee.{Float}
 use Rattle.common.specs.declared.Vec2.{Vec2}
 use Rattle.linear_programming.specs.Lines.{linesOf}
 use Rattle.linear_programming.specs.Whole.{Outcome, refusal}
-use Rattle.linear_programming.specs.Admit.{Fault, fine, fault, _⟫_, fours, judgedList, listCall}
-use Rattle.linear_programming.specs.Read.{faultOf}
+use Rattle.admission.specs.Faults.{Fault, fine, fault, faultOf}
+use Rattle.linear_programming.specs.Admit.{_⟫_, fours, judgedList, listCall}
 use Rattle.session.specs.declared.Session.{Session}
 use Rattle.session.specs.declared.Fed.{Fed}
 use Rattle.session.specs.Sessions.{linesIn, outcomeIn}

@@ -9,8 +9,9 @@ use Rattle.common.specs.Vectors.{vec}
 use Rattle.linear_programming.specs.declared.Line.{Line}
 use Rattle.linear_programming.specs.Lines.{line}
 use Rattle.linear_programming.specs.Whole.{solving, noLine, Outcome, stands, refusal}
-use Rattle.linear_programming.specs.Admit.{fine, fault, listCall}
-use Rattle.linear_programming.specs.Read.{phaseOf, phaseAs, failedOf, failedAs, judgedAs}
+use Rattle.admission.specs.Faults.{fine, fault, judgedAs}
+use Rattle.linear_programming.specs.Admit.{listCall}
+use Rattle.linear_programming.specs.Read.{phaseOf, phaseAs, failedOf, failedAs}
 use Rattle.session.specs.declared.Session.{Session}
 use Rattle.session.specs.declared.Fed.{Fed}
 

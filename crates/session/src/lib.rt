@@ -1,8 +1,8 @@
 // The batch session (01, "The session has three phases"): lines come in batches, and after each the session stands as the whole list of its lines does.
+use admission::Judged;
 use common::Vec2;
 use linear_programming::Answer;
 use linear_programming::FailedLine;
-use linear_programming::Judged;
 use linear_programming::Line;
 use linear_programming::Phase;
 ghost use mathlib.Core.Path.{_≡_};
@@ -10,7 +10,8 @@ ghost use Prim.Native.Nat.{_+_, _/_, _≤_};
 ghost use lib.ListN.{length};
 ghost use lib.Seq.{sets};
 ghost use Rattle.linear_programming.specs.Lines.{linesOf};
-ghost use Rattle.linear_programming.specs.Read.{faultOf, outcomeOf};
+ghost use Rattle.admission.specs.Faults.{faultOf};
+ghost use Rattle.linear_programming.specs.Read.{outcomeOf};
 ghost use Rattle.session.specs.Sessions.{blankLines, blankSession, startedAs};
 ghost use Rattle.session.specs.Batches.{batchFault, settledOn, settled, worked, fedAs};
 ghost use Rattle.session.specs.Handed.{Handed, Begins, Continues};

@@ -17,8 +17,9 @@ use Rattle.common.specs.declared.Vec2.{Vec2}
 use Rattle.common.specs.Vectors.{dotOf, lengthSquaredOf}
 use Rattle.common.proofs.VectorSizes.{Inside}
 use Rattle.linear_programming.specs.declared.Line.{Line}
-use Rattle.linear_programming.specs.Admit.{fine, must, reach, longest, lineReach, bandLow, bandHigh, within as isWithin, inside, wishFault, lineFault, linesFault}
-use Rattle.linear_programming.proofs.JudgeLaws.{⊳-fine, must-fine}
+use Rattle.admission.specs.Faults.{fine, must, within as isWithin, inside}
+use Rattle.linear_programming.specs.Admit.{reach, longest, lineReach, bandLow, bandHigh, wishFault, lineFault, linesFault}
+use Rattle.admission.proofs.FaultLaws.{⊳-fine, must-fine}
 use Rattle.linear_programming.proofs.Bounds.SolveSizes.{LineIn}
 
 pub record Admitted (l : Line) : Type 0 where

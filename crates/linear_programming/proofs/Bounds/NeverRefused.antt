@@ -24,7 +24,8 @@ use Rattle.linear_programming.specs.OneLine.{toward, along}
 use Rattle.linear_programming.specs.Pass.{Pass, finitePoint, pass}
 use Rattle.linear_programming.specs.Relax.{halfᶠ, Tight, kept, skipped, tightAt, midpoint, intersection, tighten, behind, tightenNext, tightened, Relaxed, on, depthIn, replaced, relaxLine}
 use Rattle.linear_programming.specs.Whole.{Phase, Failed, Outcome, stands, relaxedOutcome, afterPass, wholeList}
-use Rattle.linear_programming.specs.Admit.{fine, wishFault, linesFault}
+use Rattle.admission.specs.Faults.{fine}
+use Rattle.linear_programming.specs.Admit.{wishFault, linesFault}
 use Rattle.linear_programming.proofs.Bounds.SolveSizes.{LineIn, epsilon-over, Goes, start-inside, along-inside, on-line, pass-goes, aimed, pointed, goes, ends}
 use Rattle.linear_programming.proofs.Bounds.Admitted.{Admitted, wish-admitted, lines-admitted}
 use Rattle.linear_programming.proofs.Bounds.TightDirections.{not-parallel, not-one-way}

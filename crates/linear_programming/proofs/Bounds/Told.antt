@@ -12,8 +12,9 @@ use Rattle.common.specs.Vectors.{lengthSquaredOf}
 use Rattle.linear_programming.specs.declared.Line.{Line}
 use Rattle.linear_programming.specs.Lines.{linesOf}
 use Rattle.linear_programming.specs.Whole.{Phase, Failed, Outcome, stands, refusal}
-use Rattle.linear_programming.specs.Admit.{Fault, fine, fault, must, _⊳_, _⟫_, mostLines, reach, longest, lineReach, bandLow, bandHigh, within, inside, wishFault, lineFault, linesFault, judgedList, listCall}
-use Rattle.linear_programming.proofs.JudgeLaws.{⊳-fine}
+use Rattle.admission.specs.Faults.{Fault, fine, fault, must, _⊳_, within, inside}
+use Rattle.linear_programming.specs.Admit.{_⟫_, mostLines, reach, longest, lineReach, bandLow, bandHigh, wishFault, lineFault, linesFault, judgedList, listCall}
+use Rattle.admission.proofs.FaultLaws.{⊳-fine}
 use Rattle.linear_programming.proofs.Bounds.NeverRefused.{Stood, stood, never-refused}
 
 pub data Told : Outcome → Type 0 where

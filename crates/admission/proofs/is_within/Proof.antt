@@ -1,8 +1,8 @@
--- `linear_programming::judge::is_within` meets its contract. Assumes nothing.
-use Rattle.linear_programming.specs.Admit.{within}
+-- `admission::is_within` meets its contract. Assumes nothing.
+use Rattle.admission.specs.Faults.{within}
 use borrow.Author.Needs.{needs}
-use Rattle.linear_programming.proofs.judge.is_within.Statement.{statement}
-use Rattle.linear_programming.proofs.judge.is_within.Tie as tie
+use Rattle.admission.proofs.is_within.Statement.{statement}
+use Rattle.admission.proofs.is_within.Tie as tie
 
 abs-requires : tie.Need-abs-requires
 abs-requires c κs = search needs

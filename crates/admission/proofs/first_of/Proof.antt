@@ -1,7 +1,7 @@
--- `linear_programming::judge::first_of` meets its contract. Assumes nothing.
+-- `admission::first_of` meets its contract. Assumes nothing.
 use borrow.Author.Needs.{needs}
-use Rattle.linear_programming.proofs.judge.first_of.Statement.{statement}
-use Rattle.linear_programming.proofs.judge.first_of.Tie as tie
+use Rattle.admission.proofs.first_of.Statement.{statement}
+use Rattle.admission.proofs.first_of.Tie as tie
 
 enum-told : tie.Need-enum-told
 enum-told c = search needs

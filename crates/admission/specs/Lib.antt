@@ -1,0 +1,2 @@
+-- The definitions that the contracts of `admission` cite.
+pub mod Faults
