@@ -3,6 +3,8 @@
 mod builds;
 mod checks;
 mod common_vectors;
+mod coverage_table;
+mod cut_vectors;
 mod line_lists;
 mod list_vectors;
 mod random;
@@ -11,8 +13,7 @@ mod words;
 use std::process::ExitCode;
 use std::{env, fs};
 
-const USAGE: &str =
-    "usage: oracle self-check | oracle vectors common FILE | oracle vectors lists FILE";
+const USAGE: &str = "usage: oracle self-check | oracle vectors common|lists|cuts FILE";
 
 fn main() -> ExitCode {
     let arguments: Vec<String> = env::args().skip(1).collect();
@@ -20,7 +21,8 @@ fn main() -> ExitCode {
     let outcome = match arguments[..] {
         ["self-check"] => checks::run_all(),
         ["vectors", "common", file] => write_file(file, &common_vectors::bytes()),
-        ["vectors", "lists", file] => write_lists(file),
+        ["vectors", "lists", file] => write_covered(file, list_vectors::bytes()),
+        ["vectors", "cuts", file] => write_covered(file, cut_vectors::bytes()),
         _ => Err(USAGE.to_string()),
     };
     match outcome {
@@ -32,9 +34,12 @@ fn main() -> ExitCode {
     }
 }
 
-/// Prints what the lists cover.
-fn write_lists(file: &str) -> Result<(), String> {
-    let (bytes, table) = list_vectors::bytes()?;
+/// Bytes of a set, and the table of what they cover.
+type Covered = Result<(Vec<u8>, String), String>;
+
+/// Prints the table as well.
+fn write_covered(file: &str, covered: Covered) -> Result<(), String> {
+    let (bytes, table) = covered?;
     write_file(file, &bytes)?;
     print!("{table}");
     Ok(())

@@ -1,4 +1,7 @@
 -- The definitions that the contracts of `replay` cite.
 pub mod Answers
 pub mod CommonSet
+pub mod CutsSet
 pub mod ListsSet
+pub mod Records
+pub mod Standings

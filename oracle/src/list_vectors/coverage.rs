@@ -7,6 +7,7 @@ use super::call::Call;
 use super::judge::{BAND_HIGH, BAND_LOW, LINE_REACH, LONGEST, REACH};
 use super::{Case, Outcome};
 use crate::builds::Solved;
+use crate::coverage_table;
 
 enum Test {
     /// The counted build took the branch.
@@ -117,19 +118,7 @@ const ROWS: &[(&str, Test)] = &[
 
 /// The table; or the rows that no list shows.
 pub fn table(cases: &[Case]) -> Result<String, String> {
-    let mut table = format!("| Lists with | {} in all |\n|---|---|\n", cases.len());
-    let mut missing = Vec::new();
-    for (row, test) in ROWS {
-        let count = cases.iter().filter(|case| passes(test, case)).count();
-        table += &format!("| {row} | {count} |\n");
-        if count == 0 {
-            missing.push(*row);
-        }
-    }
-    if missing.is_empty() {
-        return Ok(table);
-    }
-    Err(format!("{table}no list shows: {}", missing.join("; ")))
+    coverage_table::of(cases, ROWS, passes)
 }
 
 /// Whether the case is one of those that the row counts.

@@ -12,25 +12,27 @@ use crate::random::Random;
 /// The solver's tolerance for parallel lines, 0.00001.
 const TOLERANCE: f32 = f32::from_bits(0x3727_C5AC);
 
-const SHORT: usize = 12;
+pub const SHORT: usize = 12;
 
 /// Any layout of the self-check.
 pub fn short(random: &mut Random) -> Call {
     let count = random.below(SHORT + 1);
-    let list = random_list_of(random, count);
-    with_rigid_count(random, list)
+    of_length(random, count)
 }
 
 /// Between the short lists and the longest.
 pub fn long(random: &mut Random) -> Call {
     let count = SHORT + 1 + random.below(MOST_LINES - SHORT - 2);
-    let list = random_list_of(random, count);
-    with_rigid_count(random, list)
+    of_length(random, count)
 }
 
 /// As many lines as there may be, or one less.
 pub fn full(random: &mut Random) -> Call {
     let count = MOST_LINES - random.below(2);
+    of_length(random, count)
+}
+
+pub fn of_length(random: &mut Random, count: usize) -> Call {
     let list = random_list_of(random, count);
     with_rigid_count(random, list)
 }
@@ -176,7 +178,7 @@ fn lines_of(random: &mut Random, mut line: impl FnMut(&mut Random) -> Line) -> V
 }
 
 /// A rigid count that decides what a failure becomes: none, the failed line's index, one more, above the lines, or any.
-fn with_rigid_count(random: &mut Random, list: LineList) -> Call {
+pub fn with_rigid_count(random: &mut Random, list: LineList) -> Call {
     let mut call = Call::new(&list);
     let above = list.lines.len() + 1 + random.below(3);
     let (_, counts) = solve_counted(&LineList {

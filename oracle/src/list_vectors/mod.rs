@@ -5,11 +5,11 @@
 //! Answers to admitted lists are the Rust's: the point of the plain build, which the counted one must give too, the rest
 //! of the counted one. Refusals are those of judge.rs. coverage.rs says what the lists must show, all of it.
 
-mod call;
+pub mod call;
 mod coverage;
-mod judge;
-mod made;
-mod named;
+pub mod judge;
+pub mod made;
+pub mod named;
 mod refused;
 
 use std::panic;
@@ -18,6 +18,7 @@ use dodgy_counted::Branch;
 use glam::Vec2;
 
 use crate::builds::{solve_both, Solved};
+use crate::line_lists::LineList;
 use crate::random::Random;
 use crate::words::Words;
 use call::Call;
@@ -80,7 +81,7 @@ pub fn bytes() -> Result<(Vec<u8>, String), String> {
 fn ask(call: Call) -> Result<Case, String> {
     let faults = judge::faults(&call);
     let outcome = if faults.is_empty() {
-        Outcome::Solved(ask_rust(&call)?)
+        Outcome::Solved(ask_rust(&call.to_list())?)
     } else {
         Outcome::Refused(faults)
     };
@@ -88,9 +89,8 @@ fn ask(call: Call) -> Result<Case, String> {
 }
 
 /// An admitted list has a finite answer: the definition of the build has no refusal left that it could get.
-fn ask_rust(call: &Call) -> Result<Solved, String> {
-    let list = call.to_list();
-    let solved = panic::catch_unwind(|| solve_both(&list))
+pub fn ask_rust(list: &LineList) -> Result<Solved, String> {
+    let solved = panic::catch_unwind(|| solve_both(list))
         .map_err(|_| format!("the Rust panics on an admitted list: {list}"))??;
     let (Ok(point) | Err(point)) = solved.answer;
     let penetration = solved.counts.penetration.unwrap_or(0.0);
@@ -101,15 +101,7 @@ fn ask_rust(call: &Call) -> Result<Solved, String> {
 }
 
 fn write_record(words: &mut Words, case: &Case) {
-    let call = &case.call;
-    words.word(call.numbers.len() as u32);
-    words.word(call.rigid_count);
-    words.bits(call.limit);
-    words.bits(call.wish.x);
-    words.bits(call.wish.y);
-    for number in &call.numbers {
-        words.bits(*number);
-    }
+    write_call(words, &case.call);
     match &case.outcome {
         Outcome::Solved(solved) => write_solved(words, solved),
         Outcome::Refused(faults) => {
@@ -118,7 +110,18 @@ fn write_record(words: &mut Words, case: &Case) {
     }
 }
 
-fn write_solved(words: &mut Words, solved: &Solved) {
+pub fn write_call(words: &mut Words, call: &Call) {
+    words.word(call.numbers.len() as u32);
+    words.word(call.rigid_count);
+    words.bits(call.limit);
+    words.bits(call.wish.x);
+    words.bits(call.wish.y);
+    for number in &call.numbers {
+        words.bits(*number);
+    }
+}
+
+pub fn write_solved(words: &mut Words, solved: &Solved) {
     let counts = &solved.counts;
     let (Ok(point) | Err(point)) = solved.answer;
     let kind = match (solved.answer, counts.failed_line) {

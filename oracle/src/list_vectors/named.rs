@@ -7,7 +7,7 @@ use super::call::Call;
 use super::judge::{LINE_REACH, LONGEST, REACH};
 use super::{ask, coverage, Case};
 
-pub fn cases() -> Result<Vec<Case>, String> {
+pub(super) fn cases() -> Result<Vec<Case>, String> {
     let mut cases = Vec::new();
     for (row, call) in calls() {
         let case = ask(call)?;
@@ -24,7 +24,8 @@ type Numbers = [f32; 4];
 
 const AHEAD: Numbers = [0.0, 1.0, 1.0, 0.0];
 
-fn calls() -> Vec<(&'static str, Call)> {
+/// Each with its row.
+pub fn calls() -> Vec<(&'static str, Call)> {
     let mut calls = surprising();
     calls.extend(at_ends());
     calls.extend(faulty());

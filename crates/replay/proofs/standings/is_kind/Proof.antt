@@ -1,8 +1,8 @@
--- `replay::lists_set::is_kind` meets its contract. Assumes nothing.
+-- `replay::standings::is_kind` meets its contract. Assumes nothing.
 use borrow.Author.Needs.{needs}
-use Rattle.replay.specs.ListsSet.{isKind}
-use Rattle.replay.proofs.lists_set.is_kind.Statement.{statement}
-use Rattle.replay.proofs.lists_set.is_kind.Tie as tie
+use Rattle.replay.specs.Standings.{isKind}
+use Rattle.replay.proofs.standings.is_kind.Statement.{statement}
+use Rattle.replay.proofs.standings.is_kind.Tie as tie
 
 word-at-requires : tie.Need-word-at-requires
 word-at-requires c κs = search needs

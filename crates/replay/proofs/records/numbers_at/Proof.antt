@@ -1,4 +1,4 @@
--- `replay::lists_set::numbers_at` meets its contract. The invariant: the first i numbers are those of the bytes. Assumes nothing.
+-- `replay::records::numbers_at` meets its contract. The invariant: the first i numbers are those of the bytes. Assumes nothing.
 use Prim.Native.Nat.{_-_, _≤_}
 use mathlib.Core.Path.{_≡_, refl}
 use native.Mathlib.Omega.{arith}
@@ -6,9 +6,9 @@ use native.Mathlib.Numerals.{add-one}
 use lib.ListN.{length, take, length-set}
 use lib.Seq.{take-suc-set}
 use borrow.Author.Needs.{needs}
-use Rattle.replay.specs.ListsSet.{numbersOf}
-use Rattle.replay.proofs.lists_set.numbers_at.Statement.{statement}
-use Rattle.replay.proofs.lists_set.numbers_at.Tie as tie
+use Rattle.replay.specs.Records.{numbersOf}
+use Rattle.replay.proofs.records.numbers_at.Statement.{statement}
+use Rattle.replay.proofs.records.numbers_at.Tie as tie
 
 abbrev Inv-loop : tie.InvT-loop
 Inv-loop bytes count numbers₀ i₀ numbers i =

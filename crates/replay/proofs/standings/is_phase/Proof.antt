@@ -1,8 +1,8 @@
--- `replay::lists_set::is_phase` meets its contract. Assumes nothing.
+-- `replay::standings::is_phase` meets its contract. Assumes nothing.
 use borrow.Author.Needs.{needs}
-use Rattle.replay.specs.ListsSet.{isPhase}
-use Rattle.replay.proofs.lists_set.is_phase.Statement.{statement}
-use Rattle.replay.proofs.lists_set.is_phase.Tie as tie
+use Rattle.replay.specs.Standings.{isPhase}
+use Rattle.replay.proofs.standings.is_phase.Statement.{statement}
+use Rattle.replay.proofs.standings.is_phase.Tie as tie
 
 enum-known-phase : tie.Need-enum-known-phase
 enum-known-phase c = search needs

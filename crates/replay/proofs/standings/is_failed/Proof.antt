@@ -1,8 +1,8 @@
--- `replay::lists_set::is_failed` meets its contract. Assumes nothing.
+-- `replay::standings::is_failed` meets its contract. Assumes nothing.
 use borrow.Author.Needs.{needs}
-use Rattle.replay.specs.ListsSet.{isFailed}
-use Rattle.replay.proofs.lists_set.is_failed.Statement.{statement}
-use Rattle.replay.proofs.lists_set.is_failed.Tie as tie
+use Rattle.replay.specs.Standings.{isFailed}
+use Rattle.replay.proofs.standings.is_failed.Statement.{statement}
+use Rattle.replay.proofs.standings.is_failed.Tie as tie
 
 word-at-requires : tie.Need-word-at-requires
 word-at-requires c κs = search needs

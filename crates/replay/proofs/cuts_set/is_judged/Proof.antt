@@ -1,0 +1,54 @@
+-- `replay::cuts_set::is_judged` meets its contract. Assumes nothing.
+use borrow.Author.Needs.{needs}
+use Rattle.replay.specs.CutsSet.{isJudged}
+use Rattle.replay.proofs.cuts_set.is_judged.Statement.{statement}
+use Rattle.replay.proofs.cuts_set.is_judged.Tie as tie
+
+enum-told : tie.Need-enum-told
+enum-told c = search needs
+
+enum-told-2 : tie.Need-enum-told-2
+enum-told-2 c = search needs
+
+enum-told-3 : tie.Need-enum-told-3
+enum-told-3 c = search needs
+
+enum-known-judged : tie.Need-enum-known-judged
+enum-known-judged c = search needs
+
+enum-told-4 : tie.Need-enum-told-4
+enum-told-4 c = search needs
+
+enum-known-expected : tie.Need-enum-known-expected
+enum-known-expected c = search needs
+
+returns : tie.Need-returns
+unfolding isJudged
+returns c = simp (c .enum-told2 .given .1, c .before .before .enum-told .given .1)
+
+returns-2 : tie.Need-returns-2
+unfolding isJudged
+returns-2 c = simp (c .enum-told3 .given .1, c .before .before .enum-told .given .1)
+
+returns-3 : tie.Need-returns-3
+unfolding isJudged
+returns-3 c = simp (c .enum-told4 .given .1, c .before .before .before .judged .given .1)
+
+returns-4 : tie.Need-returns-4
+unfolding isJudged
+returns-4 c = simp (c .before .expected .given .1, c .before .before .before .before .judged .given .1)
+
+pub is-judged-spec : {M : Type 1} → statement M
+is-judged-spec =
+    tie.close
+    (tie.spec
+    enum-told
+    enum-told-2
+    enum-told-3
+    enum-known-judged
+    enum-told-4
+    enum-known-expected
+    returns
+    returns-2
+    returns-3
+    returns-4)

@@ -1,0 +1,10 @@
+-- The numbers of a line list's record. Definitions only. Assumes nothing.
+use Prim.Native.Nat.{ℕ, _*_, zero, suc}
+use mathlib.Core.List.{List, [], _∷_, _++_}
+use lib.Ieee.{Float}
+use Rattle.replay.specs.Answers.{numberAt}
+
+-- the first n numbers
+unfoldable pub numbersOf : List ℕ → ℕ → List Float
+numbersOf s zero = []
+numbersOf s (suc n) = numbersOf s n ++ (numberAt s (4 * n) ∷ [])

@@ -1,0 +1,61 @@
+// How lines stand against an answer, six words from a place on: kind, point (2), penetration, failed line, probes.
+use crate::answers::agrees;
+use linear_programming::FailedLine;
+use linear_programming::Phase;
+ghost use mathlib.Core.Path.{_≡_};
+ghost use Prim.Native.Nat.{_<_};
+ghost use Rattle.common.specs.Vectors.{vec};
+ghost use Rattle.linear_programming.specs.Read.{phaseOf, failedOf};
+ghost use Rattle.replay.specs.Standings.{isKind, isPhase, isFailed, isStanding};
+
+// Whether phase, failed line and probes are those of the answer at the place.
+pub(crate) fn is_standing(
+    bytes: &[u8],
+    at: usize,
+    phase: Phase,
+    failed: FailedLine,
+    probes: u32,
+) -> bool
+    requires { ⌜ at < 65536 ⌝ }
+    ensures { λ r. ⌜ r ≡ isStanding (now (bytes .entry)) at (phaseOf phase) (failedOf failed) probes ⌝ }
+{
+    is_phase(bytes, at, phase)
+        & is_failed(bytes, at + 16, failed)
+        & (words::word_at(bytes, at + 20) == probes)
+}
+
+// Whether the phase is the one of the answer at the place. A rigid failure's own index is the failed line, too.
+fn is_phase(bytes: &[u8], at: usize, phase: Phase) -> bool
+    requires { ⌜ at < 65536 ⌝ }
+    ensures { λ r. ⌜ r ≡ isPhase (now (bytes .entry)) at (phaseOf phase) ⌝ }
+{
+    match phase {
+        Phase::Solving(x, y) => is_kind(bytes, at, 0, x, y, 0.0),
+        Phase::Relaxing(x, y, penetration) => is_kind(bytes, at, 1, x, y, penetration),
+        Phase::RigidFailure(k, x, y) => {
+            is_kind(bytes, at, 2, x, y, 0.0) & (words::word_at(bytes, at + 16) as usize == k)
+        }
+    }
+}
+
+// Whether kind, point and penetration are those of the answer at the place.
+pub(crate) fn is_kind(bytes: &[u8], at: usize, kind: u32, x: f32, y: f32, penetration: f32) -> bool
+    requires { ⌜ at < 65536 ⌝ }
+    ensures { λ r. ⌜ r ≡ isKind (now (bytes .entry)) at kind (vec x y) penetration ⌝ }
+{
+    (words::word_at(bytes, at) == kind)
+        & agrees(x, words::word_at(bytes, at + 4))
+        & agrees(y, words::word_at(bytes, at + 8))
+        & agrees(penetration, words::word_at(bytes, at + 12))
+}
+
+// Whether the failed line is the one at the place, where FFFFFFFF stands for none.
+pub(crate) fn is_failed(bytes: &[u8], at: usize, failed: FailedLine) -> bool
+    ensures { λ r. ⌜ r ≡ isFailed (now (bytes .entry)) at (failedOf failed) ⌝ }
+{
+    let word = words::word_at(bytes, at) as usize;
+    match failed {
+        FailedLine::NoLine => word == 0xffff_ffff,
+        FailedLine::At(failure) => word == failure.index,
+    }
+}
