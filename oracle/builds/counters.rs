@@ -4,6 +4,7 @@
 use std::cell::Cell;
 
 pub mod branches;
+pub mod edge_branches;
 
 #[derive(Clone, Copy, PartialEq, Debug)]
 pub struct Counts {
@@ -37,6 +38,7 @@ pub fn counts() -> Counts {
 pub fn reset() {
     COUNTS.set(NOTHING_COUNTED);
     branches::reset();
+    edge_branches::reset();
 }
 
 pub fn probe() {

@@ -1,5 +1,8 @@
 //! The places of linear_programming.rs where the counted build counts, and where it notes which branch is
-//! taken. Text is only inserted, within a line, so that the rest stays as given, line by line.
+//! taken; those of obstacles.rs are in edge_hooks.rs. Text is only inserted, within a line, so that the rest stays
+//! as given, line by line.
+
+pub mod edge_hooks;
 
 /// `inserted` goes between `before` and `after`, which together must stand in the file exactly once.
 pub struct Hook {
@@ -118,9 +121,9 @@ pub const HOOKS: [Hook; 16] = [
 ];
 
 /// The text with every hook's insertion, or which hook does not fit it and why.
-pub fn insert_counters(text: &str) -> Result<String, String> {
+pub fn insert_counters(hooks: &[Hook], text: &str) -> Result<String, String> {
     let mut insertions = Vec::new();
-    for hook in &HOOKS {
+    for hook in hooks {
         insertions.push((place_of(hook, text)?, hook.inserted));
     }
     insertions.sort();

@@ -5,6 +5,8 @@ mod checks;
 mod common_vectors;
 mod coverage_table;
 mod cut_vectors;
+mod edge_vectors;
+mod encounters;
 mod line_lists;
 mod list_vectors;
 mod random;
@@ -13,7 +15,7 @@ mod words;
 use std::process::ExitCode;
 use std::{env, fs};
 
-const USAGE: &str = "usage: oracle self-check | oracle vectors common|lists|cuts FILE";
+const USAGE: &str = "usage: oracle self-check | oracle vectors common|lists|cuts|edges FILE";
 
 fn main() -> ExitCode {
     let arguments: Vec<String> = env::args().skip(1).collect();
@@ -23,6 +25,7 @@ fn main() -> ExitCode {
         ["vectors", "common", file] => write_file(file, &common_vectors::bytes()),
         ["vectors", "lists", file] => write_covered(file, list_vectors::bytes()),
         ["vectors", "cuts", file] => write_covered(file, cut_vectors::bytes()),
+        ["vectors", "edges", file] => write_covered(file, edge_vectors::bytes()),
         _ => Err(USAGE.to_string()),
     };
     match outcome {

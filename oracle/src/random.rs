@@ -62,6 +62,24 @@ impl Random {
         self.signed(magnitude)
     }
 
+    /// At the ends of what reaches to `reach`: 0, the smallest numbers, 1, `reach` and just below; else any. Either sign.
+    pub fn extreme(&mut self, reach: f32) -> f32 {
+        let smallest = f32::from_bits(1);
+        let any = self.magnitude(smallest, reach);
+        let subnormal = self.magnitude(smallest, f32::MIN_POSITIVE);
+        let number = self.pick(&[
+            0.0,
+            smallest,
+            subnormal,
+            f32::MIN_POSITIVE,
+            any,
+            1.0,
+            reach.next_down(),
+            reach,
+        ]);
+        self.signed(number)
+    }
+
     /// A whole number from `-size` to `size`, its zero with either sign.
     pub fn whole(&mut self, size: usize) -> f32 {
         let magnitude = self.below(size + 1) as f32;

@@ -44,6 +44,11 @@ impl Words {
         self.bytes.extend_from_slice(&word.to_be_bytes());
     }
 
+    /// Two words, the high one first.
+    pub fn long_word(&mut self, word: u64) {
+        self.bytes.extend_from_slice(&word.to_be_bytes());
+    }
+
     pub fn number(&mut self, number: f32) {
         self.word(word_of(number));
     }

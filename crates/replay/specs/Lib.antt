@@ -2,6 +2,7 @@
 pub mod Answers
 pub mod CommonSet
 pub mod CutsSet
+pub mod EdgesSet
 pub mod ListsSet
 pub mod Records
 pub mod Standings

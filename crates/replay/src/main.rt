@@ -2,6 +2,7 @@
 mod answers;
 mod common_set;
 mod cuts_set;
+mod edges_set;
 mod lists_set;
 mod records;
 mod standings;
@@ -10,4 +11,5 @@ fn main() {
     common_set::replay();
     lists_set::replay();
     cuts_set::replay();
+    edges_set::replay();
 }

@@ -4,65 +4,26 @@
 use glam::Vec2;
 
 use super::Outcome;
-use crate::words::{hex, hex_vector};
+use crate::encounters::{edge_lines, EdgeLine, Encounter};
 
 struct Case {
     name: &'static str,
-    closed: bool,
-    vertices: Vec<Vec2>,
-    margin: f32,
-    /// Point and direction of each line.
-    lines: Vec<(Vec2, Vec2)>,
-}
-
-/// One text for both builds, whose types differ though their names agree.
-macro_rules! edge_lines {
-    ($build:ident, $case:expr) => {{
-        let agent = $build::Agent {
-            position: Vec2::ZERO,
-            velocity: Vec2::ZERO,
-            radius: 0.0,
-            avoidance_responsibility: 1.0,
-        };
-        let vertices = $case.vertices.clone();
-        let obstacle = if $case.closed {
-            $build::Obstacle::Closed { vertices }
-        } else {
-            $build::Obstacle::Open { vertices }
-        };
-        $build::get_lines_for_agent_to_obstacle(&agent, &obstacle, $case.margin, 1.0)
-            .iter()
-            .map(|line| (line.point, line.direction))
-            .collect::<Vec<(Vec2, Vec2)>>()
-    }};
+    encounter: Encounter,
+    lines: Vec<EdgeLine>,
 }
 
 pub fn check() -> Outcome {
     let cases = cases();
     for case in &cases {
-        compare(case, "plain", edge_lines!(dodgy_plain, case))?;
-        compare(case, "counted", edge_lines!(dodgy_counted, case))?;
+        let lines = edge_lines(&case.encounter)?.lines;
+        if lines != case.lines {
+            return Err(format!(
+                "{} gives {lines:?}, not {:?}: {}",
+                case.name, case.lines, case.encounter
+            ));
+        }
     }
     Ok(format!("{} cases", cases.len()))
-}
-
-fn compare(case: &Case, build: &str, lines: Vec<(Vec2, Vec2)>) -> Result<(), String> {
-    if lines == case.lines {
-        return Ok(());
-    }
-    let vertices: Vec<String> = case
-        .vertices
-        .iter()
-        .map(|vertex| hex_vector(*vertex))
-        .collect();
-    Err(format!(
-        "{} ({build}) gives {lines:?}, not {:?}: closed {} margin {} vertices {}",
-        case.name,
-        case.lines,
-        case.closed,
-        hex(case.margin),
-        vertices.join(" "),
-    ))
 }
 
 fn cases() -> Vec<Case> {
@@ -71,38 +32,39 @@ fn cases() -> Vec<Case> {
     vec![
         Case {
             name: "P11, margin 2",
-            closed: false,
-            vertices: vec![left, right],
-            margin: 2.0,
+            encounter: at_rest(false, vec![left, right], 2.0),
             lines: vec![(Vec2::ZERO, backwards)],
         },
         Case {
             name: "P11, margin 0.5",
-            closed: false,
-            vertices: vec![left, right],
-            margin: 0.5,
+            encounter: at_rest(false, vec![left, right], 0.5),
             lines: vec![(Vec2::new(-1.0, 0.5), backwards)],
         },
         Case {
             name: "P11, margin 2, vertices exchanged",
-            closed: false,
-            vertices: vec![right, left],
-            margin: 2.0,
+            encounter: at_rest(false, vec![right, left], 2.0),
             lines: vec![],
         },
         Case {
             name: "P11, margin 0.5, vertices exchanged",
-            closed: false,
-            vertices: vec![right, left],
-            margin: 0.5,
+            encounter: at_rest(false, vec![right, left], 0.5),
             lines: vec![],
         },
         Case {
             name: "P12, vertex (5,0)",
-            closed: true,
-            vertices: vec![Vec2::new(5.0, 0.0)],
-            margin: 1.0,
+            encounter: at_rest(true, vec![Vec2::new(5.0, 0.0)], 1.0),
             lines: vec![],
         },
     ]
+}
+
+fn at_rest(closed: bool, vertices: Vec<Vec2>, margin: f32) -> Encounter {
+    Encounter {
+        closed,
+        vertices,
+        position: Vec2::ZERO,
+        velocity: Vec2::ZERO,
+        margin,
+        horizon: 1.0,
+    }
 }

@@ -1,19 +1,29 @@
-//! Taking the inserted text out of the counted solver leaves the file that the plain build compiled.
+//! Taking the inserted text out of the counted solver and edges leaves the files that the plain build compiled.
 
-use hooks::{HOOKS, MARK};
+use hooks::edge_hooks::EDGE_HOOKS;
+use hooks::{Hook, HOOKS, MARK};
 
 use super::Outcome;
 
 pub fn check() -> Outcome {
-    let mut rest = dodgy_counted::SOLVER_TEXT.to_string();
+    let solver = compare(&HOOKS, dodgy_counted::SOLVER_TEXT, dodgy_plain::SOLVER_TEXT)?;
+    let edges = compare(
+        &EDGE_HOOKS,
+        dodgy_counted::EDGES_TEXT,
+        dodgy_plain::EDGES_TEXT,
+    )?;
+    Ok(format!("{solver}; {edges}"))
+}
+
+fn compare(hooks: &[Hook], counted: &str, given: &str) -> Outcome {
+    let mut rest = counted.to_string();
     let marks = rest.matches(MARK).count();
-    if marks != HOOKS.len() {
-        return Err(format!("{} hooks, but {marks} inserted texts", HOOKS.len()));
+    if marks != hooks.len() {
+        return Err(format!("{} hooks, but {marks} inserted texts", hooks.len()));
     }
-    for hook in &HOOKS {
+    for hook in hooks {
         rest = rest.replace(hook.inserted, "");
     }
-    let given = dodgy_plain::SOLVER_TEXT;
     if rest != given {
         return Err(first_difference(given, &rest));
     }

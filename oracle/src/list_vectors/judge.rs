@@ -1,6 +1,8 @@
 //! What is admitted, written from the definition of the build alone: "What is admitted", and the order of a
 //! line list in "Refusal numbers". Ends are admitted; a NaN fails every rule.
 
+use glam::Vec2;
+
 use super::call::Call;
 
 pub const REACH: f32 = 65_536.0;
@@ -24,14 +26,26 @@ pub fn faults(call: &Call) -> Vec<u32> {
     must(call.wish.y.abs() <= REACH, 6);
     must((0.0..=LONGEST).contains(&call.limit), 6);
     for (point, direction) in call.lines() {
-        must(point.x.abs() <= LINE_REACH, 6);
-        must(point.y.abs() <= LINE_REACH, 6);
-        must(direction.x.is_finite(), 6);
-        must(direction.y.is_finite(), 6);
-        must(
-            (BAND_LOW..=BAND_HIGH).contains(&direction.dot(direction)),
-            7,
-        );
+        faults.extend(line_faults(point, direction));
     }
+    faults
+}
+
+/// Every fault of a line.
+pub fn line_faults(point: Vec2, direction: Vec2) -> Vec<u32> {
+    let mut faults = Vec::new();
+    let mut must = |rule: bool, number: u32| {
+        if !rule {
+            faults.push(number);
+        }
+    };
+    must(point.x.abs() <= LINE_REACH, 6);
+    must(point.y.abs() <= LINE_REACH, 6);
+    must(direction.x.is_finite(), 6);
+    must(direction.y.is_finite(), 6);
+    must(
+        (BAND_LOW..=BAND_HIGH).contains(&direction.dot(direction)),
+        7,
+    );
     faults
 }

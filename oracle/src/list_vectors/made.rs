@@ -89,7 +89,7 @@ pub fn direction_with_dot(random: &mut Random, dot: f32) -> Vec2 {
 pub fn extreme(random: &mut Random) -> Call {
     let list = LineList {
         wish: extreme_vector(random, REACH),
-        limit: extreme_number(random, LONGEST),
+        limit: random.extreme(LONGEST),
         rigid_count: 0,
         lines: lines_of(random, |random| Line {
             point: extreme_vector(random, LINE_REACH),
@@ -105,38 +105,15 @@ pub fn extreme(random: &mut Random) -> Call {
 }
 
 fn extreme_vector(random: &mut Random, reach: f32) -> Vec2 {
-    Vec2::new(extreme_number(random, reach), extreme_number(random, reach))
-}
-
-fn extreme_number(random: &mut Random, reach: f32) -> f32 {
-    let smallest = f32::from_bits(1);
-    let any = random.magnitude(smallest, reach);
-    let subnormal = random.magnitude(smallest, f32::MIN_POSITIVE);
-    let number = random.pick(&[
-        0.0,
-        smallest,
-        subnormal,
-        f32::MIN_POSITIVE,
-        any,
-        1.0,
-        reach.next_down(),
-        reach,
-    ]);
-    random.signed(number)
+    Vec2::new(random.extreme(reach), random.extreme(reach))
 }
 
 fn extreme_direction(random: &mut Random) -> Vec2 {
     let end = random.pick(&[BAND_LOW, BAND_HIGH]);
     match random.below(4) {
         0 => direction_with_dot(random, end),
-        1 => Vec2::new(
-            random.signed(1.0),
-            extreme_number(random, f32::MIN_POSITIVE),
-        ),
-        2 => Vec2::new(
-            extreme_number(random, f32::MIN_POSITIVE),
-            random.signed(1.0),
-        ),
+        1 => Vec2::new(random.signed(1.0), random.extreme(f32::MIN_POSITIVE)),
+        2 => Vec2::new(random.extreme(f32::MIN_POSITIVE), random.signed(1.0)),
         _ => random.direction(),
     }
 }

@@ -1,0 +1,29 @@
+-- A list of numbers read by twos: which vertices it holds, and how many a part of it has. Assumes nothing.
+use Prim.Native.Nat.{ℕ, zero, suc, _+_, _*_, _/_, _≤_}
+use mathlib.Core.Path.{_≡_, refl}
+use mathlib.Core.List.{List, [], _∷_}
+use native.Mathlib.Omega.{arith}
+use native.Mathlib.Numerals.{add-one}
+use lib.ListN.{length, getD, take, drop, length-drop}
+use lib.Seq.{length-take-le}
+use lib.Ieee.{Float, nan}
+use Rattle.common.specs.Vectors.{vec}
+use Rattle.obstacles.specs.Vertices.{verticesOf, vertexAt}
+
+pub nth : (b : List Float) (i k : ℕ) → k ≡ 2 * i → k + 2 ≤ length b → vertexAt (verticesOf b) i ≡ vec (getD b k nan) (getD b (k + 1) nan)
+unfolding verticesOf
+nth [] i k e h = absurd (omega arith)
+nth (x ∷ []) i k e h = absurd (omega arith)
+nth (x ∷ y ∷ r) zero k e h =
+    let f : k ≡ 0 = omega arith in
+    rw f refl
+nth (x ∷ y ∷ r) (suc i) k e h =
+    let f : k ≡ suc (suc (2 * i)) = omega arith in
+    let ih = nth r i (2 * i) refl (omega arith) in
+    rw (f, add-one) (rw add-one at ih)
+
+-- the numbers of count vertices from the vertex offset on are count vertices
+pub part-size : (b : List Float) (offset count : ℕ) → offset + count ≤ length b / 2 → length (take (2 * count) (drop (2 * offset) b)) / 2 ≡ count
+part-size b offset count h =
+    let k : length (take (2 * count) (drop (2 * offset) b)) ≡ 2 * count = length-take-le (2 * count) (drop (2 * offset) b) (rw length-drop (omega arith)) in
+    rw k (omega arith)

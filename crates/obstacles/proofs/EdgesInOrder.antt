@@ -1,0 +1,86 @@
+-- The edges in order: one edge more, a refusal that stays, and what every fault-free answer has. Assumes nothing.
+use Prim.Native.Nat.{ℕ, zero, suc, _+_, _-_, _≤_}
+use mathlib.Core.Path.{_≡_, refl}
+use mathlib.Core.List.{List, [], _∷_, _++_}
+use native.Mathlib.Omega.{arith}
+use native.Mathlib.Nat.{zero-add, suc-add}
+use native.Mathlib.Numerals.{add-one}
+use lib.Dec.{eqb}
+use lib.ListN.{length, length-append}
+use lib.Ieee.{Float}
+use Rattle.arithmetic.proofs.Choice.{if-all}
+use Rattle.arithmetic.proofs.Lists.{All, none, all-snoc}
+use Rattle.common.specs.declared.Vec2.{Vec2}
+use Rattle.linear_programming.specs.declared.Line.{Line}
+use Rattle.admission.specs.Faults.{Fault, fine, fault}
+use Rattle.linear_programming.specs.Admit.{lineFault}
+use Rattle.obstacles.specs.declared.Agent.{Agent}
+use Rattle.obstacles.specs.Edges.{EdgeLine, nothing, made}
+use Rattle.obstacles.specs.Vertices.{edgeAt}
+use Rattle.obstacles.specs.EdgeLines.{lineForEdge}
+use Rattle.obstacles.specs.Obstacles.{Answer, lines, refused, Admitted, kept, nothingKept, notAdmitted, unlessFault, admitted, behind, addEdge, linesUpTo, edgeCount, obstacleLines}
+
+-- the answer refuses, or its lines are at most n and each is admitted
+pub data Sound (n : ℕ) : Answer → Type 0 where
+  refuses : {r : ℕ} → Sound n (refused r)
+  stands : {ls : List Line} → length ls ≤ n → All (λ (l : Line). lineFault l ≡ fine) ls → Sound n (lines ls)
+
+unless-sound : (n : ℕ) (ls : List Line) (l : Line) (f : Fault) → lineFault l ≡ f → length ls ≤ n → All (λ (x : Line). lineFault x ≡ fine) ls → Sound (suc n) (behind ls (unlessFault f l))
+unless-sound n ls l fine e short all = stands {ls = ls ++ (l ∷ [])} (rw length-append (omega arith)) (all-snoc all e)
+unless-sound n ls l (fault r) e short all = refuses
+
+behind-sound : (n : ℕ) (ls : List Line) (e : EdgeLine) → length ls ≤ n → All (λ (x : Line). lineFault x ≡ fine) ls → Sound (suc n) (behind ls (admitted e))
+unfolding admitted
+behind-sound n ls nothing short all = stands {ls = ls} (omega arith) all
+behind-sound n ls (made l) short all = unless-sound n ls l (lineFault l) refl short all
+
+sound-more : (n m : ℕ) (a : Answer) → n ≤ m → Sound n a → Sound m a
+sound-more n m (refused r) h refuses = refuses
+sound-more n m (lines ls) h (stands short all) = stands {ls = ls} (omega arith) all
+
+pub few-edges : (kind n : ℕ) → edgeCount kind n ≤ n
+unfolding edgeCount
+few-edges kind n = if-all (λ (m : ℕ). m ≤ n) (eqb kind 2) (omega arith) (omega arith)
+
+module _ (agent : Agent) (kind n : ℕ) (vs : List Vec2) (margin horizon : Float) where
+  abbrev upTo : ℕ → Answer
+  upTo = linesUpTo agent kind n vs margin horizon
+
+  abbrev edge : ℕ → List Line → Admitted
+  edge i ls = admitted (lineForEdge agent (edgeAt kind n vs i) margin horizon ls)
+
+  pub add-kept : (i : ℕ) (ls : List Line) (l : Line) → upTo i ≡ lines ls → kept l ≡ edge i ls → upTo (i + 1) ≡ lines (ls ++ (l ∷ []))
+  unfolding linesUpTo addEdge
+  add-kept i ls l e h = rw (add-one, e, ← h)
+
+  pub add-nothing : (i : ℕ) (ls : List Line) → upTo i ≡ lines ls → nothingKept ≡ edge i ls → upTo (i + 1) ≡ lines ls
+  unfolding linesUpTo addEdge
+  add-nothing i ls e h = rw (add-one, e, ← h)
+
+  stays : (r d k : ℕ) → upTo k ≡ refused r → upTo (d + k) ≡ refused r
+  unfolding linesUpTo addEdge
+  stays r zero k e = rw zero-add e
+  stays r (suc d) k e = rw (suc-add, stays r d k e)
+
+  -- a line that is not admitted refuses the whole obstacle
+  pub add-refused : (i m : ℕ) (ls : List Line) (r : ℕ) → upTo i ≡ lines ls → notAdmitted r ≡ edge i ls → i + 1 ≤ m → upTo m ≡ refused r
+  unfolding linesUpTo addEdge
+  add-refused i m ls r e h k =
+      let now : upTo (i + 1) ≡ refused r = rw (add-one, e, ← h) in
+      let f : m ≡ (m - (i + 1)) + (i + 1) = omega arith in
+      rw f (stays r (m - (i + 1)) (i + 1) now)
+
+  edge-sound : (k : ℕ) (a : Answer) → Sound k a → Sound (suc k) (addEdge agent kind n vs margin horizon a k)
+  unfolding addEdge
+  edge-sound k (refused r) refuses = refuses
+  edge-sound k (lines ls) (stands short all) = behind-sound k ls (lineForEdge agent (edgeAt kind n vs k) margin horizon ls) short all
+
+  up-to-sound : (k : ℕ) → Sound k (upTo k)
+  unfolding linesUpTo
+  up-to-sound zero = stands {ls = []} (omega arith) none
+  up-to-sound (suc k) = edge-sound k (upTo k) (up-to-sound k)
+
+  -- the lines of n vertices are at most n, and each is admitted
+  pub lines-sound : Sound n (obstacleLines agent kind n vs margin horizon)
+  unfolding obstacleLines
+  lines-sound = sound-more (edgeCount kind n) n _ (few-edges kind n) (up-to-sound (edgeCount kind n))

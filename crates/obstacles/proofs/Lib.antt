@@ -1,0 +1,9 @@
+-- The laws of `obstacles`: of vertices and lines as numbers, of the edges in order, of what is handed over, and the bench cases.
+pub mod Corners
+pub mod Numbers
+pub mod Covered
+pub mod Faults
+pub mod EdgesInOrder
+pub mod Filled
+pub mod HandedOver
+pub mod BenchCases

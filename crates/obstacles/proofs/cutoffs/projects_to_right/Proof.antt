@@ -1,0 +1,15 @@
+-- `obstacles::cutoffs::projects_to_right` meets its contract. Assumes nothing.
+use Rattle.obstacles.specs.Cutoffs.{projectsRight}
+use Rattle.obstacles.proofs.cutoffs.projects_to_right.Statement.{statement}
+use Rattle.obstacles.proofs.cutoffs.projects_to_right.Tie as tie
+
+returns : tie.Need-returns
+unfolding projectsRight
+returns c = simp (c .if1 .taken)
+
+returns-2 : tie.Need-returns-2
+unfolding projectsRight
+returns-2 c = simp (c .if1 .left)
+
+pub projects-to-right-spec : {M : Type 1} → statement M
+projects-to-right-spec = tie.close (tie.spec returns returns-2)

@@ -1,0 +1,79 @@
+-- `obstacles::get_lines_for_agent_to_obstacle` meets its contract. Assumes nothing.
+use Prim.Native.Nat.{_+_, _-_, _*_}
+use mathlib.Core.Path.{_≡_, _∙_}
+use native.Mathlib.Omega.{arith}
+use denote.Ref.{now}
+use Rattle.obstacles.specs.Obstacles.{obstacleCall}
+use Rattle.obstacles.proofs.Corners.{part-size}
+use Rattle.obstacles.proofs.Faults.{few-there}
+use borrow.Author.Needs.{needs}
+use Rattle.obstacles.proofs.get_lines_for_agent_to_obstacle.Statement.{statement}
+use Rattle.obstacles.proofs.get_lines_for_agent_to_obstacle.Tie as tie
+
+judge-obstacle-requires : tie.Need-judge-obstacle-requires
+judge-obstacle-requires c κs = search needs
+
+enum-known-judged : tie.Need-enum-known-judged
+enum-known-judged c = search needs
+
+refused-requires : tie.Need-refused-requires
+refused-requires c κs = search needs
+
+returns : tie.Need-returns
+unfolding obstacleCall
+returns c = simp (← c .refused .ensures, c .before .before .judged .given .1, ← c .before .before .before .before .judge-obstacle .ensures)
+
+enum-told : tie.Need-enum-told
+enum-told c = search needs
+
+mul-lines-for-edges : tie.Need-mul-lines-for-edges
+mul-lines-for-edges c = let there = few-there _ _ _ _ (rw (c .enum-told .given .1) at (c .before .before .judge-obstacle .ensures)) in omega (arith, there)
+
+add-lines-for-edges : tie.Need-add-lines-for-edges
+add-lines-for-edges c = let there = few-there _ _ _ _ (rw (c .enum-told .given .1) at (c .before .before .judge-obstacle .ensures)) in omega (arith, there)
+
+mul-lines-for-edges-2 : tie.Need-mul-lines-for-edges-2
+mul-lines-for-edges-2 c = let there = few-there _ _ _ _ (rw (c .enum-told .given .1) at (c .before .before .judge-obstacle .ensures)) in omega (arith, there)
+
+mul-lines-for-edges-3 : tie.Need-mul-lines-for-edges-3
+mul-lines-for-edges-3 c = let there = few-there _ _ _ _ (rw (c .enum-told .given .1) at (c .before .before .judge-obstacle .ensures)) in omega (arith, there)
+
+sub-lines-for-edges : tie.Need-sub-lines-for-edges
+sub-lines-for-edges c = search needs
+
+part-lines-for-edges-start : tie.Need-part-lines-for-edges-start
+part-lines-for-edges-start c = search needs
+
+part-lines-for-edges-end : tie.Need-part-lines-for-edges-end
+part-lines-for-edges-end c = let there = few-there _ _ _ _ (rw (c .enum-told .given .1) at (c .before .before .judge-obstacle .ensures)) in omega (arith, there)
+
+lines-for-edges-requires : tie.Need-lines-for-edges-requires
+lines-for-edges-requires c κs = let there = few-there _ _ _ _ (rw (c .before .enum-told .given .1) at (c .before .before .before .judge-obstacle .ensures)) in omega (arith, there)
+
+returns-2 : tie.Need-returns-2
+unfolding obstacleCall
+returns-2 c =
+    let a = c .before .before .before .before .before .before .args in
+    let there = few-there _ _ _ _ (rw (c .before .before .enum-told .given .1) at (c .before .before .before .before .judge-obstacle .ensures)) in
+    let cut : 2 * (a .offset + a .count) - 2 * a .offset ≡ 2 * a .count = omega arith in
+    let size = part-size (now (a .vertices)) (a .offset) (a .count) (there .1) in
+    c .lines-for-edges .ensures ∙ simp (cut, size, c .before .before .enum-told .given .1, ← c .before .before .before .before .judge-obstacle .ensures)
+
+pub get-lines-for-agent-to-obstacle-spec : {M : Type 1} → statement M
+get-lines-for-agent-to-obstacle-spec =
+    tie.close
+    (tie.spec
+    judge-obstacle-requires
+    enum-known-judged
+    refused-requires
+    returns
+    enum-told
+    mul-lines-for-edges
+    add-lines-for-edges
+    mul-lines-for-edges-2
+    mul-lines-for-edges-3
+    sub-lines-for-edges
+    part-lines-for-edges-start
+    part-lines-for-edges-end
+    lines-for-edges-requires
+    returns-2)

@@ -1,0 +1,69 @@
+-- What each enum of the code says, in the Rust's and in 01's values and numbers, and the struct that an answer is handed over in. Definitions only. Assumes nothing.
+use Prim.Native.Nat.{_-_, _*_}
+use mathlib.Core.List.{List, [], _∷_, _++_}
+use lib.ListN.{length, replicate}
+use lib.Ieee.{Float}
+use Rattle.arithmetic.specs.Binary32.{0ᶠ}
+use Rattle.linear_programming.specs.declared.Line.{Line}
+use Rattle.admission.specs.Faults.{fine, fault, judgedAs}
+use Rattle.obstacles.specs.declared.Outer.{Outer}
+use Rattle.obstacles.specs.declared.Outer.the-variants as outer
+use Rattle.obstacles.specs.declared.Edge.{Edge as EdgeCode}
+use Rattle.obstacles.specs.declared.Side.{Side as SideCode}
+use Rattle.obstacles.specs.declared.Side.the-variants as side-code
+use Rattle.obstacles.specs.declared.EdgeLine.{EdgeLine as EdgeLineCode}
+use Rattle.obstacles.specs.declared.EdgeLine.the-variants as edge-line
+use Rattle.obstacles.specs.declared.AdmittedLine.{AdmittedLine}
+use Rattle.obstacles.specs.declared.AdmittedLine.the-variants as admitted-line
+use Rattle.obstacles.specs.declared.AddedLines.{AddedLines}
+use Rattle.obstacles.specs.declared.AddedLines.the-variants as added-lines
+use Rattle.obstacles.specs.declared.ObstacleLines.{ObstacleLines}
+use Rattle.obstacles.specs.Edges.{Neighbour, none, at, Edge, Side, onLeft, onRight, EdgeLine, nothing, made}
+use Rattle.obstacles.specs.Obstacles.{Answer, lines, refused, Admitted, kept, nothingKept, notAdmitted}
+
+abbrev pub neighbourOf : Outer → Neighbour
+neighbourOf (outer.At v) = at v
+neighbourOf outer.Absent = none
+
+abbrev pub edgeOf : EdgeCode → Edge
+edgeOf e = record {
+  left = e .«left_vertex»;
+  right = e .«right_vertex»;
+  leftLeft = neighbourOf (e .«left_left_vertex»);
+  rightRight = neighbourOf (e .«right_right_vertex»);
+}
+
+abbrev pub sideOf : SideCode → Side
+sideOf side-code.Left = onLeft
+sideOf side-code.Right = onRight
+
+abbrev pub edgeLineOf : EdgeLineCode → EdgeLine
+edgeLineOf (edge-line.Made l) = made l
+edgeLineOf edge-line.Nothing = nothing
+
+abbrev pub admittedOf : AdmittedLine → Admitted
+admittedOf (admitted-line.Kept l) = kept l
+admittedOf admitted-line.Nothing = nothingKept
+admittedOf (admitted-line.Refused r) = notAdmitted r
+
+-- ---- lines as numbers, four a line
+
+abbrev pub fourOf : Line → List Float
+fourOf l = l .point .x ∷ l .point .y ∷ l .direction .x ∷ l .direction .y ∷ []
+
+unfoldable pub numbersOf : List Line → List Float
+numbersOf [] = []
+numbersOf (l ∷ ls) = l .point .x ∷ l .point .y ∷ l .direction .x ∷ l .direction .y ∷ numbersOf ls
+
+unfoldable pub blankNumbers : List Float
+blankNumbers = replicate 256 0ᶠ
+
+-- what the code hands over: the numbers of the lines with zeros behind them, and their count; zeros alone beside a refusal
+abbrev pub answerAs : Answer → ObstacleLines
+answerAs (lines ls) = record { lines = numbersOf ls ++ replicate (256 - 4 * length ls) 0ᶠ; count = length ls; judged = judgedAs fine }
+answerAs (refused r) = record { lines = blankNumbers; count = 0; judged = judgedAs (fault r) }
+
+-- the edges' lines in lent numbers, with what the loop over the edges says of them
+abbrev pub addedOf : AddedLines → List Float → ObstacleLines
+addedOf (added-lines.Count n) numbers = record { lines = numbers; count = n; judged = judgedAs fine }
+addedOf (added-lines.Refused r) numbers = answerAs (refused r)

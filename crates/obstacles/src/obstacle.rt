@@ -1,0 +1,177 @@
+// All edges of an obstacle in order, each line behind those made earlier; and the faults of an obstacle.
+use crate::AddedLines;
+use crate::AdmittedLine;
+use crate::Agent;
+use crate::EdgeLine;
+use crate::ObstacleLines;
+use crate::edges;
+use crate::vertices;
+use admission::Judged;
+use linear_programming::Line;
+ghost use mathlib.Core.Path.{_≡_};
+ghost use Prim.Native.Nat.{_+_, _*_, _/_, _≤_, _<_};
+ghost use lib.ListN.{length};
+ghost use lib.Seq.{sets};
+ghost use Rattle.linear_programming.specs.Lines.{linesOf};
+ghost use Rattle.admission.specs.Faults.{faultOf};
+ghost use Rattle.obstacles.specs.Vertices.{verticesOf, edgeAt};
+ghost use Rattle.obstacles.specs.EdgeLines.{lineForEdge};
+ghost use Rattle.obstacles.specs.Obstacles.{isEmptyOpen, obstacleFault, edgeCount, admitted, obstacleLines, refused as refusedWith};
+ghost use Rattle.obstacles.specs.Read.{admittedOf, fourOf, blankNumbers, addedOf, answerAs};
+
+fn is_empty_open(kind: u8, count: usize) -> bool
+    ensures { λ r. ⌜ r ≡ isEmptyOpen kind count ⌝ }
+{
+    kind == ObstacleLines::OPEN && count == 0
+}
+
+// The first fault of an obstacle among `have` vertices: its kind (3), too many vertices (4), open with none (5), vertices missing (2).
+pub(crate) fn judge_obstacle(kind: u8, have: usize, offset: usize, count: usize) -> Judged
+    ensures { λ r. ⌜ faultOf r ≡ obstacleFault kind have offset count ⌝ }
+{
+    if kind < ObstacleLines::CLOSED {
+        return Judged::Fault(3);
+    }
+    if kind > ObstacleLines::OPEN {
+        return Judged::Fault(3);
+    }
+    if count > ObstacleLines::MOST {
+        return Judged::Fault(4);
+    }
+    if is_empty_open(kind, count) {
+        return Judged::Fault(5);
+    }
+    if offset > have {
+        return Judged::Fault(2);
+    }
+    if count > have - offset {
+        return Judged::Fault(2);
+    }
+    Judged::Fine
+}
+
+// As many edges as vertices where the obstacle is closed, one less where it is open.
+fn edge_count(kind: u8, count: usize) -> usize
+    ensures { λ r. ⌜ (r ≡ edgeCount kind count) × (r ≤ count) ⌝ }
+{
+    if kind != ObstacleLines::OPEN {
+        return count;
+    }
+    if count == 0 {
+        return 0;
+    }
+    count - 1
+}
+
+// The line of the edge from a vertex to the next, behind the lines made earlier: refused with 9 where it breaks the admission of lines.
+fn admitted_line(
+    agent: Agent,
+    kind: u8,
+    vertices: &[f32],
+    left_index: usize,
+    margin: f32,
+    horizon: f32,
+    existing_lines: &[f32],
+) -> AdmittedLine
+    requires { ⌜ «left_index» < length (now vertices) / 2 ⌝ }
+    ensures { λ r. ⌜ admittedOf r ≡ admitted (lineForEdge agent (edgeAt kind (length (now (vertices .entry)) / 2) (verticesOf (now (vertices .entry))) «left_index») margin horizon (linesOf (now («existing_lines» .entry)))) ⌝ }
+{
+    let edge = vertices::edge_at(kind, vertices, left_index);
+    let made = edges::get_line_for_agent_to_edge(agent, edge, margin, horizon, existing_lines);
+    let EdgeLine::Made(line) = made else {
+        return AdmittedLine::Nothing;
+    };
+    let Judged::Fine = linear_programming::judge_line(line) else {
+        return AdmittedLine::Refused(9);
+    };
+    AdmittedLine::Kept(line)
+}
+
+// Stores a line at an index.
+fn put(lines: &mut [f32], i: usize, line: Line)
+    requires { ⌜ 4 * i + 4 ≤ length (now lines) ⌝ }
+    ensures { λ _. ⌜ now (lines .exit) ≡ sets (now (lines .entry)) (4 * i) (fourOf line) ⌝ }
+{
+    let k = 4 * i;
+    lines[k] = line.point.x;
+    lines[k + 1] = line.point.y;
+    lines[k + 2] = line.direction.x;
+    lines[k + 3] = line.direction.y;
+}
+
+// Fills blank numbers with the lines of all edges. The lines made so far are the only ones that the next edge sees.
+fn add_edges(
+    agent: Agent,
+    kind: u8,
+    vertices: &[f32],
+    margin: f32,
+    horizon: f32,
+    lines: &mut [f32],
+) -> AddedLines
+    requires { ⌜ (length (now vertices) / 2 ≤ 64) × (now lines ≡ blankNumbers) ⌝ }
+    ensures { λ r. ⌜ addedOf r (now (lines .exit)) ≡ answerAs (obstacleLines agent kind (length (now (vertices .entry)) / 2) (verticesOf (now (vertices .entry))) margin horizon) ⌝ }
+{
+    let edges = edge_count(kind, vertices.len() / 2);
+    let mut count = 0usize;
+    let mut i = 0usize;
+    while i < edges {
+        let admitted = admitted_line(
+            agent,
+            kind,
+            vertices,
+            i,
+            margin,
+            horizon,
+            &lines[0..4 * count],
+        );
+        i += 1;
+        match admitted {
+            AdmittedLine::Kept(line) => {
+                put(lines, count, line);
+                count += 1;
+            }
+            AdmittedLine::Nothing => {}
+            AdmittedLine::Refused(number) => return AddedLines::Refused(number),
+        }
+    }
+    AddedLines::Count(count)
+}
+
+fn blank() -> [f32; 256]
+    ensures { λ r. ⌜ r ≡ blankNumbers ⌝ }
+{
+    [0.0f32; 256]
+}
+
+// What stands beside a refusal: its number alone.
+pub(crate) fn refused(number: u8) -> ObstacleLines
+    ensures { λ r. ⌜ r ≡ answerAs (refusedWith number) ⌝ }
+{
+    ObstacleLines {
+        lines: blank(),
+        count: 0,
+        judged: Judged::Fault(number),
+    }
+}
+
+// The lines of an obstacle that is not at fault.
+pub(crate) fn lines_for_edges(
+    agent: Agent,
+    kind: u8,
+    vertices: &[f32],
+    margin: f32,
+    horizon: f32,
+) -> ObstacleLines
+    requires { ⌜ length (now vertices) / 2 ≤ 64 ⌝ }
+    ensures { λ r. ⌜ r ≡ answerAs (obstacleLines agent kind (length (now (vertices .entry)) / 2) (verticesOf (now (vertices .entry))) margin horizon) ⌝ }
+{
+    let mut lines = blank();
+    match add_edges(agent, kind, vertices, margin, horizon, &mut lines) {
+        AddedLines::Count(count) => ObstacleLines {
+            lines,
+            count,
+            judged: Judged::Fine,
+        },
+        AddedLines::Refused(number) => refused(number),
+    }
+}

@@ -1,0 +1,72 @@
+-- `replay::edges_set::are_numbers` meets its contract. The invariant: the answer is that of the first i numbers. Assumes nothing.
+use Prim.Native.Nat.{_-_, _≤_}
+use mathlib.Core.Path.{_≡_, refl}
+use native.Mathlib.Omega.{arith}
+use native.Mathlib.Numerals.{add-one}
+use borrow.Author.Needs.{needs}
+use Rattle.replay.specs.EdgesSet.{areNumbers}
+use Rattle.replay.proofs.edges_set.are_numbers.Statement.{statement}
+use Rattle.replay.proofs.edges_set.are_numbers.Tie as tie
+
+abbrev Inv-loop : tie.InvT-loop
+Inv-loop bytes at count numbers all₀ i₀ all i = (i ≤ count) × (all ≡ areNumbers bytes at numbers i)
+
+abbrev μ-loop : tie.MeasureT-loop
+μ-loop bytes at count numbers all₀ i₀ all i = count - i
+
+loop-holds : tie.Need-loop-holds Inv-loop μ-loop
+unfolding areNumbers
+loop-holds c = (omega arith, refl)
+
+mul-agrees : tie.Need-mul-agrees Inv-loop μ-loop
+mul-agrees c = search needs
+
+array-read-agrees : tie.Need-array-read-agrees Inv-loop μ-loop
+array-read-agrees c = search needs
+
+mul-word-at : tie.Need-mul-word-at Inv-loop μ-loop
+mul-word-at c = search needs
+
+add-word-at : tie.Need-add-word-at Inv-loop μ-loop
+add-word-at c = search needs
+
+word-at-requires : tie.Need-word-at-requires Inv-loop μ-loop
+word-at-requires c κs = search needs
+
+agrees-requires : tie.Need-agrees-requires Inv-loop μ-loop
+agrees-requires c κs = search needs
+
+add-i : tie.Need-add-i Inv-loop μ-loop
+add-i c = search needs
+
+loop-less : tie.Need-loop-less Inv-loop μ-loop
+loop-less c = search needs
+
+loop-again : tie.Need-loop-again Inv-loop μ-loop
+unfolding areNumbers
+loop-again c =
+    let l = c .before .before .before .loop in
+    (omega arith, rw (add-one, l .inv .1, c .agrees .ensures, c .before .word-at .ensures))
+
+returns : tie.Need-returns Inv-loop μ-loop
+returns c =
+    let ended : c .before .loop .i ≡ c .before .before .before .args .count = omega arith in
+    rw ended at (c .before .loop .inv .1)
+
+pub are-numbers-spec : {M : Type 1} → statement M
+are-numbers-spec =
+    tie.close
+    (tie.spec
+    Inv-loop
+    μ-loop
+    loop-holds
+    mul-agrees
+    array-read-agrees
+    mul-word-at
+    add-word-at
+    word-at-requires
+    agrees-requires
+    add-i
+    loop-less
+    loop-again
+    returns)

@@ -1,0 +1,217 @@
+//! Encounters made by hand, each for a row of the coverage table, which it must show: the bench cases, the smallest
+//! inputs known to bring out what surprises, and calls that are refused before any edge.
+
+use glam::Vec2;
+
+use super::call::{Call, CLOSED, OPEN};
+use super::{ask, coverage, Case};
+use crate::encounters::Encounter;
+
+pub fn cases() -> Result<Vec<Case>, String> {
+    let mut cases = Vec::new();
+    for (row, call) in calls() {
+        let case = ask(call)?;
+        if !coverage::shows(&case, row) {
+            return Err(format!("the encounter made for it does not show: {row}"));
+        }
+        cases.push(case);
+    }
+    Ok(cases)
+}
+
+type Pair = (f32, f32);
+
+fn calls() -> Vec<(&'static str, Call)> {
+    let mut calls = bench();
+    calls.extend(surprising());
+    calls.extend(faulty());
+    calls
+}
+
+fn bench() -> Vec<(&'static str, Call)> {
+    let (left, right) = ((-1.0, 1.0), (1.0, 1.0));
+    vec![
+        ("P11: margin 2", at_rest(OPEN, &[left, right], 2.0)),
+        ("P11: margin 0.5", at_rest(OPEN, &[left, right], 0.5)),
+        (
+            "P11: vertices exchanged",
+            at_rest(OPEN, &[right, left], 2.0),
+        ),
+        (
+            "P11: vertices exchanged",
+            at_rest(OPEN, &[right, left], 0.5),
+        ),
+        ("P12: vertex (5,0)", at_rest(CLOSED, &[(5.0, 0.0)], 1.0)),
+        (
+            "P12: vertex (0.5,0), 9",
+            at_rest(CLOSED, &[(0.5, 0.0)], 1.0),
+        ),
+    ]
+}
+
+fn surprising() -> Vec<(&'static str, Call)> {
+    let twice = [(2.0, -1.0), (2.0, -1.0), (-1.0, 0.0), (-1.0, 0.0)];
+    let (near, far) = (1e-22, 2e-22);
+    vec![
+        (
+            "9: vertices apart, the right one just inside the margin",
+            Call {
+                velocity: Vec2::new(0.08913708, -0.7886338),
+                ..at_rest(
+                    OPEN,
+                    &[(-1.1982944, -0.79721916), (-0.94096375, 0.23468599)],
+                    0.9697888,
+                )
+            },
+        ),
+        (
+            "vertices that stand twice, by value",
+            Call {
+                velocity: Vec2::new(3.0, 4.0),
+                horizon: 2.0,
+                ..at_rest(CLOSED, &twice, 2.0)
+            },
+        ),
+        (
+            "9: a vertex twice, the agent at rest",
+            Call {
+                horizon: 2.0,
+                ..at_rest(CLOSED, &twice, 2.0)
+            },
+        ),
+        (
+            "one vertex, at just the margin",
+            at_rest(CLOSED, &[(3.0, 4.0)], 5.0),
+        ),
+        (
+            "9: one vertex, margin 0, its squared distance rounds to 0",
+            at_rest(CLOSED, &[(1e-23, 0.0)], 0.0),
+        ),
+        (
+            "coordinates near 1e-22",
+            at_rest(OPEN, &[(-near, far), (near, far)], 0.0),
+        ),
+        (
+            "equal but for the sign of a zero",
+            at_rest(OPEN, &[(-1.0, 1.0), (0.0, 1.0), (-0.0, 1.0)], 0.5),
+        ),
+        ("closed, 0 vertices", at_rest(CLOSED, &[], 0.5)),
+        ("open, 1 vertex", at_rest(OPEN, &[(0.0, 1.0)], 2.0)),
+    ]
+}
+
+fn faulty() -> Vec<(&'static str, Call)> {
+    let edge = [(-1.0, 1.0), (1.0, 1.0)];
+    let many = [(0.0, 1.0); 65];
+    let fine = || at_rest(OPEN, &edge, 2.0);
+    vec![
+        ("3: kind 0", at_rest(0, &edge, 2.0)),
+        ("3: kind 3", at_rest(3, &edge, 2.0)),
+        ("3: kind 255", at_rest(255, &edge, 2.0)),
+        ("3 told before 4", at_rest(3, &many, 2.0)),
+        ("4: 65 vertices", at_rest(CLOSED, &many, 2.0)),
+        ("4: 65 vertices", at_rest(OPEN, &many, 2.0)),
+        (
+            "4: a count of 2^64 - 1",
+            Call {
+                count: u64::MAX,
+                ..fine()
+            },
+        ),
+        (
+            "4 told before 2",
+            Call {
+                count: 65,
+                ..fine()
+            },
+        ),
+        ("5: open, no vertices", at_rest(OPEN, &[], 2.0)),
+        (
+            "5 told before 2",
+            Call {
+                offset: u64::MAX,
+                count: 0,
+                ..fine()
+            },
+        ),
+        ("2: one vertex missing", Call { count: 3, ..fine() }),
+        (
+            "2: one number missing",
+            Call {
+                numbers: vec![-1.0, 1.0, 1.0],
+                ..fine()
+            },
+        ),
+        (
+            "2: one vertex missing behind an offset",
+            Call {
+                offset: 1,
+                ..fine()
+            },
+        ),
+        (
+            "2: offset beyond the numbers, closed, no vertices",
+            Call {
+                kind: CLOSED,
+                offset: 3,
+                count: 0,
+                ..fine()
+            },
+        ),
+        (
+            "offset at the end of the numbers, closed, no vertices",
+            Call {
+                kind: CLOSED,
+                offset: 2,
+                count: 0,
+                ..fine()
+            },
+        ),
+        (
+            "2: an offset of 2^64 - 1",
+            Call {
+                offset: u64::MAX,
+                ..fine()
+            },
+        ),
+        (
+            "2: an offset of 2^64 - 1",
+            Call {
+                kind: CLOSED,
+                offset: u64::MAX,
+                count: 1,
+                ..fine()
+            },
+        ),
+        (
+            "2: an offset of 2^63",
+            Call {
+                offset: 1 << 63,
+                ..fine()
+            },
+        ),
+        (
+            "4: offset and count of 2^64 - 1",
+            Call {
+                offset: u64::MAX,
+                count: u64::MAX,
+                ..fine()
+            },
+        ),
+    ]
+}
+
+/// At the origin, the horizon 1.
+fn at_rest(kind: u32, vertices: &[Pair], margin: f32) -> Call {
+    Call {
+        kind,
+        ..Call::new(&Encounter {
+            closed: true,
+            vertices: vertices.iter().map(|(x, y)| Vec2::new(*x, *y)).collect(),
+            position: Vec2::ZERO,
+            velocity: Vec2::ZERO,
+            margin,
+            horizon: 1.0,
+        })
+    }
+}
