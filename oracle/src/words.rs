@@ -36,6 +36,15 @@ pub struct Words {
 }
 
 impl Words {
+    /// The records of all cases, one after the other.
+    pub fn of<Case>(cases: &[Case], write_record: fn(&mut Words, &Case)) -> Vec<u8> {
+        let mut words = Words::new();
+        for case in cases {
+            write_record(&mut words, case);
+        }
+        words.into_bytes()
+    }
+
     pub fn new() -> Words {
         Words { bytes: Vec::new() }
     }

@@ -48,7 +48,12 @@ const ROWS: &[(&str, Test)] = &[
 
 /// The table; or the rows that no list shows.
 pub fn table(cases: &[Case]) -> Result<String, String> {
-    coverage_table::of(cases, ROWS, |test, case| test(case))
+    coverage_table::of(
+        cases,
+        ("Lists", &[("in all", |_| true)]),
+        ROWS,
+        |test, case| test(case),
+    )
 }
 
 impl Case {

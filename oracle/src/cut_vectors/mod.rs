@@ -47,15 +47,14 @@ pub fn bytes() -> Result<(Vec<u8>, String), String> {
     for call in calls() {
         cases.push(ask(call)?);
     }
-    let table = coverage::table(&cases)?;
-    let mut words = Words::new();
-    for case in &cases {
-        write_call(&mut words, &case.call);
-        for answer in &case.answers {
-            write_solved(&mut words, answer);
-        }
+    Ok((Words::of(&cases, write_record), coverage::table(&cases)?))
+}
+
+fn write_record(words: &mut Words, case: &Case) {
+    write_call(words, &case.call);
+    for answer in &case.answers {
+        write_solved(words, answer);
     }
-    Ok((words.into_bytes(), table))
 }
 
 /// Those made by hand, then the random ones, as far as they are admitted.

@@ -7,6 +7,7 @@ use glam::Vec2;
 use super::call::{Call, SCENE_VERTICES};
 use super::judge::{self, LONGEST_HORIZON, MOST_VERTICES, SHORTEST_HORIZON};
 use super::{Case, Outcome, NOT_ADMITTED};
+use crate::coverage_table::{self, Column};
 use crate::encounters::{EdgeLine, EdgeLines, Encounter};
 use crate::list_vectors::judge::{BAND_HIGH, BAND_LOW, LINE_REACH, LONGEST, REACH};
 
@@ -187,25 +188,11 @@ const ROWS: &[(&str, Test)] = &[
 
 /// The table; or the rows that no encounter shows.
 pub fn table(cases: &[Case]) -> Result<String, String> {
-    let fine = |shown: &[&Case]| shown.iter().filter(|case| case.refusal().is_none()).count();
-    let all: Vec<&Case> = cases.iter().collect();
-    let mut table = format!(
-        "| Encounters with | {} in all | {} not refused |\n|---|---|---|\n",
-        cases.len(),
-        fine(&all)
-    );
-    let mut missing = Vec::new();
-    for (row, test) in ROWS {
-        let shown: Vec<&Case> = cases.iter().filter(|case| passes(test, case)).collect();
-        table += &format!("| {row} | {} | {} |\n", shown.len(), fine(&shown));
-        if shown.is_empty() {
-            missing.push(*row);
-        }
-    }
-    if missing.is_empty() {
-        return Ok(table);
-    }
-    Err(format!("{table}no encounter shows: {}", missing.join("; ")))
+    let columns: [Column<Case>; 2] = [
+        ("in all", |_| true),
+        ("not refused", |case| case.refusal().is_none()),
+    ];
+    coverage_table::of(cases, ("Encounters", &columns), ROWS, passes)
 }
 
 /// Whether the case is one of those that the row counts.

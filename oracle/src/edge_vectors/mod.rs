@@ -94,12 +94,7 @@ pub fn bytes() -> Result<(Vec<u8>, String), String> {
     if cases.len() < AT_LEAST {
         return Err(format!("only {} encounters", cases.len()));
     }
-    let table = coverage::table(&cases)?;
-    let mut words = Words::new();
-    for case in &cases {
-        write_record(&mut words, case);
-    }
-    Ok((words.into_bytes(), table))
+    Ok((Words::of(&cases, write_record), coverage::table(&cases)?))
 }
 
 fn ask(call: Call) -> Result<Case, String> {

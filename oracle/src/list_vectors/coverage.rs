@@ -118,7 +118,7 @@ const ROWS: &[(&str, Test)] = &[
 
 /// The table; or the rows that no list shows.
 pub fn table(cases: &[Case]) -> Result<String, String> {
-    coverage_table::of(cases, ROWS, passes)
+    coverage_table::of(cases, ("Lists", &[("in all", |_| true)]), ROWS, passes)
 }
 
 /// Whether the case is one of those that the row counts.
