@@ -1,0 +1,72 @@
+-- The obstacles' lines joined, obstacle behind obstacle: in the definitions, and in the numbers that hold them. Assumes nothing.
+use Prim.Native.Nat.{ℕ, _+_, _*_, _≤_, _<_}
+use mathlib.Core.Path.{_≡_, refl, sym, ap}
+use mathlib.Core.List.{List, [], _++_, append-assoc, append-nil}
+use native.Mathlib.Omega.{arith}
+use lib.ListN.{length, take, getD}
+use lib.Seq.{paste, take-paste, length-take-le}
+use lib.Ieee.{Float}
+use Rattle.admission.specs.Faults.{fine, fault, faultOf, judgedAs}
+use Rattle.admission.proofs.FaultLaws.{no-fault}
+use Rattle.linear_programming.specs.declared.Line.{Line}
+use Rattle.linear_programming.specs.Lines.{linesOf}
+use Rattle.linear_programming.proofs.Rows.{lines-append}
+use Rattle.obstacles.specs.declared.Agent.{Agent}
+use Rattle.obstacles.specs.declared.ObstacleLines.{ObstacleLines}
+use Rattle.obstacles.specs.Obstacles.{Answer, lines, refused, obstacleCall}
+use Rattle.obstacles.specs.Read.{answerAs}
+use Rattle.obstacles.proofs.HandedOver.{handed-lines}
+use Rattle.dodgy_2d.specs.Outcomes.{joined, edgeLines}
+use Rattle.dodgy_2d.proofs.HeadsInOrder.{headsFrom, heads-next, heads-none}
+
+-- ---- joining
+
+pub joined-none : (a : Answer) → joined (lines []) a ≡ a
+joined-none (lines l) = refl
+joined-none (refused r) = refl
+
+joined-assoc : (a b c : Answer) → joined a (joined b c) ≡ joined (joined a b) c
+joined-assoc (refused r) b c = refl
+joined-assoc (lines l) (refused r) c = refl
+joined-assoc (lines l) (lines m) (refused r) = refl
+joined-assoc (lines l) (lines m) (lines n) = ap lines (sym (append-assoc l m n))
+
+-- ---- a loop over the obstacles: what is made so far, joined with what the rest makes
+module _ (agent : Agent) (margin horizon : Float) (v : List Float) (ks cs : List ℕ) (n : ℕ) (kinds : n ≤ length ks) (counts : n ≤ length cs) where
+  abbrev pub edgesFrom : ℕ → ℕ → Answer
+  edgesFrom offset i = edgeLines agent margin horizon v offset (headsFrom ks cs n i)
+
+  pub edges-on : (i offset : ℕ) (a b : Answer) → i < n → b ≡ joined a (obstacleCall agent (getD ks i 0) v offset (getD cs i 0) margin horizon) → joined a (edgesFrom offset i) ≡ joined b (edgesFrom (offset + getD cs i 0) (i + 1))
+  unfolding edgeLines
+  edges-on i offset a b h e = rw (heads-next ks cs n i kinds counts h, e) (joined-assoc a _ _)
+
+  pub edges-done : (i offset : ℕ) (l : List Line) → n ≤ i → joined (lines l) (edgesFrom offset i) ≡ lines l
+  unfolding edgeLines
+  edges-done i offset l h = rw (heads-none ks cs n i kinds counts h) (ap lines (append-nil l))
+
+-- ---- one obstacle's answer, by what it says
+
+fault-same : {r s : ℕ} → fault r ≡ fault s → r ≡ s
+fault-same e = cc
+
+pub told-refused : (a : Answer) (r : ℕ) → answerAs a .judged ≡ judgedAs (fault r) → a ≡ refused r
+told-refused (lines l) r e = absurd (no-fault r (ap faultOf e))
+told-refused (refused s) r e = ap refused (fault-same (ap faultOf e))
+
+pub told-lines : (a : Answer) → answerAs a .judged ≡ judgedAs fine → a ≡ lines (linesOf (take (4 * answerAs a .count) (answerAs a .lines)))
+told-lines (lines l) e = ap lines (sym (handed-lines l))
+told-lines (refused s) e = absurd (no-fault s (sym (ap faultOf e)))
+
+-- numbers copied behind `count` lines are lines behind them
+pub copied-lines : (numbers more : List Float) (count made : ℕ) → 4 * count ≤ length numbers → 4 * made ≤ length more → linesOf (take (4 * (count + made)) (paste numbers (4 * count) more (4 * made))) ≡ linesOf (take (4 * count) numbers) ++ linesOf (take (4 * made) more)
+copied-lines numbers more count made h k =
+    let e : 4 * (count + made) ≡ 4 * count + 4 * made = omega arith in
+    let whole : length (take (4 * count) numbers) ≡ 4 * count = length-take-le (4 * count) numbers h in
+    rw (e, take-paste numbers (4 * count) more (4 * made) h k) (lines-append (take (4 * count) numbers) (take (4 * made) more) (rw whole (omega arith)))
+
+-- an answer that stands, copied behind `count` lines
+pub added-lines : (numbers : List Float) (count : ℕ) (found : ObstacleLines) (a : Answer) → found ≡ answerAs a → found .judged ≡ judgedAs fine → 4 * count ≤ length numbers → 4 * found .count ≤ length (found .lines)
+    → lines (linesOf (take (4 * (count + found .count)) (paste numbers (4 * count) (found .lines) (4 * found .count)))) ≡ joined (lines (linesOf (take (4 * count) numbers))) a
+added-lines numbers count found a e fair h k =
+    let told : a ≡ lines (linesOf (take (4 * found .count) (found .lines))) = rw (← e) at (told-lines a (rw e at fair)) in
+    rw told (ap lines (copied-lines numbers (found .lines) count (found .count) h k))

@@ -1,0 +1,142 @@
+-- The passes of a scene without a fault: what its parts are then, at most 256 lines each of which is admitted, and the solve of those lines. Assumes nothing.
+use Prim.Native.Nat.{ℕ, _+_, _-_, _*_, _%_, _≤_}
+use mathlib.Core.Path.{_≡_, refl, sym, ap, _∙_}
+use mathlib.Core.List.{List, [], _∷_, _++_}
+use native.Mathlib.Omega.{arith}
+use lib.Dec.{leb}
+use lib.ListN.{length, take, length-append, length-take}
+use lib.Seq.{paste, take-paste, length-paste-head, length-take-le}
+use lib.Ieee.{Float}
+use borrow.Author.Tests.{leb-true, le-leb}
+use Rattle.arithmetic.specs.Binary32.{0ᶠ}
+use Rattle.admission.specs.Faults.{fine, must, within, inside}
+use Rattle.admission.proofs.FaultLaws.{⊳-fine, must-fine}
+use Rattle.common.specs.declared.Vec2.{Vec2}
+use Rattle.linear_programming.specs.declared.Line.{Line}
+use Rattle.linear_programming.specs.Lines.{linesOf}
+use Rattle.linear_programming.specs.Admit.{reach, longest, wishFault, linesFault, judgedList, listCall}
+use Rattle.linear_programming.specs.Whole.{Phase, Failed, stands, wholeList}
+use Rattle.linear_programming.proofs.JudgeLaws.{faults-append}
+use Rattle.linear_programming.proofs.Rows.{count}
+use Rattle.linear_programming.proofs.WholeProbes.{whole-fits}
+use Rattle.obstacles.specs.declared.Agent.{Agent}
+use Rattle.obstacles.specs.Obstacles.{Answer, lines, refused}
+use Rattle.obstacles.proofs.EdgesInOrder as edges
+use Rattle.obstacles.proofs.HandedOver.{call-sound, sound-admitted}
+use Rattle.dodgy_2d.specs.declared.Scene.{Scene}
+use Rattle.dodgy_2d.specs.Scenes.{Head, headsIn, neighboursIn, shortestHorizon, longestHorizon, numbersFault, vectorFault, agentFault, headFault, obstaclesFault, sceneFault}
+use Rattle.dodgy_2d.specs.Outcomes.{joined, edgeLines, edgesAt, solvedOver, passAt}
+use Rattle.dodgy_2d.proofs.SceneFaults.{neighbours-there}
+use Rattle.dodgy_2d.proofs.HeadsInOrder.{head-room}
+use Rattle.dodgy_2d.proofs.EdgesJoined.{copied-lines}
+
+-- ---- the parts of a scene without a fault
+
+pub record Parts (s : Scene) : Type 0 where
+  pub wish : wishFault (s .wish) (s .limit) ≡ fine
+  pub obstacles : s .obstacles ≤ 16
+  pub walls : obstaclesFault 0 (headsIn s) (s .vertices) ≡ fine
+  pub neighbours : s .neighbours ≤ 64
+  pub lines : linesFault (neighboursIn s) ≡ fine
+
+wish-fine : (s : Scene) → agentFault s ≡ fine → wishFault (s .wish) (s .limit) ≡ fine
+unfolding agentFault vectorFault numbersFault wishFault
+wish-fine s e =
+    let a = ⊳-fine (vectorFault (s .agent .position)) e in
+    let b = ⊳-fine (vectorFault (s .agent .velocity)) (a .1) in
+    let c = ⊳-fine (must (inside 0ᶠ longest (s .margin)) 6) (b .1) in
+    let d = ⊳-fine (must (inside shortestHorizon longestHorizon (s .horizon)) 6) (c .1) in
+    let w = ⊳-fine (vectorFault (s .wish)) (d .1) in
+    let x = ⊳-fine (must (within reach (s .wish .x)) 6) (w .0) in
+    let y = ⊳-fine (must (within reach (s .wish .y)) 6) (x .1) in
+    rw (x .0, y .0, w .1)
+
+pub parts : (s : Scene) → sceneFault s ≡ fine → Parts s
+unfolding sceneFault
+parts s e =
+    let a = ⊳-fine (agentFault s) e in
+    let b = ⊳-fine (must (leb (s .obstacles) 16) 4) (a .1) in
+    let c = ⊳-fine (obstaclesFault 0 (headsIn s) (s .vertices)) (b .1) in
+    let d = ⊳-fine (must (leb (s .neighbours) 64) 4) (c .1) in
+    record {
+      wish = wish-fine s (a .0);
+      obstacles = leb-true _ _ (must-fine (leb (s .obstacles) 16) 4 (b .0));
+      walls = c .0;
+      neighbours = leb-true _ _ (must-fine (leb (s .neighbours) 64) 4 (d .0));
+      lines = d .1;
+    }
+
+-- ---- the obstacles' lines: at most as many as the vertices, and admitted
+
+-- a refusal, or at most n lines that pass the admission of a list
+pub data Fair (n : ℕ) : Answer → Type 0 where
+  refuses : {r : ℕ} → Fair n (refused r)
+  fair : {ls : List Line} → length ls ≤ n → linesFault ls ≡ fine → Fair n (lines ls)
+
+fair-few : {n : ℕ} {ls : List Line} → Fair n (lines ls) → length ls ≤ n
+fair-few (fair few all) = few
+
+fair-admitted : {n : ℕ} {ls : List Line} → Fair n (lines ls) → linesFault ls ≡ fine
+fair-admitted (fair few all) = all
+
+of-sound : (n : ℕ) (a : Answer) → edges.Sound n a → Fair n a
+of-sound n (refused r) edges.refuses = refuses
+of-sound n (lines ls) (edges.stands few all) = fair {ls = ls} few (sound-admitted n ls (edges.stands few all))
+
+joined-fair : (m n : ℕ) (a b : Answer) → Fair m a → Fair n b → Fair (m + n) (joined a b)
+joined-fair m n (refused r) b refuses g = refuses
+joined-fair m n (lines l) (refused r) (fair few all) refuses = refuses
+joined-fair m n (lines l) (lines k) (fair few all) (fair few2 all2) = fair {ls = l ++ k} (rw length-append (omega arith)) (rw (faults-append l k, all, all2))
+
+edges-fair : (agent : Agent) (margin horizon : Float) (v xs : List Float) (offset : ℕ) (hs : List Head) → offset ≤ 192 → obstaclesFault offset hs xs ≡ fine → Fair (192 - offset) (edgeLines agent margin horizon v offset hs)
+unfolding edgeLines obstaclesFault linesFault
+edges-fair agent margin horizon v xs offset [] few e = fair {ls = []} (omega arith) refl
+edges-fair agent margin horizon v xs offset (h ∷ hs) few e =
+    let a = ⊳-fine (headFault offset h) e in
+    let b = ⊳-fine (numbersFault _) (a .1) in
+    let room = head-room offset h (a .0) .1 in
+    let k : 192 - offset ≡ h .count + (192 - (offset + h .count)) = omega arith in
+    rw k (joined-fair (h .count) (192 - (offset + h .count)) _ _ (of-sound (h .count) _ (call-sound agent (h .kind) v offset (h .count) margin horizon)) (edges-fair agent margin horizon v _ (offset + h .count) hs room (b .1)))
+
+-- 01, "192 together": the obstacles of a scene make at most 192 lines
+pub scene-fair : (s : Scene) (velocity : Vec2) → sceneFault s ≡ fine → Fair 192 (edgesAt s velocity)
+scene-fair s velocity e = edges-fair _ (s .margin) (s .horizon) (s .vertices) (s .vertices) 0 (headsIn s) (omega arith) (parts s e .walls)
+
+-- ---- a pass
+
+few-neighbours : (s : Scene) → s .neighbours ≤ 64 → length (neighboursIn s) ≤ 64
+few-neighbours s h = rw length-take (omega arith)
+
+-- "At most 192 + 64 = 256 lines", and so every total of probes fits
+solved-fits : (s : Scene) (a : Answer) → s .neighbours ≤ 64 → Fair 192 a → {ph : Phase} {f : Failed} {n : ℕ} → solvedOver (s .wish) (s .limit) (neighboursIn s) a ≡ stands ph f n → n ≤ 16777216
+solved-fits s (lines l) few (fair short all) e =
+    let k = few-neighbours s few in
+    whole-fits (length l) (s .wish) (s .limit) (l ++ neighboursIn s) (rw length-append (omega arith)) e
+solved-fits s (refused r) few refuses e = absurd (let z : _≡_ {A = ℕ} 0 1 = cc in omega arith)
+
+pub pass-fits : (s : Scene) (velocity : Vec2) → sceneFault s ≡ fine → {ph : Phase} {f : Failed} {n : ℕ} → stands ph f n ≡ passAt s velocity → n ≤ 16777216
+unfolding passAt
+pass-fits s velocity h e = solved-fits s (edgesAt s velocity) (parts s h .neighbours) (scene-fair s velocity h) (sym e)
+
+-- an admitted list's call is its solve
+called-whole : (rigid : ℕ) (wish : Vec2) (limit : Float) (xs : List Float) → length xs % 4 ≡ 0 → length (linesOf xs) ≤ 256 → wishFault wish limit ≡ fine → linesFault (linesOf xs) ≡ fine → listCall rigid wish limit xs ≡ wholeList rigid wish limit (linesOf xs)
+unfolding listCall judgedList
+called-whole rigid wish limit xs four few w l = rw (four, le-leb _ _ few, w, l)
+
+-- the numbers that a pass solves: those of the obstacles' lines, then the neighbours'
+pub pass-solved : (s : Scene) (velocity : Vec2) (b : List Float) (rigid : ℕ) → sceneFault s ≡ fine → length (s .lines) ≡ 256 → 4 * rigid ≤ length b → lines (linesOf (take (4 * rigid) b)) ≡ edgesAt s velocity
+    → listCall rigid (s .wish) (s .limit) (take (4 * (rigid + s .neighbours)) (paste b (4 * rigid) (s .lines) (4 * s .neighbours))) ≡ passAt s velocity
+unfolding passAt
+pass-solved s velocity b rigid h size fits e =
+    let p = parts s h in
+    let near = p .neighbours in
+    let own = linesOf (take (4 * rigid) b) in
+    let xs = take (4 * (rigid + s .neighbours)) (paste b (4 * rigid) (s .lines) (4 * s .neighbours)) in
+    let sound : Fair 192 (lines own) = rw e (scene-fair s velocity h) in
+    let all : linesOf xs ≡ own ++ neighboursIn s = copied-lines b (s .lines) rigid (s .neighbours) fits (omega arith) ∙ ap (λ (l : List Line). own ++ l) (neighbours-there (s .lines) (s .neighbours)) in
+    let sum : 4 * (rigid + s .neighbours) ≡ 4 * rigid + 4 * s .neighbours = omega arith in
+    let long : length xs ≡ 4 * rigid + 4 * s .neighbours = rw (sum, take-paste b (4 * rigid) (s .lines) (4 * s .neighbours) fits (omega arith)) (length-paste-head b (4 * rigid) (s .lines) (4 * s .neighbours) fits (omega arith)) in
+    let few : length (linesOf xs) ≤ 256 = rw (all, length-append) (omega (arith, fair-few sound, few-neighbours s near)) in
+    let faults : linesFault (linesOf xs) ≡ fine = rw (all, faults-append own (neighboursIn s), fair-admitted sound, p .lines) in
+    let many : length own ≡ rigid = count (take (4 * rigid) b) ∙ rw (length-take-le (4 * rigid) b fits) (omega arith) in
+    called-whole rigid (s .wish) (s .limit) xs (rw long (omega arith)) few (p .wish) faults ∙ rw (all, ← e, many)

@@ -1,0 +1,60 @@
+-- What a scene is answered: an outcome from 1 to 5, unless it is at fault or an edge line of a pass is refused. No solve of a scene is refused. Assumes nothing.
+use Prim.Native.Nat.{ℕ, _≤_}
+use mathlib.Core.Path.{_≡_, refl}
+use mathlib.Core.List.{_++_}
+use native.Mathlib.Omega.{arith}
+use Rattle.admission.specs.Faults.{Fault, fine, fault}
+use Rattle.common.specs.declared.Vec2.{Vec2}
+use Rattle.linear_programming.specs.Whole.{Phase, solving, relaxing, rigidFailure, Failed, Outcome, stands, refusal}
+use Rattle.linear_programming.proofs.JudgeLaws.{faults-append}
+use Rattle.linear_programming.proofs.Bounds.NeverRefused.{Stood, stood, never-refused}
+use Rattle.obstacles.specs.Obstacles.{Answer, lines, refused}
+use Rattle.dodgy_2d.specs.declared.Scene.{Scene}
+use Rattle.dodgy_2d.specs.Scenes.{neighboursIn, sceneFault}
+use Rattle.dodgy_2d.specs.Outcomes.{SceneOutcome, outcome, refusedScene, edgesAt, solvedOver, passAt, atRest, secondPass, firstPass, unlessFault, sceneOutcome}
+use Rattle.dodgy_2d.proofs.ScenePasses.{Fair, refuses, fair, parts, scene-fair}
+
+-- ---- a pass stands, or an edge line of it is refused
+data PassTold (s : Scene) : Outcome → Type 0 where
+  passed : {ph : Phase} {f : Failed} {n : ℕ} → PassTold s (stands ph f n)
+  edge-refused : {r : ℕ} (v : Vec2) → edgesAt s v ≡ refused r → PassTold s (refusal r)
+
+stood-passed : {s : Scene} {o : Outcome} → Stood o → PassTold s o
+stood-passed stood = passed
+
+solved-told : (s : Scene) (v : Vec2) (a : Answer) → sceneFault s ≡ fine → edgesAt s v ≡ a → Fair 192 a → PassTold s (solvedOver (s .wish) (s .limit) (neighboursIn s) a)
+solved-told s v (refused r) h e refuses = edge-refused v e
+solved-told s v (lines l) h e (fair few all) =
+    let p = parts s h in
+    stood-passed (never-refused _ (s .wish) (s .limit) (l ++ neighboursIn s) (p .wish) (rw (faults-append l (neighboursIn s), all, p .lines)))
+
+pass-told : (s : Scene) (v : Vec2) → sceneFault s ≡ fine → PassTold s (passAt s v)
+unfolding passAt
+pass-told s v h = solved-told s v (edgesAt s v) h refl (scene-fair s v h)
+
+-- ---- the scene
+
+pub data Told (s : Scene) : SceneOutcome → Type 0 where
+  answered : {code : ℕ} {p : Vec2} {f : Failed} {n : ℕ} → (1 ≤ code) × (code ≤ 5) → Told s (outcome code p f n)
+  at-fault : {r : ℕ} → sceneFault s ≡ fault r → Told s (refusedScene r)
+  by-edge : {r : ℕ} (v : Vec2) → sceneFault s ≡ fine → edgesAt s v ≡ refused r → Told s (refusedScene r)
+
+second-told : (s : Scene) (n : ℕ) (o : Outcome) → sceneFault s ≡ fine → PassTold s o → Told s (secondPass n o)
+second-told s n (stands (solving p) f m) h passed = answered {code = 3} (omega arith, omega arith)
+second-told s n (stands (relaxing p depth) f m) h passed = answered {code = 4} (omega arith, omega arith)
+second-told s n (stands (rigidFailure k p) f m) h passed = answered {code = 5} (omega arith, omega arith)
+second-told s n (refusal r) h (edge-refused v e) = by-edge v h e
+
+first-told : (s : Scene) (o : Outcome) → sceneFault s ≡ fine → PassTold s o → Told s (firstPass s o)
+first-told s (stands (solving p) f m) h passed = answered {code = 1} (omega arith, omega arith)
+first-told s (stands (relaxing p depth) f m) h passed = answered {code = 2} (omega arith, omega arith)
+first-told s (stands (rigidFailure k p) f m) h passed = second-told s m (passAt s atRest) h (pass-told s atRest h)
+first-told s (refusal r) h (edge-refused v e) = by-edge v h e
+
+unless-told : (s : Scene) (f : Fault) → sceneFault s ≡ f → (sceneFault s ≡ fine → Told s (firstPass s (passAt s (s .agent .velocity)))) → Told s (unlessFault f (firstPass s (passAt s (s .agent .velocity))))
+unless-told s fine e h = h e
+unless-told s (fault r) e h = at-fault e
+
+pub scene-told : (s : Scene) → Told s (sceneOutcome s)
+unfolding sceneOutcome
+scene-told s = unless-told s (sceneFault s) refl (λ e. first-told s _ e (pass-told s (s .agent .velocity) e))

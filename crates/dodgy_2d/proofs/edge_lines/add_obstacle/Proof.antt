@@ -1,0 +1,75 @@
+-- `dodgy_2d::edge_lines::add_obstacle` meets its contract. Assumes nothing.
+use lib.ListN.{length}
+use Rattle.dodgy_2d.proofs.EdgesJoined.{added-lines}
+use Rattle.obstacles.specs.declared.ObstacleLines.{ObstacleLines}
+use mathlib.Core.Path.{_≡_, sym, ap, _∙_}
+use native.Mathlib.Omega.{arith}
+use denote.Ref.{now}
+use Rattle.obstacles.specs.Obstacles.{obstacleCall}
+use Rattle.obstacles.proofs.HandedOver.{call-sound, sound-few}
+use Rattle.dodgy_2d.proofs.EdgesJoined.{told-refused}
+use borrow.Author.Needs.{needs}
+use Rattle.dodgy_2d.proofs.edge_lines.add_obstacle.Statement.{statement}
+use Rattle.dodgy_2d.proofs.edge_lines.add_obstacle.Tie as tie
+
+get-lines-for-agent-to-obstacle-requires : tie.Need-get-lines-for-agent-to-obstacle-requires
+get-lines-for-agent-to-obstacle-requires c κs = search needs
+
+enum-known-judged : tie.Need-enum-known-judged
+enum-known-judged c = search needs
+
+returns : tie.Need-returns
+returns c =
+    let a = c .before .before .before .before .before .before .args in
+    let e = told-refused (obstacleCall (a .agent) (a .wall .kind) (now (a .vertices)) (a .wall .offset) (a .wall .count) (a .margin) (a .horizon)) _ (ap (λ (x : ObstacleLines). x .judged) (sym (c .before .before .before .get-lines-for-agent-to-obstacle .ensures)) ∙ c .before .judged .given .1) in
+    (search needs, omega arith, rw e)
+
+enum-told : tie.Need-enum-told
+enum-told c = search needs
+
+mul-copy : tie.Need-mul-copy
+mul-copy c = search needs
+
+mul-copy-2 : tie.Need-mul-copy-2
+mul-copy-2 c =
+    let a = c .before .before .before .before .before .before .before .args in
+    let few = rw (← c .before .before .before .before .get-lines-for-agent-to-obstacle .ensures) at (sound-few (a .wall .count) _ (call-sound (a .agent) (a .wall .kind) (now (a .vertices)) (a .wall .offset) (a .wall .count) (a .margin) (a .horizon))) in
+    omega (arith, few)
+
+copy-requires : tie.Need-copy-requires
+copy-requires c κs =
+    let a = c .before .before .before .before .before .before .before .args in
+    let few = rw (← c .before .before .before .before .get-lines-for-agent-to-obstacle .ensures) at (sound-few (a .wall .count) _ (call-sound (a .agent) (a .wall .kind) (now (a .vertices)) (a .wall .offset) (a .wall .count) (a .margin) (a .horizon))) in
+    (omega (arith, few), omega (arith, few))
+
+add-t16 : tie.Need-add-t16
+add-t16 c =
+    let a = c .before .before .before .before .before .before .before .before .before .before .args in
+    let few = rw (← c .before .before .before .before .before .before .before .get-lines-for-agent-to-obstacle .ensures) at (sound-few (a .wall .count) _ (call-sound (a .agent) (a .wall .kind) (now (a .vertices)) (a .wall .offset) (a .wall .count) (a .margin) (a .horizon))) in
+    omega (arith, few)
+
+same-length : tie.Need-same-length
+same-length c = search needs
+
+returns-2 : tie.Need-returns-2
+returns-2 c =
+    let a = c .before .before .before .before .before .before .before .before .before .before .args in
+    let found = c .before .before .before .before .before .before .before .get-lines-for-agent-to-obstacle in
+    let few = rw (← found .ensures) at (sound-few (a .wall .count) _ (call-sound (a .agent) (a .wall .kind) (now (a .vertices)) (a .wall .offset) (a .wall .count) (a .margin) (a .horizon))) in
+    let size : length (found .result .lines) ≡ 256 = search needs in
+    (search needs, omega (arith, few), rw (c .before .before .copy .ensures) (added-lines (now (a .numbers)) (a .count) (found .result) (obstacleCall (a .agent) (a .wall .kind) (now (a .vertices)) (a .wall .offset) (a .wall .count) (a .margin) (a .horizon)) (found .ensures) (c .before .before .before .before .before .enum-told .given .1) (omega arith) (omega (arith, few, size))))
+
+pub add-obstacle-spec : {M : Type 1} → statement M
+add-obstacle-spec =
+    tie.close
+    (tie.spec
+    get-lines-for-agent-to-obstacle-requires
+    enum-known-judged
+    returns
+    enum-told
+    mul-copy
+    mul-copy-2
+    copy-requires
+    add-t16
+    same-length
+    returns-2)

@@ -1,0 +1,116 @@
+-- `dodgy_2d::edge_lines::edge_lines` meets its contract. The invariant: the lines of the obstacles before i, joined with what the rest makes, are all of them. Assumes nothing.
+use Prim.Native.Nat.{_-_, _*_, _≤_}
+use mathlib.Core.Path.{_≡_, sym, _∙_}
+use native.Mathlib.Omega.{arith}
+use denote.Ref.{now}
+use lib.ListN.{length, take, drop}
+use Rattle.admission.specs.Faults.{fine}
+use Rattle.linear_programming.specs.Lines.{linesOf}
+use Rattle.obstacles.specs.Obstacles.{lines}
+use Rattle.dodgy_2d.specs.Scenes.{obstaclesFault}
+use Rattle.dodgy_2d.specs.Outcomes.{joined, edgeLines}
+use Rattle.dodgy_2d.proofs.HeadsInOrder.{headsFrom, own-fine, own-room}
+use Rattle.dodgy_2d.proofs.EdgesJoined.{joined-none, edges-on, edges-done}
+use borrow.Author.Needs.{needs}
+use Rattle.dodgy_2d.proofs.edge_lines.edge_lines.Statement.{statement}
+use Rattle.dodgy_2d.proofs.edge_lines.edge_lines.Tie as tie
+
+abbrev Inv-loop : tie.InvT-loop
+Inv-loop agent n vertices margin horizon numbers₀ kinds counts count₀ offset₀ i₀ numbers count offset i = (i ≤ n)
+    × (count ≤ offset)
+    × (offset ≤ 192)
+    × (length numbers ≡ 1024)
+    × (obstaclesFault offset (headsFrom kinds counts n i) (drop (2 * offset) vertices) ≡ fine)
+    × (edgeLines agent margin horizon vertices 0 (headsFrom kinds counts n 0) ≡ joined (lines (linesOf (take (4 * count) numbers))) (edgeLines agent margin horizon vertices offset (headsFrom kinds counts n i)))
+
+abbrev μ-loop : tie.MeasureT-loop
+μ-loop agent n vertices margin horizon numbers₀ kinds counts count₀ offset₀ i₀ numbers count offset i = n - i
+
+loop-holds : tie.Need-loop-holds Inv-loop μ-loop
+unfolding linesOf
+loop-holds c = (omega arith, omega arith, omega arith, search needs, c .before .before .pre .2, sym (joined-none _))
+
+array-read-t20 : tie.Need-array-read-t20 Inv-loop μ-loop
+array-read-t20 c = search needs
+
+array-read-index : tie.Need-array-read-index Inv-loop μ-loop
+array-read-index c = search needs
+
+index-requires : tie.Need-index-requires Inv-loop μ-loop
+index-requires c κs = search needs
+
+add-obstacle-requires : tie.Need-add-obstacle-requires Inv-loop μ-loop
+add-obstacle-requires c κs =
+    let a = c .before .before .before .before .before .before .args in
+    let l = c .before .before .before .loop in
+    let own = own-fine (a .t2) (a .t3) (a .n) (l .i) (omega arith) (omega arith) (l .offset) (now (a .vertices)) (omega arith) (l .inv .4) in
+    let room = rw (← c .before .index .ensures .0) at (own-room (a .t2) (a .t3) (a .n) (l .i) (omega arith) (omega arith) (l .offset) (now (a .vertices)) (own .0)) in
+    (search needs, room .0, omega (arith, room .1))
+
+enum-known-added : tie.Need-enum-known-added Inv-loop μ-loop
+enum-known-added c = search needs
+
+enum-told : tie.Need-enum-told Inv-loop μ-loop
+enum-told c = search needs
+
+same-length : tie.Need-same-length Inv-loop μ-loop
+same-length c = search needs
+
+returns : tie.Need-returns Inv-loop μ-loop
+returns c =
+    let a = c .before .before .before .before .before .before .before .before .before .before .before .args in
+    let l = c .before .before .before .before .before .before .before .before .loop in
+    let own = own-fine (a .t2) (a .t3) (a .n) (l .i) (omega arith) (omega arith) (l .offset) (now (a .vertices)) (omega arith) (l .inv .4) in
+    let room = rw (← c .before .before .before .before .before .before .index .ensures .0) at (own-room (a .t2) (a .t3) (a .n) (l .i) (omega arith) (omega arith) (l .offset) (now (a .vertices)) (own .0)) in
+    let step = rw (c .enum-told .given .1, c .before .before .before .before .before .before .index .ensures .0) at (c .before .before .before .before .add-obstacle .ensures .2) in
+    (c .before .before .before .before .add-obstacle .ensures .0, omega (arith, c .before .before .before .before .add-obstacle .ensures .1, room .1), rw (c .enum-told .given .1) (sym (l .inv .5 ∙ edges-on (a .agent) (a .margin) (a .horizon) (now (a .vertices)) (a .t2) (a .t3) (a .n) (omega arith) (omega arith) (l .i) (l .offset) (lines (linesOf (take (4 * l .count) (l .numbers)))) _ (omega arith) step)))
+
+add-offset : tie.Need-add-offset Inv-loop μ-loop
+add-offset c = search needs
+
+add-i : tie.Need-add-i Inv-loop μ-loop
+add-i c = search needs
+
+loop-less : tie.Need-loop-less Inv-loop μ-loop
+loop-less c = search needs
+
+loop-again : tie.Need-loop-again Inv-loop μ-loop
+loop-again c =
+    let a = c .before .before .before .before .before .before .before .before .before .before .before .before .before .args in
+    let l = c .before .before .before .before .before .before .before .before .before .before .loop in
+    let own = own-fine (a .t2) (a .t3) (a .n) (l .i) (omega arith) (omega arith) (l .offset) (now (a .vertices)) (omega arith) (l .inv .4) in
+    let room = rw (← c .before .before .before .before .before .before .before .before .index .ensures .0) at (own-room (a .t2) (a .t3) (a .n) (l .i) (omega arith) (omega arith) (l .offset) (now (a .vertices)) (own .0)) in
+    let step = rw (c .before .before .added .given .1, c .before .before .before .before .before .before .before .before .index .ensures .0) at (c .before .before .before .before .before .before .add-obstacle .ensures .2) in
+    let few = rw (c .before .before .added .given .1) at (c .before .before .before .before .before .before .add-obstacle .ensures .1) in
+    (omega arith, omega (arith, few), room .1, c .before .before .before .before .before .before .add-obstacle .ensures .0, rw (c .before .before .before .before .before .before .before .before .index .ensures .0) (own .1), rw (c .before .before .before .before .before .before .before .before .index .ensures .0) (l .inv .5 ∙ edges-on (a .agent) (a .margin) (a .horizon) (now (a .vertices)) (a .t2) (a .t3) (a .n) (omega arith) (omega arith) (l .i) (l .offset) (lines (linesOf (take (4 * l .count) (l .numbers)))) _ (omega arith) step))
+
+same-length-2 : tie.Need-same-length-2 Inv-loop μ-loop
+same-length-2 c = search needs
+
+returns-2 : tie.Need-returns-2 Inv-loop μ-loop
+returns-2 c =
+    let a = c .before .before .before .before .args in
+    let l = c .before .loop in
+    (l .inv .3, omega arith, sym (l .inv .5 ∙ edges-done (a .agent) (a .margin) (a .horizon) (now (a .vertices)) (a .t2) (a .t3) (a .n) (omega arith) (omega arith) (l .i) (l .offset) (linesOf (take (4 * l .count) (l .numbers))) (omega arith)))
+
+pub edge-lines-spec : {M : Type 1} → statement M
+edge-lines-spec =
+    tie.close
+    (tie.spec
+    Inv-loop
+    μ-loop
+    loop-holds
+    array-read-t20
+    array-read-index
+    index-requires
+    add-obstacle-requires
+    enum-known-added
+    enum-told
+    same-length
+    returns
+    add-offset
+    add-i
+    loop-less
+    loop-again
+    same-length-2
+    returns-2)

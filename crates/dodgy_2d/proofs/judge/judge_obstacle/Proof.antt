@@ -1,0 +1,56 @@
+-- `dodgy_2d::judge::judge_obstacle` meets its contract. Assumes nothing.
+use mathlib.Core.Path.{sym, ap, _∙_}
+use native.Mathlib.Omega.{arith}
+use denote.Ref.{now}
+use Rattle.dodgy_2d.specs.Scenes.{headOf, numbersFault}
+use Rattle.dodgy_2d.proofs.HeadsInOrder.{head-room, part-of}
+use borrow.Author.Needs.{needs}
+use Rattle.dodgy_2d.proofs.judge.judge_obstacle.Statement.{statement}
+use Rattle.dodgy_2d.proofs.judge.judge_obstacle.Tie as tie
+
+judge-head-requires : tie.Need-judge-head-requires
+judge-head-requires c κs = search needs
+
+enum-told : tie.Need-enum-told
+enum-told c = search needs
+
+enum-told-2 : tie.Need-enum-told-2
+enum-told-2 c = search needs
+
+returns : tie.Need-returns
+returns c = simp (← c .before .before .judge-head .ensures, c .enum-told2 .given .1)
+
+mul-judge-numbers : tie.Need-mul-judge-numbers
+mul-judge-numbers c = search needs
+
+add-judge-numbers : tie.Need-add-judge-numbers
+add-judge-numbers c = search needs
+
+mul-judge-numbers-2 : tie.Need-mul-judge-numbers-2
+mul-judge-numbers-2 c = search needs
+
+judge-numbers-requires : tie.Need-judge-numbers-requires
+judge-numbers-requires c κs =
+    let a = c .before .before .before .before .args in
+    let room = head-room (a .total) (headOf (a .kind) (a .count)) (sym (rw (c .enum-told .given .1) at (c .before .before .judge-head .ensures))) in
+    (omega arith, omega (arith, room .1))
+
+returns-2 : tie.Need-returns-2
+returns-2 c =
+    let a = c .before .before .before .before .before .args in
+    let room = head-room (a .total) (headOf (a .kind) (a .count)) (sym (rw (c .before .enum-told .given .1) at (c .before .before .before .judge-head .ensures))) in
+    simp (← c .before .before .before .judge-head .ensures, c .before .enum-told .given .1) (c .judge-numbers .ensures ∙ ap numbersFault (part-of (now (a .vertices)) (a .total) (a .count) (room .1) (omega arith)))
+
+pub judge-obstacle-spec : {M : Type 1} → statement M
+judge-obstacle-spec =
+    tie.close
+    (tie.spec
+    judge-head-requires
+    enum-told
+    enum-told-2
+    returns
+    mul-judge-numbers
+    add-judge-numbers
+    mul-judge-numbers-2
+    judge-numbers-requires
+    returns-2)

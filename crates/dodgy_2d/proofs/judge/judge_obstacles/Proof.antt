@@ -1,0 +1,87 @@
+-- `dodgy_2d::judge::judge_obstacles` meets its contract. The invariant: the obstacles before i pass, and have `total` vertices. Assumes nothing.
+use Rattle.dodgy_2d.proofs.HeadsInOrder.{headsFrom, obstacle-on, obstacle-stop, obstacles-done, own-room}
+use Prim.Native.Nat.{_-_, _*_, _≤_}
+use mathlib.Core.Path.{_≡_, refl, sym, _∙_}
+use native.Mathlib.Omega.{arith}
+use denote.Ref.{now}
+use lib.ListN.{drop}
+use Rattle.dodgy_2d.specs.Scenes.{obstaclesFault}
+use borrow.Author.Needs.{needs}
+use Rattle.dodgy_2d.proofs.judge.judge_obstacles.Statement.{statement}
+use Rattle.dodgy_2d.proofs.judge.judge_obstacles.Tie as tie
+
+abbrev Inv-loop : tie.InvT-loop
+Inv-loop n vertices kinds counts total₀ i₀ total i = (i ≤ n) × (total ≤ 192) × (obstaclesFault 0 (headsFrom kinds counts n 0) vertices ≡ obstaclesFault total (headsFrom kinds counts n i) (drop (2 * total) vertices))
+
+abbrev μ-loop : tie.MeasureT-loop
+μ-loop n vertices kinds counts total₀ i₀ total i = n - i
+
+loop-holds : tie.Need-loop-holds Inv-loop μ-loop
+loop-holds c = (omega arith, omega arith, refl)
+
+array-read-index : tie.Need-array-read-index Inv-loop μ-loop
+array-read-index c = search needs
+
+index-requires : tie.Need-index-requires Inv-loop μ-loop
+index-requires c κs = search needs
+
+array-read-judge-obstacle : tie.Need-array-read-judge-obstacle Inv-loop μ-loop
+array-read-judge-obstacle c = search needs
+
+judge-obstacle-requires : tie.Need-judge-obstacle-requires Inv-loop μ-loop
+judge-obstacle-requires c κs = search needs
+
+enum-told : tie.Need-enum-told Inv-loop μ-loop
+enum-told c = search needs
+
+enum-told-2 : tie.Need-enum-told-2 Inv-loop μ-loop
+enum-told-2 c = search needs
+
+returns : tie.Need-returns Inv-loop μ-loop
+returns c =
+    let a = c .before .before .before .before .before .before .before .args in
+    let l = c .before .before .before .before .before .loop in
+    let step = rw (c .enum-told2 .given .1, c .before .before .before .index .ensures .0) at (c .before .before .judge-obstacle .ensures) in
+    rw (c .enum-told2 .given .1) (sym (l .inv .2 ∙ obstacle-stop (a .t1) (a .t2) (a .n) (l .i) (omega arith) (omega arith) (l .total) (now (a .vertices)) _ (omega arith) step))
+
+add-total : tie.Need-add-total Inv-loop μ-loop
+add-total c = search needs
+
+add-i : tie.Need-add-i Inv-loop μ-loop
+add-i c = search needs
+
+loop-less : tie.Need-loop-less Inv-loop μ-loop
+loop-less c = search needs
+
+loop-again : tie.Need-loop-again Inv-loop μ-loop
+loop-again c =
+    let a = c .before .before .before .before .before .before .before .args in
+    let l = c .before .before .before .before .before .loop in
+    let step = rw (c .enum-told .given .1, c .before .before .before .index .ensures .0) at (c .before .before .judge-obstacle .ensures) in
+    (omega arith, rw (c .before .before .before .index .ensures .0) (own-room (a .t1) (a .t2) (a .n) (l .i) (omega arith) (omega arith) (l .total) (now (a .vertices)) step .1), rw (c .before .before .before .index .ensures .0) (l .inv .2 ∙ obstacle-on (a .t1) (a .t2) (a .n) (l .i) (omega arith) (omega arith) (l .total) (now (a .vertices)) (omega arith) step))
+
+returns-2 : tie.Need-returns-2 Inv-loop μ-loop
+returns-2 c =
+    let a = c .before .before .before .args in
+    let l = c .before .loop in
+    sym (l .inv .2 ∙ obstacles-done (a .t1) (a .t2) (a .n) (l .i) (omega arith) (omega arith) (l .total) (now (a .vertices)) (omega arith))
+
+pub judge-obstacles-spec : {M : Type 1} → statement M
+judge-obstacles-spec =
+    tie.close
+    (tie.spec
+    Inv-loop
+    μ-loop
+    loop-holds
+    array-read-index
+    index-requires
+    array-read-judge-obstacle
+    judge-obstacle-requires
+    enum-told
+    enum-told-2
+    returns
+    add-total
+    add-i
+    loop-less
+    loop-again
+    returns-2)

@@ -1,0 +1,72 @@
+// A cart's velocity from its scene (the Rust's lib.rs, cut): the obstacles' lines, then the neighbours', solved in at most two passes.
+use admission::Judged;
+use common::Vec2;
+use linear_programming::FailedLine;
+use obstacles::Agent;
+ghost use mathlib.Core.Path.{_≡_};
+ghost use Rattle.dodgy_2d.specs.Outcomes.{sceneOutcome};
+ghost use Rattle.dodgy_2d.specs.Read.{outcomeOf};
+
+mod edge_lines;
+mod judge;
+mod passes;
+
+// What a velocity is wanted for: the cart, its walls and its neighbours' lines. Vertices are two numbers each, obstacle behind obstacle; lines four.
+pub struct Scene {
+    pub agent: Agent,
+    pub margin: f32,
+    pub horizon: f32,
+    pub wish: Vec2,
+    pub limit: f32,
+    pub obstacles: usize,
+    pub kinds: [u8; 16],
+    pub counts: [u8; 16],
+    pub vertices: [f32; 384],
+    pub neighbours: usize,
+    pub lines: [f32; 256],
+}
+
+impl Scene {
+    pub const MOST_OBSTACLES: usize = 16;
+
+    // The most vertices of all obstacles together.
+    pub const MOST_VERTICES: usize = 192;
+
+    pub const MOST_NEIGHBOURS: usize = 64;
+
+    pub const SHORTEST_HORIZON: f32 = 0.0009765625;
+
+    pub const LONGEST_HORIZON: f32 = 1024.0;
+}
+
+// An obstacle's kind, and its vertices: `count` of them behind the `offset` vertices of the obstacles before it.
+pub(crate) struct Wall {
+    pub(crate) kind: u8,
+    pub(crate) offset: usize,
+    pub(crate) count: usize,
+}
+
+// How many lines the obstacles made, or the number of a refusal.
+pub(crate) enum EdgeLines {
+    Count(usize),
+    Refused(u8),
+}
+
+// The outcome 1 to 5 with the velocity, the failed line of the last pass run, and the probes of all passes; or the number of the scene's refusal.
+pub enum SceneAnswer {
+    Outcome(u8, f32, f32, FailedLine, u32),
+    Refused(u8),
+}
+
+// The velocity of a scene: 1 where the lines are met, 2 where neighbours' lines had to be relaxed; where the obstacles' lines cannot be met, they are made
+// again for a cart at rest: 3 and 4, and 5 where that fails too, whose point is taken. Refused: the scene's first fault in the order of its fields
+// (6, 4, 3, 5, 7), an edge line that is not admitted (9), the solves (8, 9).
+pub fn compute_avoiding_velocity(scene: Scene) -> SceneAnswer
+    ensures { λ r. ⌜ outcomeOf r ≡ sceneOutcome scene ⌝ }
+{
+    let judged = judge::judge_scene(scene);
+    if let Judged::Fault(number) = judged {
+        return SceneAnswer::Refused(number);
+    }
+    passes::solve(scene)
+}
