@@ -39,7 +39,26 @@ impl Vec2 {
 
     /// Multiplies by 1 / length; dividing by the length would round otherwise.
     pub fn normalize(self) -> Vec2 {
-        self * (1.0 / self.length())
+        self * self.length_recip()
+    }
+
+    // The rest is used by the neighbour lines alone, which the definition of the build takes as they come.
+
+    pub fn length_recip(self) -> f32 {
+        1.0 / self.length()
+    }
+
+    pub fn normalize_or_zero(self) -> Vec2 {
+        let scale = self.length_recip();
+        if scale.is_finite() && scale > 0.0 {
+            self * scale
+        } else {
+            Vec2::ZERO
+        }
+    }
+
+    pub fn project_onto_normalized(self, onto: Vec2) -> Vec2 {
+        onto * self.dot(onto)
     }
 }
 

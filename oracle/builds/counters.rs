@@ -5,6 +5,10 @@ use std::cell::Cell;
 
 pub mod branches;
 pub mod edge_branches;
+pub mod passes;
+
+pub use branches::{taken, Branch, Branches};
+pub use edge_branches::{taken as edges_taken, EdgeBranch, EdgeBranches};
 
 #[derive(Clone, Copy, PartialEq, Debug)]
 pub struct Counts {
@@ -36,9 +40,14 @@ pub fn counts() -> Counts {
 }
 
 pub fn reset() {
+    start_counting();
+    edge_branches::reset();
+    passes::reset();
+}
+
+fn start_counting() {
     COUNTS.set(NOTHING_COUNTED);
     branches::reset();
-    edge_branches::reset();
 }
 
 pub fn probe() {

@@ -5,8 +5,6 @@ use std::cell::Cell;
 
 use glam::Vec2;
 
-use crate::common::determinant;
-
 #[derive(Clone, Copy, PartialEq, Debug)]
 pub enum EdgeBranch {
     // Vertices.
@@ -130,8 +128,8 @@ impl EdgeBranch {
     }
 }
 
-pub fn vertex(closed: bool, left: Vec2, center: Vec2, right: Vec2) {
-    let turn = determinant(right - center, left - center);
+/// `turn` is the determinant of the edges to the right and to the left vertex.
+pub fn vertex(closed: bool, turn: f32, left: Vec2, center: Vec2, right: Vec2) {
     let (convex, concave) = if closed {
         (ClosedConvex, ClosedConcave)
     } else {

@@ -7,7 +7,7 @@ use crate::Hook;
 macro_rules! taken {
     ($branch:literal) => {
         concat!(
-            " crate::counters::edge_branches::EdgeBranch::",
+            " counters::edge_branches::EdgeBranch::",
             $branch,
             ".take();"
         )
@@ -18,7 +18,7 @@ macro_rules! taken {
 macro_rules! first_taken {
     ($branch:literal) => {
         concat!(
-            "crate::counters::edge_branches::EdgeBranch::",
+            "counters::edge_branches::EdgeBranch::",
             $branch,
             ".take(); "
         )
@@ -28,7 +28,7 @@ macro_rules! first_taken {
 /// A call before the tests that it names.
 macro_rules! noted {
     ($call:literal) => {
-        concat!("crate::counters::edge_branches::", $call, "; ")
+        concat!("counters::edge_branches::", $call, "; ")
     };
 }
 
@@ -36,7 +36,7 @@ pub const EDGE_HOOKS: [Hook; 40] = [
     Hook {
         name: "a closed obstacle's vertex",
         before: "\n        let right = vertices[if i == vertices.len() - 1 { 0 } else { i + 1 }];\n        ",
-        inserted: noted!("vertex(true, left, center, right)"),
+        inserted: noted!("vertex(true, determinant(right - center, left - center), left, center, right)"),
         after: "convexity.push(",
     },
     Hook {
@@ -48,7 +48,7 @@ pub const EDGE_HOOKS: [Hook; 40] = [
     Hook {
         name: "an open obstacle's other vertex",
         before: "\n        let right = vertices[i + 1];\n        ",
-        inserted: noted!("vertex(false, left, center, right)"),
+        inserted: noted!("vertex(false, determinant(right - center, left - center), left, center, right)"),
         after: "convexity.push(",
     },
     Hook {

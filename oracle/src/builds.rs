@@ -1,6 +1,6 @@
 //! Both builds asked with the same types, those of the plain one.
 
-use dodgy_counted::{Branches, Counts};
+use counters::{Branches, Counts};
 use glam::Vec2;
 
 use crate::line_lists::LineList;
@@ -10,22 +10,22 @@ use crate::words::{hex_vector, same_vector};
 pub type Answer = Result<Vec2, Vec2>;
 
 pub fn solve_plain(list: &LineList) -> Answer {
-    dodgy_plain::solve_linear_program(&list.lines, list.rigid_count, list.limit, list.wish)
+    dodgy_plain::debug::solve_linear_program(&list.lines, list.rigid_count, list.limit, list.wish)
 }
 
 pub fn solve_counted(list: &LineList) -> (Answer, Counts) {
-    let lines: Vec<dodgy_counted::Line> = list
+    let lines: Vec<dodgy_counted::debug::Line> = list
         .lines
         .iter()
-        .map(|line| dodgy_counted::Line {
+        .map(|line| dodgy_counted::debug::Line {
             point: line.point,
             direction: line.direction,
         })
         .collect();
-    dodgy_counted::reset();
+    counters::reset();
     let answer =
-        dodgy_counted::solve_linear_program(&lines, list.rigid_count, list.limit, list.wish);
-    (answer, dodgy_counted::counts())
+        dodgy_counted::debug::solve_linear_program(&lines, list.rigid_count, list.limit, list.wish);
+    (answer, counters::counts())
 }
 
 /// What both builds say of a list.
@@ -46,7 +46,7 @@ pub fn solve_both(list: &LineList) -> Result<Solved, String> {
     Ok(Solved {
         answer,
         counts,
-        branches: dodgy_counted::taken(),
+        branches: counters::taken(),
     })
 }
 

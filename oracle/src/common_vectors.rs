@@ -3,7 +3,7 @@
 //! a / k (2), a.dot(b), a.perp() (2), a.length_squared(), a.distance_squared(b),
 //! a.normalize() (2), a == b (1 or 0). No input is NaN.
 
-use dodgy_plain::determinant;
+use dodgy_plain::debug::determinant;
 use glam::Vec2;
 
 use crate::random::Random;

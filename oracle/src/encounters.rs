@@ -2,7 +2,7 @@
 
 use std::fmt;
 
-use dodgy_counted::EdgeBranches;
+use counters::EdgeBranches;
 use glam::Vec2;
 
 use crate::words::{hex, hex_vector, same_vector};
@@ -43,7 +43,7 @@ macro_rules! edge_lines {
             $build::Obstacle::Open { vertices }
         };
         let (margin, horizon) = ($encounter.margin, $encounter.horizon);
-        $build::get_lines_for_agent_to_obstacle(&agent, &obstacle, margin, horizon)
+        $build::debug::get_lines_for_agent_to_obstacle(&agent, &obstacle, margin, horizon)
             .iter()
             .map(|line| (line.point, line.direction))
             .collect::<Vec<EdgeLine>>()
@@ -53,9 +53,9 @@ macro_rules! edge_lines {
 /// Asks both builds. Fails where their bits differ.
 pub fn edge_lines(encounter: &Encounter) -> Result<EdgeLines, String> {
     let lines = edge_lines!(dodgy_plain, encounter);
-    dodgy_counted::reset();
+    counters::reset();
     let counted = edge_lines!(dodgy_counted, encounter);
-    let branches = dodgy_counted::edges_taken();
+    let branches = counters::edges_taken();
     let agree = lines.len() == counted.len()
         && lines
             .iter()

@@ -2,7 +2,7 @@
 
 use std::fmt;
 
-use dodgy_plain::Line;
+use dodgy_plain::debug::Line;
 use glam::Vec2;
 
 use crate::random::Random;

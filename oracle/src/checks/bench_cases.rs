@@ -1,8 +1,8 @@
 //! P1 to P9 of the definition of the build, and one list whose inner solve fails.
 //! Numbers are compared by value, as that table has them: P6 ends in (-0, 2).
 
-use dodgy_counted::Counts;
-use dodgy_plain::Line;
+use counters::Counts;
+use dodgy_plain::debug::Line;
 use glam::Vec2;
 
 use super::Outcome;

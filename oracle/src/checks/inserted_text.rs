@@ -1,18 +1,19 @@
-//! Taking the inserted text out of the counted solver and edges leaves the files that the plain build compiled.
+//! Taking the inserted text out of the counted files leaves the files that the plain build compiled.
 
-use hooks::edge_hooks::EDGE_HOOKS;
-use hooks::{Hook, HOOKS, MARK};
+use hooks::{Hook, HOOKED_FILES, MARK};
 
 use super::Outcome;
 
 pub fn check() -> Outcome {
-    let solver = compare(&HOOKS, dodgy_counted::SOLVER_TEXT, dodgy_plain::SOLVER_TEXT)?;
-    let edges = compare(
-        &EDGE_HOOKS,
-        dodgy_counted::EDGES_TEXT,
-        dodgy_plain::EDGES_TEXT,
-    )?;
-    Ok(format!("{solver}; {edges}"))
+    let texts = dodgy_counted::debug::TEXTS
+        .iter()
+        .zip(dodgy_plain::debug::TEXTS);
+    let mut compared = Vec::new();
+    for ((name, hooks), (counted, given)) in HOOKED_FILES.iter().zip(texts) {
+        let outcome = compare(hooks, counted, given);
+        compared.push(outcome.map_err(|difference| format!("{name}: {difference}"))?);
+    }
+    Ok(compared.join("; "))
 }
 
 fn compare(hooks: &[Hook], counted: &str, given: &str) -> Outcome {

@@ -47,12 +47,12 @@ fn numbers(input: &Input) -> [(&'static str, f32, f32); 6] {
     [
         (
             "determinant",
-            dodgy_plain::determinant(a, b),
+            dodgy_plain::debug::determinant(a, b),
             determinant(a, b),
         ),
         (
             "counted determinant",
-            dodgy_counted::determinant(a, b),
+            dodgy_counted::debug::determinant(a, b),
             determinant(a, b),
         ),
         ("dot", a.dot(b), dot(a, b)),

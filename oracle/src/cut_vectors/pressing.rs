@@ -1,7 +1,7 @@
 //! Lists whose every line has to be worked, but for roundings and where a rigid failure comes first: the lines before it
 //! leave neither a point that meets it nor a penetration that lets it pass.
 
-use dodgy_plain::Line;
+use dodgy_plain::debug::Line;
 
 use crate::builds::solve_counted;
 use crate::line_lists::LineList;

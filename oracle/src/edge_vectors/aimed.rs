@@ -1,6 +1,6 @@
 //! Agents and velocities put where a test is about to turn.
 
-use dodgy_counted::EdgeBranch;
+use counters::EdgeBranch;
 use glam::Vec2;
 
 use super::layouts::{corner, horizon, lattice, scattered, star};

@@ -1,7 +1,7 @@
 //! What the encounters must show: a table of rows, each with how many encounters show it, and how many of these are not
 //! refused. No row may be 0.
 
-use dodgy_counted::EdgeBranch;
+use counters::EdgeBranch;
 use glam::Vec2;
 
 use super::call::{Call, SCENE_VERTICES};

@@ -1,6 +1,6 @@
 //! A call of the linear program as a record has it: the lines are numbers, four a line if they are whole.
 
-use dodgy_plain::Line;
+use dodgy_plain::debug::Line;
 use glam::Vec2;
 
 use crate::line_lists::LineList;

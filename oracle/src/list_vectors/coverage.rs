@@ -1,6 +1,6 @@
 //! What the lists must show: a table of rows, each with how many lists show it. No row may be 0.
 
-use dodgy_counted::Branch;
+use counters::Branch;
 use glam::Vec2;
 
 use super::call::Call;

@@ -1,6 +1,6 @@
 //! Random lists that are admitted.
 
-use dodgy_plain::Line;
+use dodgy_plain::debug::Line;
 use glam::Vec2;
 
 use super::call::Call;

@@ -14,7 +14,7 @@ mod refused;
 
 use std::panic;
 
-use dodgy_counted::Branch;
+use counters::Branch;
 use glam::Vec2;
 
 use crate::builds::{solve_both, Solved};
