@@ -10,12 +10,20 @@ mod encounters;
 mod line_lists;
 mod list_vectors;
 mod random;
+mod records;
+mod scene_vectors;
+mod scenes;
 mod words;
 
 use std::process::ExitCode;
 use std::{env, fs};
 
-const USAGE: &str = "usage: oracle self-check | oracle vectors common|lists|cuts|edges FILE";
+use scene_vectors::scale::{self, Until};
+
+const USAGE: &str = "usage: oracle self-check
+       oracle vectors common|lists|cuts|edges FILE
+       oracle vectors scenes SCENES ANSWERS
+       oracle scenes SEED COUNT|SECONDSs SCENES ANSWERS";
 
 fn main() -> ExitCode {
     let arguments: Vec<String> = env::args().skip(1).collect();
@@ -26,6 +34,8 @@ fn main() -> ExitCode {
         ["vectors", "lists", file] => write_covered(file, list_vectors::bytes()),
         ["vectors", "cuts", file] => write_covered(file, cut_vectors::bytes()),
         ["vectors", "edges", file] => write_covered(file, edge_vectors::bytes()),
+        ["vectors", "scenes", scenes, answers] => write_scenes(scenes, answers),
+        ["scenes", seed, until, scenes, answers] => write_at_scale(seed, until, scenes, answers),
         _ => Err(USAGE.to_string()),
     };
     match outcome {
@@ -46,6 +56,21 @@ fn write_covered(file: &str, covered: Covered) -> Result<(), String> {
     write_file(file, &bytes)?;
     print!("{table}");
     Ok(())
+}
+
+fn write_scenes(scenes: &str, answers: &str) -> Result<(), String> {
+    let set = scene_vectors::set()?;
+    write_file(scenes, &set.scenes)?;
+    write_file(answers, &set.answers)?;
+    print!("{}", set.table);
+    Ok(())
+}
+
+fn write_at_scale(seed: &str, until: &str, scenes: &str, answers: &str) -> Result<(), String> {
+    match (seed.parse(), Until::parse(until)) {
+        (Ok(seed), Some(until)) => scale::write(seed, until, scenes, answers),
+        _ => Err(USAGE.to_string()),
+    }
 }
 
 fn write_file(file: &str, bytes: &[u8]) -> Result<(), String> {

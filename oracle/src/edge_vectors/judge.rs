@@ -3,7 +3,7 @@
 
 use super::call::{Call, CLOSED, OPEN};
 use crate::encounters::{EdgeLine, Encounter};
-use crate::list_vectors::judge::{line_faults, LONGEST, REACH};
+use crate::list_vectors::judge::{admits_component, admits_length, line_faults};
 
 pub const SHORTEST_HORIZON: f32 = 1.0 / 1024.0;
 pub const LONGEST_HORIZON: f32 = 1024.0;
@@ -12,14 +12,23 @@ pub const MOST_VERTICES: u64 = 64;
 /// The first fault before any edge: the kind, the count, none where it is open; then vertices that are missing.
 pub fn fault(call: &Call) -> Option<u32> {
     let vertices = call.numbers.len() as u64 / 2;
-    if call.kind != CLOSED && call.kind != OPEN {
-        Some(3)
-    } else if call.count > MOST_VERTICES {
+    if !is_kind(call.kind) {
+        return Some(3);
+    }
+    let missing = call.offset > vertices || call.count > vertices - call.offset;
+    count_fault(call.kind, call.count).or(missing.then_some(2))
+}
+
+pub fn is_kind(kind: u32) -> bool {
+    kind == CLOSED || kind == OPEN
+}
+
+/// Too many vertices, or none though it is open.
+pub fn count_fault(kind: u32, count: u64) -> Option<u32> {
+    if count > MOST_VERTICES {
         Some(4)
-    } else if call.kind == OPEN && call.count == 0 {
+    } else if kind == OPEN && count == 0 {
         Some(5)
-    } else if call.offset > vertices || call.count > vertices - call.offset {
-        Some(2)
     } else {
         None
     }
@@ -32,12 +41,15 @@ pub fn admits(line: &EdgeLine) -> bool {
 
 /// Whether a scene may hold these numbers.
 pub fn admits_numbers(encounter: &Encounter) -> bool {
-    let horizons = SHORTEST_HORIZON..=LONGEST_HORIZON;
     let mut vectors = encounter.vertices.clone();
     vectors.extend([encounter.position, encounter.velocity]);
     vectors
         .iter()
-        .all(|vector| vector.x.abs() <= REACH && vector.y.abs() <= REACH)
-        && (0.0..=LONGEST).contains(&encounter.margin)
-        && horizons.contains(&encounter.horizon)
+        .all(|vector| admits_component(vector.x) && admits_component(vector.y))
+        && admits_length(encounter.margin)
+        && admits_horizon(encounter.horizon)
+}
+
+pub fn admits_horizon(number: f32) -> bool {
+    (SHORTEST_HORIZON..=LONGEST_HORIZON).contains(&number)
 }

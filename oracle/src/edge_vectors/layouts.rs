@@ -213,6 +213,16 @@ pub fn long(random: &mut Random) -> Encounter {
     beside(random, vertices, position, velocity, margin, horizon)
 }
 
+/// As many vertices as there may be, clockwise round the origin at this distance: a loop that keeps agents in.
+pub fn full_loop(random: &mut Random, radius: f32) -> Vec<Vec2> {
+    let mut vertices = round(random, STEP_OF_MOST, |_| radius);
+    let (first, second) = (vertices[0], vertices[1]);
+    if first.x * second.y > first.y * second.x {
+        vertices.reverse();
+    }
+    vertices
+}
+
 /// Numbers that no scene holds, NaNs and infinities too: the Rust computes with them, and so does a call.
 pub fn any_numbers(random: &mut Random) -> Encounter {
     let mut encounter = lattice(random);

@@ -6,11 +6,11 @@
 //! admitted: an encounter that makes one is refused with 9. Other refusals are those of judge.rs, and the Rust is not
 //! asked. coverage.rs says what the encounters must show, all of it.
 
-mod aimed;
-mod call;
+pub mod aimed;
+pub mod call;
 mod coverage;
-mod judge;
-mod layouts;
+pub mod judge;
+pub mod layouts;
 mod named;
 
 use glam::Vec2;

@@ -22,9 +22,9 @@ pub fn faults(call: &Call) -> Vec<u32> {
     };
     must(call.numbers.len() % 4 == 0, 2);
     must(call.line_count() <= MOST_LINES, 4);
-    must(call.wish.x.abs() <= REACH, 6);
-    must(call.wish.y.abs() <= REACH, 6);
-    must((0.0..=LONGEST).contains(&call.limit), 6);
+    must(admits_component(call.wish.x), 6);
+    must(admits_component(call.wish.y), 6);
+    must(admits_length(call.limit), 6);
     for (point, direction) in call.lines() {
         faults.extend(line_faults(point, direction));
     }
@@ -39,13 +39,30 @@ pub fn line_faults(point: Vec2, direction: Vec2) -> Vec<u32> {
             faults.push(number);
         }
     };
-    must(point.x.abs() <= LINE_REACH, 6);
-    must(point.y.abs() <= LINE_REACH, 6);
+    must(admits_line_component(point.x), 6);
+    must(admits_line_component(point.y), 6);
     must(direction.x.is_finite(), 6);
     must(direction.y.is_finite(), 6);
-    must(
-        (BAND_LOW..=BAND_HIGH).contains(&direction.dot(direction)),
-        7,
-    );
+    must(admits_direction(direction), 7);
     faults
+}
+
+/// Of a position, velocity, wish or vertex.
+pub fn admits_component(number: f32) -> bool {
+    number.abs() <= REACH
+}
+
+/// A speed limit or margin.
+pub fn admits_length(number: f32) -> bool {
+    (0.0..=LONGEST).contains(&number)
+}
+
+/// Of a line's point.
+pub fn admits_line_component(number: f32) -> bool {
+    number.abs() <= LINE_REACH
+}
+
+/// Of finite components.
+pub fn admits_direction(direction: Vec2) -> bool {
+    (BAND_LOW..=BAND_HIGH).contains(&direction.dot(direction))
 }

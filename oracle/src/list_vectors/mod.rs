@@ -10,7 +10,7 @@ mod coverage;
 pub mod judge;
 pub mod made;
 pub mod named;
-mod refused;
+pub mod refused;
 
 use std::panic;
 

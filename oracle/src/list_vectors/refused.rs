@@ -100,7 +100,7 @@ fn line_start(random: &mut Random, call: &Call) -> usize {
 }
 
 /// The next f32 above what is admitted, one far above, infinity, or a NaN of any pattern.
-fn too_large(random: &mut Random, most: f32) -> f32 {
+pub fn too_large(random: &mut Random, most: f32) -> f32 {
     let nan = f32::from_bits(random.pick(&[0x7FC0_0000, 0x7F80_0001, 0x7FFF_FFFF]));
     let far = random.magnitude(most, f32::INFINITY).abs();
     let number = random.pick(&[most.next_up(), far.next_up(), f32::INFINITY, nan]);

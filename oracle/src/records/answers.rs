@@ -1,0 +1,39 @@
+//! Answer records: written from what the passes over a scene gave, and read again.
+
+use glam::Vec2;
+
+use super::{with_length, VERSION};
+
+const NO_LINE: u16 = u16::MAX;
+const REFUSED: u8 = 128;
+
+pub enum Answer {
+    Velocity(Velocity),
+    Refused(u8),
+}
+
+pub struct Velocity {
+    pub outcome: u8,
+    pub point: Vec2,
+    /// That of the last pass run.
+    pub failed_line: Option<u16>,
+    /// Those of all passes.
+    pub probes: u32,
+}
+
+impl Answer {
+    pub fn record(&self) -> Vec<u8> {
+        let mut rest = vec![VERSION];
+        match self {
+            Answer::Refused(number) => rest.push(REFUSED + number),
+            Answer::Velocity(velocity) => {
+                rest.push(velocity.outcome);
+                rest.extend(velocity.point.x.to_bits().to_be_bytes());
+                rest.extend(velocity.point.y.to_bits().to_be_bytes());
+                rest.extend(velocity.failed_line.unwrap_or(NO_LINE).to_be_bytes());
+                rest.extend(velocity.probes.to_be_bytes());
+            }
+        }
+        with_length(rest)
+    }
+}

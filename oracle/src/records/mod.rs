@@ -1,0 +1,56 @@
+//! Scene and answer records, big-endian, as the definition of the build has them ("Records").
+
+pub mod answers;
+pub mod reader;
+
+use glam::Vec2;
+
+use crate::edge_vectors::call::{CLOSED, OPEN};
+use crate::scenes::Scene;
+
+pub const VERSION: u8 = 1;
+/// The greatest length field, which counts the bytes behind it.
+pub const LONGEST_REST: usize = 2_631;
+pub const MOST_OBSTACLES: usize = 16;
+pub const MOST_NEIGHBOURS: usize = 64;
+
+/// Numbers by their own bits; counts as they are, so that they must fit a byte.
+pub fn scene_record(scene: &Scene) -> Vec<u8> {
+    let mut rest = vec![VERSION];
+    vector(&mut rest, scene.position);
+    vector(&mut rest, scene.velocity);
+    number(&mut rest, scene.margin);
+    number(&mut rest, scene.horizon);
+    vector(&mut rest, scene.wish);
+    number(&mut rest, scene.limit);
+    rest.push(scene.obstacles.len() as u8);
+    for obstacle in &scene.obstacles {
+        let kind = if obstacle.closed { CLOSED } else { OPEN };
+        rest.extend([kind as u8, obstacle.vertices.len() as u8]);
+        for vertex in &obstacle.vertices {
+            vector(&mut rest, *vertex);
+        }
+    }
+    rest.push(scene.lines.len() as u8);
+    for (point, direction) in &scene.lines {
+        vector(&mut rest, *point);
+        vector(&mut rest, *direction);
+    }
+    with_length(rest)
+}
+
+/// A record of these bytes behind its length.
+pub fn with_length(rest: Vec<u8>) -> Vec<u8> {
+    let mut record = (rest.len() as u16).to_be_bytes().to_vec();
+    record.extend(rest);
+    record
+}
+
+fn vector(bytes: &mut Vec<u8>, vector: Vec2) {
+    number(bytes, vector.x);
+    number(bytes, vector.y);
+}
+
+fn number(bytes: &mut Vec<u8>, number: f32) {
+    bytes.extend(number.to_bits().to_be_bytes());
+}

@@ -1,0 +1,120 @@
+//! The judge of scene records, written from the definition of the build alone: a record's order of faults in "Refusal numbers",
+//! and "Records". The first fault is told.
+
+use glam::Vec2;
+
+use super::{LONGEST_REST, MOST_NEIGHBOURS, MOST_OBSTACLES, VERSION};
+use crate::edge_vectors::call::{CLOSED, SCENE_VERTICES};
+use crate::edge_vectors::judge::{admits_horizon, count_fault, is_kind};
+use crate::encounters::EdgeLine;
+use crate::list_vectors::judge::{
+    admits_component, admits_direction, admits_length, admits_line_component,
+};
+use crate::scenes::{Obstacle, Scene};
+
+/// The scene, its neighbour lines ready made; or the number of the refusal.
+pub fn read(record: &[u8]) -> Result<Scene, u32> {
+    let (length, rest) = record.split_first_chunk().ok_or(2u32)?;
+    let length = usize::from(u16::from_be_bytes(*length));
+    must(length <= LONGEST_REST, 4)?;
+    must(length == rest.len(), 2)?;
+    let mut fields = Fields { rest };
+    let scene = fields.scene()?;
+    must(fields.rest.is_empty(), 2)?;
+    Ok(scene)
+}
+
+/// What is left of the record.
+struct Fields<'a> {
+    rest: &'a [u8],
+}
+
+impl Fields<'_> {
+    fn scene(&mut self) -> Result<Scene, u32> {
+        must(self.byte()? == VERSION, 1)?;
+        Ok(Scene {
+            position: self.vector(admits_component)?,
+            velocity: self.vector(admits_component)?,
+            margin: self.number(admits_length)?,
+            horizon: self.number(admits_horizon)?,
+            wish: self.vector(admits_component)?,
+            limit: self.number(admits_length)?,
+            obstacles: self.obstacles()?,
+            lines: self.lines()?,
+            neighbours: None,
+        })
+    }
+
+    fn obstacles(&mut self) -> Result<Vec<Obstacle>, u32> {
+        let count = self.count(MOST_OBSTACLES)?;
+        let mut obstacles = Vec::new();
+        let mut room = SCENE_VERTICES;
+        for _ in 0..count {
+            let obstacle = self.obstacle(room)?;
+            room -= obstacle.vertices.len();
+            obstacles.push(obstacle);
+        }
+        Ok(obstacles)
+    }
+
+    /// `room` is for how many vertices the obstacles before it left room.
+    fn obstacle(&mut self, room: usize) -> Result<Obstacle, u32> {
+        let kind = u32::from(self.byte()?);
+        must(is_kind(kind), 3)?;
+        let count = self.count(room)?;
+        count_fault(kind, count as u64).map_or(Ok(()), Err)?;
+        let vertices = (0..count).map(|_| self.vector(admits_component));
+        Ok(Obstacle {
+            closed: kind == CLOSED,
+            vertices: vertices.collect::<Result<_, _>>()?,
+        })
+    }
+
+    fn lines(&mut self) -> Result<Vec<EdgeLine>, u32> {
+        let count = self.count(MOST_NEIGHBOURS)?;
+        (0..count).map(|_| self.line()).collect()
+    }
+
+    fn line(&mut self) -> Result<EdgeLine, u32> {
+        let point = self.vector(admits_line_component)?;
+        let direction = self.vector(f32::is_finite)?;
+        must(admits_direction(direction), 7)?;
+        Ok((point, direction))
+    }
+
+    fn count(&mut self, most: usize) -> Result<usize, u32> {
+        let count = usize::from(self.byte()?);
+        must(count <= most, 4)?;
+        Ok(count)
+    }
+
+    fn vector(&mut self, admits: fn(f32) -> bool) -> Result<Vec2, u32> {
+        Ok(Vec2::new(self.number(admits)?, self.number(admits)?))
+    }
+
+    fn number(&mut self, admits: fn(f32) -> bool) -> Result<f32, u32> {
+        let number = f32::from_bits(u32::from_be_bytes(self.take()?));
+        must(admits(number), 6)?;
+        Ok(number)
+    }
+
+    fn byte(&mut self) -> Result<u8, u32> {
+        let [byte] = self.take()?;
+        Ok(byte)
+    }
+
+    /// So many of the next bytes.
+    fn take<const COUNT: usize>(&mut self) -> Result<[u8; COUNT], u32> {
+        let (taken, rest) = self.rest.split_first_chunk().ok_or(2u32)?;
+        self.rest = rest;
+        Ok(*taken)
+    }
+}
+
+fn must(rule: bool, number: u32) -> Result<(), u32> {
+    if rule {
+        Ok(())
+    } else {
+        Err(number)
+    }
+}

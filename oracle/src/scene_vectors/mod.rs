@@ -1,0 +1,188 @@
+//! The vectors of whole scenes: scene records, one after the other, and in a file of their own the answer records, as many.
+//! Velocities, failed lines and probes are the Rust's. The passes are worked out from both builds' edge lines and solves, and the given lib.rs,
+//! asked for the whole, must have the same lines in each pass and end in the same bits: the counted build for every scene, the plain one where
+//! the neighbours are agents or there are none. Refusals are those of the judges, 9 where the Rust made an edge line that is not
+//! admitted. coverage.rs says what the scenes must show, all of it.
+
+mod coverage;
+mod crowded;
+mod faulty;
+mod layouts;
+mod named;
+pub mod scale;
+mod warehouse;
+
+use crate::random::Random;
+use crate::records::answers::Answer;
+use crate::records::{reader, scene_record};
+use crate::scenes::passes::{self, Passes};
+use crate::scenes::Scene;
+
+const SEED: u64 = 0x7363_656E_6573;
+const AT_LEAST: usize = 20_000;
+
+type MakeScene = fn(&mut Random) -> Scene;
+type MakeRecord = fn(&mut Random) -> Vec<u8>;
+type Wanted = fn(&Case) -> bool;
+
+/// How scenes are made, which of them are taken, and how many. Most are small, to keep the file so.
+const PARTS: [(MakeScene, Wanted, usize); 28] = [
+    (layouts::ordinary, any, 5_000),
+    (layouts::unhindered, any, 300),
+    (layouts::about_to_turn, any, 2_600),
+    (layouts::extreme, any, 1_600),
+    (layouts::doubled, any, 1_000),
+    (layouts::inside_by_rounding, any, 300),
+    (layouts::inside_by_rounding, is_refused_second, 30),
+    (layouts::hurried, any, 500),
+    (layouts::hurried, is_second, 700),
+    (layouts::touching, any, 300),
+    (layouts::touching, is_second, 200),
+    (layouts::fitted, any, 200),
+    (layouts::fitted, is_twice_rigid, 160),
+    (layouts::covered_while_moving, any, 200),
+    (layouts::covered_while_moving, is_second, 300),
+    (layouts::covered_while_moving, is_refused_second, 200),
+    (warehouse::shelves, any, 2_400),
+    (warehouse::gates, any, 1_200),
+    (warehouse::hurried_among_carts, is_second, 300),
+    (warehouse::covered_among_carts, is_second, 300),
+    (warehouse::fitted_among_carts, is_twice_rigid, 60),
+    (crowded::many_obstacles, any, 120),
+    (crowded::many_vertices, any, 40),
+    (crowded::one_large, any, 60),
+    (crowded::many_lines, any, 80),
+    (crowded::longest, any, 20),
+    (crowded::all_lines, any, 50),
+    (crowded::all_relaxed, any, 10),
+];
+
+const FAULTY_PARTS: [(MakeRecord, usize); 2] = [(faulty::spoiled, 2_400), (faulty::overlong, 12)];
+
+/// How often a scene may be made anew until one is taken.
+const MOST_TRIES: usize = 10_000;
+
+/// A record and what it must give.
+pub struct Case {
+    record: Vec<u8>,
+    outcome: Outcome,
+}
+
+enum Outcome {
+    Passed(Scene, Passes),
+    /// Refused as a record.
+    Faulty(u32),
+}
+
+/// The bytes of both files, and the table of what they cover.
+pub struct Set {
+    pub scenes: Vec<u8>,
+    pub answers: Vec<u8>,
+    pub table: String,
+}
+
+/// The same bytes at each call.
+pub fn set() -> Result<Set, String> {
+    let mut cases = named::cases()?;
+    let mut random = Random::new(SEED);
+    for (make, wanted, count) in PARTS {
+        for _ in 0..count {
+            cases.push(search(&mut random, make, wanted)?);
+        }
+    }
+    for (make, count) in FAULTY_PARTS {
+        for _ in 0..count {
+            cases.push(ask_record(make(&mut random))?);
+        }
+    }
+    let made = cases.len();
+    cases.retain(|case| !case.leaves_a_zero_open());
+    if cases.len() < AT_LEAST {
+        return Err(format!("only {} scenes", cases.len()));
+    }
+    let left_out = made - cases.len();
+    let table = coverage::table(&cases)?;
+    Ok(Set {
+        scenes: cases.iter().flat_map(|case| case.record.clone()).collect(),
+        answers: cases
+            .iter()
+            .flat_map(|case| case.answer().record())
+            .collect(),
+        table: format!("{table}\nLeft out, since the Rust leaves a zero's sign open: {left_out}\n"),
+    })
+}
+
+fn search(random: &mut Random, make: MakeScene, wanted: Wanted) -> Result<Case, String> {
+    for _ in 0..MOST_TRIES {
+        let case = ask_scene(make(random))?;
+        if wanted(&case) {
+            return Ok(case);
+        }
+    }
+    Err("a scene is searched for in vain".to_string())
+}
+
+fn ask_scene(scene: Scene) -> Result<Case, String> {
+    let record = scene_record(&scene);
+    match reader::read(&record) {
+        Ok(read) if scene_record(&read) != record => {
+            Err(format!("read otherwise than written: {scene}"))
+        }
+        Ok(_) => pass(record, scene),
+        Err(number) => Ok(refused(record, number)),
+    }
+}
+
+fn ask_record(record: Vec<u8>) -> Result<Case, String> {
+    match reader::read(&record) {
+        Ok(scene) => pass(record, scene),
+        Err(number) => Ok(refused(record, number)),
+    }
+}
+
+fn pass(record: Vec<u8>, scene: Scene) -> Result<Case, String> {
+    let passes = passes::ask(&scene)?;
+    let outcome = Outcome::Passed(scene, passes);
+    Ok(Case { record, outcome })
+}
+
+fn refused(record: Vec<u8>, number: u32) -> Case {
+    let outcome = Outcome::Faulty(number);
+    Case { record, outcome }
+}
+
+impl Case {
+    fn answer(&self) -> Answer {
+        match &self.outcome {
+            Outcome::Passed(_, passes) => passes.answer(),
+            Outcome::Faulty(number) => Answer::Refused(*number as u8),
+        }
+    }
+
+    fn leaves_a_zero_open(&self) -> bool {
+        self.passes().is_some_and(Passes::leaves_a_zero_open)
+    }
+
+    fn passes(&self) -> Option<&Passes> {
+        match &self.outcome {
+            Outcome::Passed(_, passes) => Some(passes),
+            Outcome::Faulty(_) => None,
+        }
+    }
+}
+
+fn any(_: &Case) -> bool {
+    true
+}
+
+fn is_second(case: &Case) -> bool {
+    matches!(case.passes(), Some(Passes::Both(..)))
+}
+
+fn is_twice_rigid(case: &Case) -> bool {
+    matches!(case.passes(), Some(Passes::Both(_, second)) if second.solved.answer.is_err())
+}
+
+fn is_refused_second(case: &Case) -> bool {
+    matches!(case.passes(), Some(Passes::NotAdmittedSecond(_)))
+}
