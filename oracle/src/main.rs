@@ -1,5 +1,7 @@
 //! The oracle: asks the given Rust files, checks that they are asked rightly, writes vectors.
 
+mod agree;
+mod bad_records;
 mod builds;
 mod checks;
 mod common_vectors;
@@ -19,11 +21,13 @@ use std::process::ExitCode;
 use std::{env, fs};
 
 use scene_vectors::scale::{self, Until};
+use scene_vectors::Set;
 
 const USAGE: &str = "usage: oracle self-check
        oracle vectors common|lists|cuts|edges FILE
-       oracle vectors scenes SCENES ANSWERS
-       oracle scenes SEED COUNT|SECONDSs SCENES ANSWERS";
+       oracle vectors scenes|bad_records RECORDS ANSWERS
+       oracle scenes SEED COUNT|SECONDSs SCENES ANSWERS
+       oracle agree ANSWERS OTHER_ANSWERS";
 
 fn main() -> ExitCode {
     let arguments: Vec<String> = env::args().skip(1).collect();
@@ -34,8 +38,14 @@ fn main() -> ExitCode {
         ["vectors", "lists", file] => write_covered(file, list_vectors::bytes()),
         ["vectors", "cuts", file] => write_covered(file, cut_vectors::bytes()),
         ["vectors", "edges", file] => write_covered(file, edge_vectors::bytes()),
-        ["vectors", "scenes", scenes, answers] => write_scenes(scenes, answers),
+        ["vectors", "scenes", records, answers] => {
+            write_set(records, answers, scene_vectors::set())
+        }
+        ["vectors", "bad_records", records, answers] => {
+            write_set(records, answers, bad_records::set())
+        }
         ["scenes", seed, until, scenes, answers] => write_at_scale(seed, until, scenes, answers),
+        ["agree", answers, others] => agree::compare_files(answers, others),
         _ => Err(USAGE.to_string()),
     };
     match outcome {
@@ -58,9 +68,10 @@ fn write_covered(file: &str, covered: Covered) -> Result<(), String> {
     Ok(())
 }
 
-fn write_scenes(scenes: &str, answers: &str) -> Result<(), String> {
-    let set = scene_vectors::set()?;
-    write_file(scenes, &set.scenes)?;
+/// Prints the table as well.
+fn write_set(records: &str, answers: &str, set: Result<Set, String>) -> Result<(), String> {
+    let set = set?;
+    write_file(records, &set.records)?;
     write_file(answers, &set.answers)?;
     print!("{}", set.table);
     Ok(())

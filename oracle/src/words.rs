@@ -30,6 +30,10 @@ pub fn hex_vector(vector: Vec2) -> String {
     format!("({} {})", hex(vector.x), hex(vector.y))
 }
 
+pub fn hex_bytes(bytes: &[u8]) -> String {
+    bytes.iter().map(|byte| format!("{byte:02X}")).collect()
+}
+
 /// Big-endian words, one after the other.
 pub struct Words {
     bytes: Vec<u8>,

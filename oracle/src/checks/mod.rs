@@ -3,17 +3,21 @@
 mod bench_cases;
 mod edge_cases;
 mod inserted_text;
+mod ready_made;
 mod same_answers;
+mod scene_cases;
 mod vector_formulas;
 
 /// What was checked, or the first difference with the input that shows it.
 type Outcome = Result<String, String>;
 
-const CHECKS: [(&str, fn() -> Outcome); 5] = [
+const CHECKS: [(&str, fn() -> Outcome); 7] = [
     ("counters are only inserted", inserted_text::check),
     ("counters change no answer", same_answers::check),
     ("bench cases of the solve", bench_cases::check),
     ("bench cases of the edges", edge_cases::check),
+    ("scenes in bytes", scene_cases::check),
+    ("neighbour lines ready made", ready_made::check),
     ("Vec2 and determinant", vector_formulas::check),
 ];
 

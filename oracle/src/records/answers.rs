@@ -3,6 +3,7 @@
 use glam::Vec2;
 
 use super::{with_length, VERSION};
+use crate::words::hex_bytes;
 
 const NO_LINE: u16 = u16::MAX;
 const REFUSED: u8 = 128;
@@ -35,5 +36,18 @@ impl Answer {
             }
         }
         with_length(rest)
+    }
+}
+
+/// What kind of answer a record is.
+pub fn name_of(record: &[u8]) -> Result<String, String> {
+    match record {
+        [0, 16, VERSION, outcome @ 1..=5, point_and_counts @ ..]
+            if point_and_counts.len() == 14 =>
+        {
+            Ok(format!("outcome {outcome}"))
+        }
+        [0, 2, VERSION, code @ 129..=138] => Ok(format!("refusal {}", code - REFUSED)),
+        _ => Err(format!("not an answer record: {}", hex_bytes(record))),
     }
 }

@@ -76,7 +76,7 @@ enum Outcome {
 
 /// The bytes of both files, and the table of what they cover.
 pub struct Set {
-    pub scenes: Vec<u8>,
+    pub records: Vec<u8>,
     pub answers: Vec<u8>,
     pub table: String,
 }
@@ -102,14 +102,31 @@ pub fn set() -> Result<Set, String> {
     }
     let left_out = made - cases.len();
     let table = coverage::table(&cases)?;
-    Ok(Set {
-        scenes: cases.iter().flat_map(|case| case.record.clone()).collect(),
-        answers: cases
-            .iter()
-            .flat_map(|case| case.answer().record())
-            .collect(),
-        table: format!("{table}\nLeft out, since the Rust leaves a zero's sign open: {left_out}\n"),
-    })
+    let table =
+        format!("{table}\nLeft out, since the Rust leaves a zero's sign open: {left_out}\n");
+    Ok(Set::of(&cases, table))
+}
+
+impl Set {
+    pub fn of(cases: &[Case], table: String) -> Set {
+        let records = cases.iter().map(|case| &case.record[..]);
+        let answers = cases.iter().map(|case| case.answer().record());
+        Set {
+            records: records.collect::<Vec<_>>().concat(),
+            answers: answers.collect::<Vec<_>>().concat(),
+            table,
+        }
+    }
+}
+
+/// A scene whose neighbours are agents.
+pub fn with_agents(random: &mut Random) -> Scene {
+    random.pick(&[
+        warehouse::shelves as MakeScene,
+        warehouse::gates,
+        warehouse::hurried_among_carts,
+        warehouse::covered_among_carts,
+    ])(random)
 }
 
 fn search(random: &mut Random, make: MakeScene, wanted: Wanted) -> Result<Case, String> {
@@ -122,7 +139,7 @@ fn search(random: &mut Random, make: MakeScene, wanted: Wanted) -> Result<Case, 
     Err("a scene is searched for in vain".to_string())
 }
 
-fn ask_scene(scene: Scene) -> Result<Case, String> {
+pub fn ask_scene(scene: Scene) -> Result<Case, String> {
     let record = scene_record(&scene);
     match reader::read(&record) {
         Ok(read) if scene_record(&read) != record => {
@@ -133,7 +150,7 @@ fn ask_scene(scene: Scene) -> Result<Case, String> {
     }
 }
 
-fn ask_record(record: Vec<u8>) -> Result<Case, String> {
+pub fn ask_record(record: Vec<u8>) -> Result<Case, String> {
     match reader::read(&record) {
         Ok(scene) => pass(record, scene),
         Err(number) => Ok(refused(record, number)),
@@ -152,14 +169,22 @@ fn refused(record: Vec<u8>, number: u32) -> Case {
 }
 
 impl Case {
-    fn answer(&self) -> Answer {
+    pub fn answer(&self) -> Answer {
         match &self.outcome {
             Outcome::Passed(_, passes) => passes.answer(),
             Outcome::Faulty(number) => Answer::Refused(*number as u8),
         }
     }
 
-    fn leaves_a_zero_open(&self) -> bool {
+    /// The number with which the record is refused.
+    pub fn fault(&self) -> Option<u32> {
+        match self.outcome {
+            Outcome::Passed(..) => None,
+            Outcome::Faulty(number) => Some(number),
+        }
+    }
+
+    pub fn leaves_a_zero_open(&self) -> bool {
         self.passes().is_some_and(Passes::leaves_a_zero_open)
     }
 

@@ -10,6 +10,7 @@ use glam::Vec2;
 
 use crate::encounters::{EdgeLine, Encounter};
 use crate::records;
+use crate::words::hex_bytes;
 
 #[derive(Clone)]
 pub struct Scene {
@@ -75,9 +76,6 @@ impl Scene {
 /// As its record in hex.
 impl fmt::Display for Scene {
     fn fmt(&self, output: &mut fmt::Formatter) -> fmt::Result {
-        for byte in records::scene_record(self) {
-            write!(output, "{byte:02X}")?;
-        }
-        Ok(())
+        write!(output, "{}", hex_bytes(&records::scene_record(self)))
     }
 }

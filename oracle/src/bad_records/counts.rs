@@ -1,0 +1,194 @@
+//! Lengths, versions, kinds and counts at their limits and beyond.
+
+use super::numbers::{push, scene};
+use super::Named;
+use crate::edge_vectors::call::{CLOSED, OPEN};
+use crate::records::LONGEST_REST;
+
+const CLOSED_BYTE: u8 = CLOSED as u8;
+const OPEN_BYTE: u8 = OPEN as u8;
+
+/// Version and agent, up to the obstacle count.
+const AGENT: usize = 37;
+const VERSION: usize = 0;
+const KIND: usize = 38;
+
+const NO_LINES: u8 = 0;
+
+pub fn records() -> Vec<Named> {
+    let mut records = lengths();
+    records.extend(versions());
+    records.extend(kinds());
+    records.extend(obstacles());
+    records.extend(vertices());
+    records.extend(totals());
+    records.extend(neighbours());
+    records
+}
+
+/// The version and the agent of the scene, then these bytes.
+pub fn agent_and(bytes: &[u8]) -> Vec<u8> {
+    let mut rest = scene()[..AGENT].to_vec();
+    rest.extend(bytes);
+    rest
+}
+
+fn with_byte(place: usize, byte: u8) -> Vec<u8> {
+    let mut rest = scene();
+    rest[place] = byte;
+    rest
+}
+
+/// A scene of no obstacles, which the records behind an overlong one must not be taken for.
+fn empty() -> Vec<u8> {
+    agent_and(&[0, NO_LINES])
+}
+
+fn lengths() -> Vec<Named> {
+    let overlong = |length: usize| {
+        let mut rest = scene();
+        rest.resize(length, 1);
+        ("a length over 2,631, all its bytes there", rest, Some(4))
+    };
+    vec![
+        ("a length of 0", vec![], Some(2)),
+        overlong(LONGEST_REST + 1),
+        ("the shortest scene", empty(), None),
+        overlong(LONGEST_REST + 2),
+        overlong(usize::from(u16::MAX)),
+        ("the shortest scene", empty(), None),
+        ("a length of exactly 2,631", longest(), None),
+        (
+            "a length of exactly 2,631, at fault",
+            at_fault(longest(), VERSION, 2),
+            Some(1),
+        ),
+    ]
+}
+
+fn at_fault(mut rest: Vec<u8>, place: usize, byte: u8) -> Vec<u8> {
+    rest[place] = byte;
+    rest
+}
+
+fn versions() -> Vec<Named> {
+    let alone = |byte: u8| ("another version", vec![byte], Some(1));
+    let mut records = vec![alone(0), alone(2), alone(255)];
+    for byte in [0, 2, 255] {
+        records.push(("another version", with_byte(VERSION, byte), Some(1)));
+    }
+    records
+}
+
+fn kinds() -> Vec<Named> {
+    let row = "a kind of 0, 3 or 255";
+    let mut records = Vec::new();
+    for kind in [0, 3, 255] {
+        records.push((row, agent_and(&[1, kind]), Some(3)));
+        records.push((row, with_byte(KIND, kind), Some(3)));
+    }
+    let empty_open = [1, OPEN_BYTE, 0];
+    let row = "open without vertices";
+    records.push((row, agent_and(&empty_open), Some(5)));
+    records.push((
+        row,
+        agent_and(&[&empty_open[..], &[NO_LINES]].concat()),
+        Some(5),
+    ));
+    let row = "closed without vertices";
+    records.push((row, agent_and(&[1, CLOSED_BYTE, 0, NO_LINES]), None));
+    records
+}
+
+fn obstacles() -> Vec<Named> {
+    let row = "17 obstacles or more";
+    vec![
+        ("16 obstacles", of_sizes(&[2; 16]), None),
+        ("16 obstacles without vertices", of_sizes(&[0; 16]), None),
+        (row, agent_and(&[17]), Some(4)),
+        (row, agent_and(&[255]), Some(4)),
+        (row, of_sizes(&[2; 17]), Some(4)),
+        (row, of_sizes(&[0; 17]), Some(4)),
+    ]
+}
+
+fn vertices() -> Vec<Named> {
+    let row = "65 vertices or more";
+    vec![
+        ("64 vertices", of_sizes(&[64]), None),
+        (row, agent_and(&[1, CLOSED_BYTE, 65]), Some(4)),
+        (row, agent_and(&[1, OPEN_BYTE, 255]), Some(4)),
+        (row, of_sizes(&[65]), Some(4)),
+        (row, of_sizes(&[64, 65]), Some(4)),
+    ]
+}
+
+/// The total is met at the count that passes it, so a record may end there.
+fn totals() -> Vec<Named> {
+    let row = "a total of 193 or more";
+    let then = |head: [u8; 2]| {
+        let mut rest = of_sizes(&[64, 64, 64]);
+        rest[AGENT] = 4;
+        rest.pop();
+        rest.extend(head);
+        rest
+    };
+    vec![
+        ("a total of 192", of_sizes(&[64, 64, 64]), None),
+        (
+            "a total of 192, then closed without vertices",
+            of_sizes(&[64, 64, 64, 0]),
+            None,
+        ),
+        ("a total of 192", of_sizes(&[12; 16]), None),
+        (
+            "a total of 192, then open without vertices",
+            then([OPEN_BYTE, 0]),
+            Some(5),
+        ),
+        (row, then([CLOSED_BYTE, 1]), Some(4)),
+        (row, of_sizes(&[64, 64, 64, 1]), Some(4)),
+        (row, of_sizes(&[64, 64, 1, 64]), Some(4)),
+        (row, of_sizes(&[16; 16]), Some(4)),
+    ]
+}
+
+fn neighbours() -> Vec<Named> {
+    let row = "65 neighbour lines or more";
+    vec![
+        ("64 neighbour lines", with_lines(of_sizes(&[]), 64), None),
+        (row, agent_and(&[0, 65]), Some(4)),
+        (row, agent_and(&[0, 255]), Some(4)),
+        (row, with_lines(of_sizes(&[]), 65), Some(4)),
+    ]
+}
+
+/// Closed obstacles of so many vertices each, side by side along a wall ahead, and no lines.
+fn of_sizes(sizes: &[usize]) -> Vec<u8> {
+    let mut rest = agent_and(&[sizes.len() as u8]);
+    let mut x = -100.0;
+    for size in sizes {
+        rest.extend([CLOSED_BYTE, *size as u8]);
+        for place in 0..*size {
+            x += 1.0;
+            push(&mut rest, &[x, 4.0 + (place % 3) as f32]);
+        }
+    }
+    rest.push(NO_LINES);
+    rest
+}
+
+/// In place of none.
+fn with_lines(mut rest: Vec<u8>, count: usize) -> Vec<u8> {
+    rest.pop();
+    rest.push(count as u8);
+    for place in 0..count {
+        push(&mut rest, &[0.0, -1.0 - place as f32, 1.0, 0.0]);
+    }
+    rest
+}
+
+/// As many obstacles, vertices and lines as there may be.
+fn longest() -> Vec<u8> {
+    with_lines(of_sizes(&[12; 16]), 64)
+}

@@ -1,0 +1,75 @@
+//! The vectors of records at fault: each refusal that a record can get, with the smallest record that gets it at each place, and beside them
+//! records at the very limits, which are admitted. Records one after the other, all whole, and in a file of their own the answers.
+//! Each record says here what it must get; the judge of records, which is written from the definition of the build, must say the same. The
+//! answers to admitted ones are those of scene_vectors.
+
+mod counts;
+mod numbers;
+mod orders;
+
+use crate::coverage_table::{self, Column};
+use crate::records::with_length;
+use crate::scene_vectors::{ask_record, Case, Set};
+use crate::words::hex_bytes;
+
+/// What it shows, the bytes behind the length, and the number it must get; none where the record is admitted.
+type Named = (&'static str, Vec<u8>, Option<u32>);
+
+/// What it shows, and what it must give.
+type Shown = (&'static str, Case);
+
+/// Refusals 8 and 10 can not come out of a record, 9 only out of one that is admitted.
+const COLUMNS: [Column<Shown>; 9] = [
+    ("in all", |_| true),
+    ("get 1", |shown| shown.1.fault() == Some(1)),
+    ("get 2", |shown| shown.1.fault() == Some(2)),
+    ("get 3", |shown| shown.1.fault() == Some(3)),
+    ("get 4", |shown| shown.1.fault() == Some(4)),
+    ("get 5", |shown| shown.1.fault() == Some(5)),
+    ("get 6", |shown| shown.1.fault() == Some(6)),
+    ("get 7", |shown| shown.1.fault() == Some(7)),
+    ("are admitted", |shown| shown.1.fault().is_none()),
+];
+
+/// The same bytes at each call.
+pub fn set() -> Result<Set, String> {
+    let mut records = counts::records();
+    records.extend(numbers::records());
+    records.extend(orders::records());
+    let mut shown = Vec::new();
+    for record in records {
+        shown.push(ask(record)?);
+    }
+    if let Some((missing, _)) = COLUMNS.iter().find(|(_, kind)| !shown.iter().any(kind)) {
+        return Err(format!("no records that {missing}"));
+    }
+    let mut rows: Vec<(&str, &str)> = Vec::new();
+    for (row, _) in &shown {
+        if !rows.contains(&(row, row)) {
+            rows.push((row, row));
+        }
+    }
+    let table = coverage_table::of(&shown, ("Records", &COLUMNS), &rows, |row, (name, _)| {
+        row == name
+    })?;
+    let cases = shown.into_iter().map(|(_, case)| case).collect::<Vec<_>>();
+    Ok(Set::of(&cases, table))
+}
+
+fn ask((row, rest, number): Named) -> Result<Shown, String> {
+    let record = with_length(rest);
+    let shown = hex_bytes(&record[..record.len().min(100)]);
+    let case = ask_record(record)?;
+    if case.fault() != number {
+        let judged = case.fault();
+        return Err(format!(
+            "{row}: the judge says {judged:?}, not {number:?}: {shown}"
+        ));
+    }
+    if case.leaves_a_zero_open() {
+        return Err(format!(
+            "{row}: the Rust leaves a zero's sign open: {shown}"
+        ));
+    }
+    Ok((row, case))
+}
