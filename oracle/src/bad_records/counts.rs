@@ -1,16 +1,12 @@
 //! Lengths, versions, kinds and counts at their limits and beyond.
 
 use super::numbers::{push, scene};
-use super::Named;
-use crate::edge_vectors::call::{CLOSED, OPEN};
+use super::{Named, CLOSED_BYTE, OPEN_BYTE};
 use crate::records::LONGEST_REST;
 
-const CLOSED_BYTE: u8 = CLOSED as u8;
-const OPEN_BYTE: u8 = OPEN as u8;
-
-/// Version and agent, up to the obstacle count.
-const AGENT: usize = 37;
-const VERSION: usize = 0;
+/// Places in what follows the length.
+pub const VERSION: usize = 0;
+pub const OBSTACLE_COUNT: usize = 37;
 const KIND: usize = 38;
 
 const NO_LINES: u8 = 0;
@@ -28,7 +24,7 @@ pub fn records() -> Vec<Named> {
 
 /// The version and the agent of the scene, then these bytes.
 pub fn agent_and(bytes: &[u8]) -> Vec<u8> {
-    let mut rest = scene()[..AGENT].to_vec();
+    let mut rest = scene()[..OBSTACLE_COUNT].to_vec();
     rest.extend(bytes);
     rest
 }
@@ -128,7 +124,7 @@ fn totals() -> Vec<Named> {
     let row = "a total of 193 or more";
     let then = |head: [u8; 2]| {
         let mut rest = of_sizes(&[64, 64, 64]);
-        rest[AGENT] = 4;
+        rest[OBSTACLE_COUNT] = 4;
         rest.pop();
         rest.extend(head);
         rest

@@ -1,34 +1,39 @@
 //! The vectors of records at fault: each refusal that a record can get, with the smallest record that gets it at each place, and beside them
 //! records at the very limits, which are admitted. Records one after the other, all whole, and in a file of their own the answers.
 //! Each record says here what it must get; the judge of records, which is written from the definition of the build, must say the same. The
-//! answers to admitted ones are those of scene_vectors.
+//! others are asked of the Rust, as those of scene_vectors are.
 
 mod counts;
 mod numbers;
 mod orders;
 
 use crate::coverage_table::{self, Column};
+use crate::edge_vectors::call::{CLOSED, OPEN};
 use crate::records::with_length;
 use crate::scene_vectors::{ask_record, Case, Set};
 use crate::words::hex_bytes;
 
-/// What it shows, the bytes behind the length, and the number it must get; none where the record is admitted.
+const CLOSED_BYTE: u8 = CLOSED as u8;
+const OPEN_BYTE: u8 = OPEN as u8;
+
+/// What it shows, the bytes behind the length, and the number it must get; none where it is answered.
 type Named = (&'static str, Vec<u8>, Option<u32>);
 
 /// What it shows, and what it must give.
 type Shown = (&'static str, Case);
 
-/// Refusals 8 and 10 can not come out of a record, 9 only out of one that is admitted.
-const COLUMNS: [Column<Shown>; 9] = [
+/// No record gets 8 or 10.
+const COLUMNS: [Column<Shown>; 10] = [
     ("in all", |_| true),
-    ("get 1", |shown| shown.1.fault() == Some(1)),
-    ("get 2", |shown| shown.1.fault() == Some(2)),
-    ("get 3", |shown| shown.1.fault() == Some(3)),
-    ("get 4", |shown| shown.1.fault() == Some(4)),
-    ("get 5", |shown| shown.1.fault() == Some(5)),
-    ("get 6", |shown| shown.1.fault() == Some(6)),
-    ("get 7", |shown| shown.1.fault() == Some(7)),
-    ("are admitted", |shown| shown.1.fault().is_none()),
+    ("get 1", |shown| shown.1.refusal() == Some(1)),
+    ("get 2", |shown| shown.1.refusal() == Some(2)),
+    ("get 3", |shown| shown.1.refusal() == Some(3)),
+    ("get 4", |shown| shown.1.refusal() == Some(4)),
+    ("get 5", |shown| shown.1.refusal() == Some(5)),
+    ("get 6", |shown| shown.1.refusal() == Some(6)),
+    ("get 7", |shown| shown.1.refusal() == Some(7)),
+    ("get 9", |shown| shown.1.refusal() == Some(9)),
+    ("are answered", |shown| shown.1.refusal().is_none()),
 ];
 
 /// The same bytes at each call.
@@ -60,11 +65,9 @@ fn ask((row, rest, number): Named) -> Result<Shown, String> {
     let record = with_length(rest);
     let shown = hex_bytes(&record[..record.len().min(100)]);
     let case = ask_record(record)?;
-    if case.fault() != number {
-        let judged = case.fault();
-        return Err(format!(
-            "{row}: the judge says {judged:?}, not {number:?}: {shown}"
-        ));
+    if case.refusal() != number {
+        let got = case.refusal();
+        return Err(format!("{row}: it gets {got:?}, not {number:?}: {shown}"));
     }
     if case.leaves_a_zero_open() {
         return Err(format!(

@@ -29,12 +29,12 @@ const FIELDS: [Field; 15] = [
     (57, -LINE_REACH, LINE_REACH),
     (61, -LINE_REACH, LINE_REACH),
 ];
-const MARGIN: usize = 17;
-const LIMIT: usize = 33;
-const DIRECTION: usize = 65;
+pub const POSITION: usize = 1;
+pub const MARGIN: usize = 17;
+pub const LIMIT: usize = 33;
+pub const DIRECTION: usize = 65;
 
 /// An agent at rest at the origin before a wall, with a line behind it.
-#[rustfmt::skip]
 const NUMBERS: [f32; 9] = [0.0, 0.0, 0.0, 0.0, 0.5, 1.0, 0.0, 1.0, 2.0];
 const WALL: [f32; 4] = [-1.0, 1.0, 1.0, 1.0];
 const LINE: [f32; 4] = [0.0, -1.0, 1.0, 0.0];

@@ -1,13 +1,10 @@
 //! Two faults in one record: the first in the order of the fields is told.
 
-use super::counts::agent_and;
-use super::numbers::{push, scene, with};
-use super::Named;
-use crate::edge_vectors::call::{CLOSED, OPEN};
+use super::counts::{agent_and, OBSTACLE_COUNT, VERSION};
+use super::numbers::{push, scene, with, DIRECTION, LIMIT, MARGIN, POSITION};
+use super::{Named, CLOSED_BYTE, OPEN_BYTE};
 
 const NAN: f32 = f32::NAN;
-const CLOSED_BYTE: u8 = CLOSED as u8;
-const OPEN_BYTE: u8 = OPEN as u8;
 
 pub fn records() -> Vec<Named> {
     let mut records = of_fields();
@@ -17,13 +14,12 @@ pub fn records() -> Vec<Named> {
 }
 
 fn of_fields() -> Vec<Named> {
-    let mut other_version = with(scene(), 1, NAN);
-    other_version[0] = 2;
+    let mut other_version = with(scene(), POSITION, NAN);
+    other_version[VERSION] = 2;
     let mut missing_vertices = agent_and(&[1, CLOSED_BYTE, 3]);
     push(&mut missing_vertices, &[NAN, 0.0]);
-    let (limit, margin) = (33, 17);
-    let mut many = with(scene(), limit, NAN);
-    many[37] = 17;
+    let mut many = with(scene(), LIMIT, NAN);
+    many[OBSTACLE_COUNT] = 17;
     vec![
         ("1 before 6", other_version, Some(1)),
         (
@@ -38,7 +34,7 @@ fn of_fields() -> Vec<Named> {
         ),
         (
             "6 before 6: nothing is told of the second",
-            with(with(scene(), limit, NAN), margin, NAN),
+            with(with(scene(), LIMIT, NAN), MARGIN, NAN),
             Some(6),
         ),
         (
@@ -87,6 +83,11 @@ fn of_lines() -> Vec<Named> {
         rest
     };
     vec![
+        (
+            "7: a direction that ends the record",
+            lines(1, &[0.0, 0.0, 1.0, 1.0]),
+            Some(7),
+        ),
         (
             "6 before 7: a line's point before its direction",
             lines(1, &[0.0, NAN, 1.0, 1.0]),
@@ -140,18 +141,25 @@ fn left_over() -> Vec<Named> {
         ("2: bytes left over", behind(scene(), &scene()), Some(2)),
         (
             "7 before 2: bytes left over come last",
-            behind(with(scene(), 65, 2.0), &[0]),
+            behind(with(scene(), DIRECTION, 2.0), &[0]),
             Some(7),
         ),
-        (
-            "admitted, then 9: an edge line without direction",
-            inside(),
-            None,
-        ),
+        ("9: an edge line without direction", inside(), Some(9)),
+        ("9: the same in the second pass only", twice(), Some(9)),
         (
             "2 before 9: bytes left over before any edge line",
             behind(inside(), &[0]),
             Some(2),
         ),
     ]
+}
+
+/// A wall there and back, its ends twice: the agent's speed gives it a line that covers the edges without length, at rest none does.
+fn twice() -> Vec<u8> {
+    let mut rest = vec![1];
+    push(&mut rest, &[0.0, 0.0, 3.0, 4.0, 2.0, 2.0, 0.0, 0.0, 0.5]);
+    rest.extend([1, CLOSED_BYTE, 4]);
+    push(&mut rest, &[2.0, -1.0, 2.0, -1.0, -1.0, 0.0, -1.0, 0.0]);
+    rest.push(0);
+    rest
 }

@@ -74,6 +74,7 @@ const ROWS: &[(&str, Test)] = &[
     ("neighbour lines of agents", Of(|s| s.neighbours.is_some() && !s.lines.is_empty())),
     ("neighbour lines of agents, one overlaps", Of(overlaps)),
     ("a record of 2,631 behind its length", Of(|s| scene_record(s).len() == 2 + LONGEST_REST)),
+    ("64 neighbour lines of agents", Of(|s| s.neighbours.is_some() && s.lines.len() == MOST_NEIGHBOURS)),
     ("0 edge lines, but obstacles with vertices", Last(|s, p, _| s.vertex_count() > 0 && p.edge_lines.is_empty())),
     ("192 edge lines", Last(|_, p, _| p.edge_lines.len() == SCENE_VERTICES)),
     ("256 lines", Last(|s, p, _| p.edge_lines.len() + s.lines.len() == 256)),

@@ -26,7 +26,8 @@ pub fn many_obstacles(random: &mut Random) -> Scene {
 
 /// 16 obstacles of 12 vertices, so 192 together.
 pub fn many_vertices(random: &mut Random) -> Scene {
-    let scene = with_lines(random, 1);
+    let count = random.below(2);
+    let scene = with_lines(random, count);
     let each = SCENE_VERTICES / MOST_OBSTACLES;
     let obstacles = (0..MOST_OBSTACLES)
         .map(|_| anywhere(random, each))
@@ -36,7 +37,8 @@ pub fn many_vertices(random: &mut Random) -> Scene {
 
 /// One obstacle of 64 vertices.
 pub fn one_large(random: &mut Random) -> Scene {
-    let scene = with_lines(random, 2);
+    let count = random.below(3);
+    let scene = with_lines(random, count);
     let obstacle = if random.one_in(2) {
         anywhere(random, MOST_VERTICES as usize)
     } else {

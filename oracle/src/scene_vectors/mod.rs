@@ -26,7 +26,7 @@ type MakeRecord = fn(&mut Random) -> Vec<u8>;
 type Wanted = fn(&Case) -> bool;
 
 /// How scenes are made, which of them are taken, and how many. Most are small, to keep the file so.
-const PARTS: [(MakeScene, Wanted, usize); 28] = [
+const PARTS: [(MakeScene, Wanted, usize); 29] = [
     (layouts::ordinary, any, 5_000),
     (layouts::unhindered, any, 300),
     (layouts::about_to_turn, any, 2_600),
@@ -48,6 +48,7 @@ const PARTS: [(MakeScene, Wanted, usize); 28] = [
     (warehouse::hurried_among_carts, is_second, 300),
     (warehouse::covered_among_carts, is_second, 300),
     (warehouse::fitted_among_carts, is_twice_rigid, 60),
+    (warehouse::crowd, any, 40),
     (crowded::many_obstacles, any, 120),
     (crowded::many_vertices, any, 40),
     (crowded::one_large, any, 60),
@@ -176,11 +177,11 @@ impl Case {
         }
     }
 
-    /// The number with which the record is refused.
-    pub fn fault(&self) -> Option<u32> {
-        match self.outcome {
-            Outcome::Passed(..) => None,
-            Outcome::Faulty(number) => Some(number),
+    /// The number with which it is refused, as a record or by an edge line.
+    pub fn refusal(&self) -> Option<u32> {
+        match self.answer() {
+            Answer::Refused(number) => Some(number.into()),
+            Answer::Velocity(_) => None,
         }
     }
 

@@ -5,7 +5,7 @@ use std::fs::File;
 use std::io::{BufWriter, Write};
 use std::time::{Duration, Instant};
 
-use super::{ask_record, ask_scene, Case, FAULTY_PARTS, PARTS};
+use super::{ask_record, ask_scene, faulty, Case, PARTS};
 use crate::random::Random;
 
 /// One in so many is made as a record, most of these at fault.
@@ -57,8 +57,7 @@ pub fn write(seed: u64, until: Until, scenes: &str, answers: &str) -> Result<(),
 /// The parts are as common as in the vectors, but nothing is searched for.
 fn make(random: &mut Random) -> Result<Case, String> {
     if random.one_in(RECORDS) {
-        let (make, _) = random.pick(&FAULTY_PARTS[..1]);
-        return ask_record(make(random));
+        return ask_record(faulty::spoiled(random));
     }
     let all: usize = PARTS.iter().map(|(.., count)| count).sum();
     let mut place = random.below(all);

@@ -3,9 +3,11 @@
 
 use glam::Vec2;
 
+use super::crowded;
 use super::layouts::{self, obstacle};
 use crate::line_lists::whole_vector;
 use crate::random::Random;
+use crate::records::MOST_NEIGHBOURS;
 use crate::scenes::{Neighbours, Obstacle, Scene};
 
 /// Where the floor's numbers come from: half of the floors have whole ones, so that carts stand in line with shelves.
@@ -54,6 +56,13 @@ pub fn covered_among_carts(random: &mut Random) -> Scene {
 pub fn fitted_among_carts(random: &mut Random) -> Scene {
     let scene = layouts::fitted(random);
     among_carts(random, scene, 0.25)
+}
+
+/// As many carts as there may be, some with as many edge lines too.
+pub fn crowd(random: &mut Random) -> Scene {
+    let make = random.pick(&[crowded::all_lines, crowded::many_vertices]);
+    let scene = make(random);
+    among(random, scene, 0.25, MOST_NEIGHBOURS)
 }
 
 impl Floor {
@@ -170,6 +179,10 @@ fn with_carts(random: &mut Random, position: Vec2, obstacles: Vec<Obstacle>) -> 
 /// None at times.
 fn among_carts(random: &mut Random, scene: Scene, radius: f32) -> Scene {
     let count = random.pick(&[0, 1, 1, 2, 3, 4, 6]);
+    among(random, scene, radius, count)
+}
+
+fn among(random: &mut Random, scene: Scene, radius: f32, count: usize) -> Scene {
     let position = scene.position;
     let agents = (0..count).map(|_| cart(random, position, radius)).collect();
     scene.among(Neighbours {
