@@ -6,10 +6,11 @@ use std::fs;
 use crate::records::answers::name_of;
 use crate::words::hex_bytes;
 
-/// Prints how many answers there are of each kind; fails at the first difference, with its index.
-pub fn compare_files(answers: &str, others: &str) -> Result<(), String> {
+/// Prints how many answers there are of each kind; fails at the first difference, with its index and the record of `scenes` that has it.
+pub fn compare_files(answers: &str, others: &str, scenes: Option<&str>) -> Result<(), String> {
     let read = |file: &str| fs::read(file).map_err(|fault| format!("{file}: {fault}"));
     let (answers, others) = (read(answers)?, read(others)?);
+    let scenes = scenes.map_or(Ok(Vec::new()), read)?;
     let (mut answers, mut others) = (Records(&answers), Records(&others));
     let mut counts: BTreeMap<String, u64> = BTreeMap::new();
     let (mut index, mut other_zeros) = (0, 0);
@@ -21,7 +22,10 @@ pub fn compare_files(answers: &str, others: &str) -> Result<(), String> {
                 *counts.entry(name_of(answer)?).or_default() += 1;
                 other_zeros += u64::from(answer != other);
             }
-            _ => return Err(difference(index, answer, other)),
+            _ => {
+                let scene = Records(&scenes).nth(index);
+                return Err(difference(index, [answer, other, scene]));
+            }
         }
         index += 1;
     }
@@ -32,10 +36,12 @@ pub fn compare_files(answers: &str, others: &str) -> Result<(), String> {
     Ok(())
 }
 
-fn difference(index: u64, answer: Option<&[u8]>, other: Option<&[u8]>) -> String {
+fn difference(index: usize, records: [Option<&[u8]>; 3]) -> String {
     let shown = |record: Option<&[u8]>| record.map_or("none".to_string(), hex_bytes);
-    let (answer, other) = (shown(answer), shown(other));
-    format!("answer {index}, counted from 0, differs: {answer}, the other {other}")
+    let [answer, other, scene] = records.map(shown);
+    format!(
+        "answer {index}, counted from 0, differs: {answer}, the other {other}; its scene {scene}"
+    )
 }
 
 /// What is left of a file, record by record; a last one cut short is what there is of it.

@@ -27,7 +27,7 @@ const USAGE: &str = "usage: oracle self-check
        oracle vectors common|lists|cuts|edges FILE
        oracle vectors scenes|bad_records RECORDS ANSWERS
        oracle scenes SEED COUNT|SECONDSs SCENES ANSWERS
-       oracle agree ANSWERS OTHER_ANSWERS";
+       oracle agree ANSWERS OTHER_ANSWERS [SCENES]";
 
 fn main() -> ExitCode {
     let arguments: Vec<String> = env::args().skip(1).collect();
@@ -45,7 +45,8 @@ fn main() -> ExitCode {
             write_set(records, answers, bad_records::set())
         }
         ["scenes", seed, until, scenes, answers] => write_at_scale(seed, until, scenes, answers),
-        ["agree", answers, others] => agree::compare_files(answers, others),
+        ["agree", answers, others] => agree::compare_files(answers, others, None),
+        ["agree", answers, others, scenes] => agree::compare_files(answers, others, Some(scenes)),
         _ => Err(USAGE.to_string()),
     };
     match outcome {

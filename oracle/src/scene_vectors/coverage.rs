@@ -97,6 +97,7 @@ const ROWS: &[(&str, Test)] = &[
     ("second pass: the agent was at rest already", Both(|s, _, _| s.velocity == Vec2::ZERO)),
     ("second pass: other probes than the first", Both(|_, a, b| probes(a) != probes(b) && probes(b) > 0)),
     ("second pass: neighbour lines of agents, made with the velocity", Both(|s, _, _| s.neighbours.is_some() && !s.lines.is_empty())),
+    ("second pass: 4 or more obstacles", Both(|s, _, _| s.obstacles.len() > 3)),
     ("second pass: a limit above 0.1", Both(|s, _, _| s.limit > 0.1)),
     ("limit 0", Of(|s| s.limit == 0.0)),
     ("limit -0", Of(|s| is_minus_zero(s.limit))),

@@ -26,7 +26,7 @@ type MakeRecord = fn(&mut Random) -> Vec<u8>;
 type Wanted = fn(&Case) -> bool;
 
 /// How scenes are made, which of them are taken, and how many. Most are small, to keep the file so.
-const PARTS: [(MakeScene, Wanted, usize); 29] = [
+const PARTS: [(MakeScene, Wanted, usize); 30] = [
     (layouts::ordinary, any, 5_000),
     (layouts::unhindered, any, 300),
     (layouts::about_to_turn, any, 2_600),
@@ -44,6 +44,7 @@ const PARTS: [(MakeScene, Wanted, usize); 29] = [
     (layouts::covered_while_moving, is_second, 300),
     (layouts::covered_while_moving, is_refused_second, 200),
     (warehouse::shelves, any, 2_400),
+    (warehouse::shelves, is_second, 30),
     (warehouse::gates, any, 1_200),
     (warehouse::hurried_among_carts, is_second, 300),
     (warehouse::covered_among_carts, is_second, 300),
