@@ -1,47 +1,60 @@
 //! Compares two files of answer records, record by record. Two zeros agree whatever their sign, since the Rust leaves it open.
 
 use std::collections::BTreeMap;
-use std::fs;
+use std::{fs, iter};
 
 use crate::records::answers::name_of;
 use crate::words::hex_bytes;
 
-/// Prints how many answers there are of each kind; fails at the first difference, with its index and the record of `scenes` that has it.
+/// Prints how many answers there are of each kind. Fails where any differ, with the first one's index and, if `scenes` are given, its scene.
 pub fn compare_files(answers: &str, others: &str, scenes: Option<&str>) -> Result<(), String> {
     let read = |file: &str| fs::read(file).map_err(|fault| format!("{file}: {fault}"));
     let (answers, others) = (read(answers)?, read(others)?);
     let scenes = scenes.map_or(Ok(Vec::new()), read)?;
-    let (mut answers, mut others) = (Records(&answers), Records(&others));
+    let pairs = pairs(&answers, &others);
+    print_counts(&pairs)?;
+    let differing = |(answer, other): &Pair| answer.map(settled) != other.map(settled);
+    let count = pairs.iter().filter(|pair| differing(pair)).count();
+    if let Some(first) = pairs.iter().position(differing) {
+        let (answer, other) = pairs[first];
+        let [answer, other, scene] = [answer, other, Records(&scenes).nth(first)].map(shown);
+        return Err(format!(
+            "{count} answers differ, the first at {first}, counted from 0: {answer}, the other {other}; its scene {scene}"
+        ));
+    }
+    let other_zeros = pairs.iter().filter(|(a, b)| a != b).count();
+    println!(
+        "all {} answers agree, {other_zeros} of them but for the sign of a zero",
+        pairs.len()
+    );
+    Ok(())
+}
+
+/// The answers at one place; none behind the end of the shorter file.
+type Pair<'a> = (Option<&'a [u8]>, Option<&'a [u8]>);
+
+fn pairs<'a>(answers: &'a [u8], others: &'a [u8]) -> Vec<Pair<'a>> {
+    let (mut answers, mut others) = (Records(answers), Records(others));
+    let next = || match (answers.next(), others.next()) {
+        (None, None) => None,
+        pair => Some(pair),
+    };
+    iter::from_fn(next).collect()
+}
+
+fn print_counts(pairs: &[Pair]) -> Result<(), String> {
     let mut counts: BTreeMap<String, u64> = BTreeMap::new();
-    let (mut index, mut other_zeros) = (0, 0);
-    loop {
-        let (answer, other) = (answers.next(), others.next());
-        match (answer, other) {
-            (None, None) => break,
-            (Some(answer), Some(other)) if settled(answer) == settled(other) => {
-                *counts.entry(name_of(answer)?).or_default() += 1;
-                other_zeros += u64::from(answer != other);
-            }
-            _ => {
-                let scene = Records(&scenes).nth(index);
-                return Err(difference(index, [answer, other, scene]));
-            }
-        }
-        index += 1;
+    for answer in pairs.iter().filter_map(|(answer, _)| *answer) {
+        *counts.entry(name_of(answer)?).or_default() += 1;
     }
     for (name, count) in counts {
         println!("{name}: {count}");
     }
-    println!("all {index} answers agree, {other_zeros} of them but for the sign of a zero");
     Ok(())
 }
 
-fn difference(index: usize, records: [Option<&[u8]>; 3]) -> String {
-    let shown = |record: Option<&[u8]>| record.map_or("none".to_string(), hex_bytes);
-    let [answer, other, scene] = records.map(shown);
-    format!(
-        "answer {index}, counted from 0, differs: {answer}, the other {other}; its scene {scene}"
-    )
+fn shown(record: Option<&[u8]>) -> String {
+    record.map_or("none".to_string(), hex_bytes)
 }
 
 /// What is left of a file, record by record; a last one cut short is what there is of it.
