@@ -13,6 +13,7 @@ mod line_lists;
 mod list_vectors;
 mod random;
 mod records;
+mod scale;
 mod scene_vectors;
 mod scenes;
 mod words;
@@ -20,12 +21,12 @@ mod words;
 use std::process::ExitCode;
 use std::{env, fs};
 
-use scene_vectors::scale::{self, Until};
 use scene_vectors::Set;
 
 const USAGE: &str = "usage: oracle self-check
        oracle vectors common|lists|cuts|edges FILE
        oracle vectors scenes|bad_records RECORDS ANSWERS
+       oracle lists|edges SEED COUNT|SECONDSs FILE
        oracle scenes SEED COUNT|SECONDSs SCENES ANSWERS
        oracle agree ANSWERS OTHER_ANSWERS [SCENES]";
 
@@ -44,7 +45,15 @@ fn main() -> ExitCode {
         ["vectors", "bad_records", records, answers] => {
             write_set(records, answers, bad_records::set())
         }
-        ["scenes", seed, until, scenes, answers] => write_at_scale(seed, until, scenes, answers),
+        ["lists", seed, until, file] => {
+            scale::write([seed, until], &[file], list_vectors::at_scale)
+        }
+        ["edges", seed, until, file] => {
+            scale::write([seed, until], &[file], edge_vectors::at_scale)
+        }
+        ["scenes", seed, until, scenes, answers] => {
+            scale::write([seed, until], &[scenes, answers], scene_vectors::at_scale)
+        }
         ["agree", answers, others] => agree::compare_files(answers, others, None),
         ["agree", answers, others, scenes] => agree::compare_files(answers, others, Some(scenes)),
         _ => Err(USAGE.to_string()),
@@ -76,13 +85,6 @@ fn write_set(records: &str, answers: &str, set: Result<Set, String>) -> Result<(
     write_file(answers, &set.answers)?;
     print!("{}", set.table);
     Ok(())
-}
-
-fn write_at_scale(seed: &str, until: &str, scenes: &str, answers: &str) -> Result<(), String> {
-    match (seed.parse(), Until::parse(until)) {
-        (Ok(seed), Some(until)) => scale::write(seed, until, scenes, answers),
-        _ => Err(USAGE.to_string()),
-    }
 }
 
 fn write_file(file: &str, bytes: &[u8]) -> Result<(), String> {

@@ -33,6 +33,18 @@ impl Random {
         values[self.below(values.len())]
     }
 
+    /// A place among the counts, each as often as its count says.
+    pub fn place_by(&mut self, counts: &[usize]) -> usize {
+        let mut drawn = self.below(counts.iter().sum());
+        for (place, count) in counts.iter().enumerate() {
+            if drawn < *count {
+                return place;
+            }
+            drawn -= count;
+        }
+        unreachable!("what is drawn is below the sum of the counts")
+    }
+
     /// From -1 to 1, evenly, in steps of 2^-52.
     fn unit(&mut self) -> f64 {
         (self.bits() >> 11) as f64 / (1u64 << 52) as f64 - 1.0

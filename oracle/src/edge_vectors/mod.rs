@@ -17,6 +17,7 @@ use glam::Vec2;
 
 use crate::encounters::{edge_lines, EdgeLine, EdgeLines, Encounter};
 use crate::random::Random;
+use crate::scale::Parts;
 use crate::words::Words;
 use call::Call;
 
@@ -79,12 +80,7 @@ pub fn bytes() -> Result<(Vec<u8>, String), String> {
     let mut random = Random::new(SEED);
     for (make, count) in PARTS {
         for _ in 0..count {
-            let encounter = make(&mut random);
-            cases.push(ask(if random.one_in(8) {
-                Call::among_others(&mut random, &encounter)
-            } else {
-                Call::new(&encounter)
-            })?);
+            cases.push(ask(call(&mut random, make))?);
         }
     }
     for _ in 0..FULL_SCENES {
@@ -95,6 +91,22 @@ pub fn bytes() -> Result<(Vec<u8>, String), String> {
         return Err(format!("only {} encounters", cases.len()));
     }
     Ok((Words::of(&cases, write_record), coverage::table(&cases)?))
+}
+
+/// A random encounter's record.
+pub fn at_scale(random: &mut Random) -> Result<Parts, String> {
+    let (make, _) = PARTS[random.place_by(&PARTS.map(|(_, count)| count))];
+    let case = ask(call(random, make))?;
+    Ok(vec![Words::of(&[case], write_record)])
+}
+
+fn call(random: &mut Random, make: Make) -> Call {
+    let encounter = make(random);
+    if random.one_in(8) {
+        Call::among_others(random, &encounter)
+    } else {
+        Call::new(&encounter)
+    }
 }
 
 fn ask(call: Call) -> Result<Case, String> {

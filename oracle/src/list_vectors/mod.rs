@@ -20,6 +20,7 @@ use glam::Vec2;
 use crate::builds::{solve_both, Solved};
 use crate::line_lists::LineList;
 use crate::random::Random;
+use crate::scale::Parts;
 use crate::words::Words;
 use call::Call;
 
@@ -71,6 +72,13 @@ pub fn bytes() -> Result<(Vec<u8>, String), String> {
         return Err(format!("only {} lists", cases.len()));
     }
     Ok((Words::of(&cases, write_record), coverage::table(&cases)?))
+}
+
+/// A random list's record.
+pub fn at_scale(random: &mut Random) -> Result<Parts, String> {
+    let (make, _) = PARTS[random.place_by(&PARTS.map(|(_, count)| count))];
+    let case = ask(make(random))?;
+    Ok(vec![Words::of(&[case], write_record)])
 }
 
 fn ask(call: Call) -> Result<Case, String> {

@@ -9,12 +9,12 @@ mod crowded;
 mod faulty;
 mod layouts;
 mod named;
-pub mod scale;
 mod warehouse;
 
 use crate::random::Random;
 use crate::records::answers::Answer;
 use crate::records::{reader, scene_record};
+use crate::scale::Parts;
 use crate::scenes::passes::{self, Passes};
 use crate::scenes::Scene;
 
@@ -119,6 +119,21 @@ impl Set {
             table,
         }
     }
+}
+
+/// One in so many scenes at scale is made as a record, most of these at fault.
+const RECORDS: usize = 10;
+
+/// A random scene's record, and its answer's. A zero whose sign the Rust leaves open is as it gave it.
+pub fn at_scale(random: &mut Random) -> Result<Parts, String> {
+    let case = if random.one_in(RECORDS) {
+        ask_record(faulty::spoiled(random))?
+    } else {
+        let (make, ..) = PARTS[random.place_by(&PARTS.map(|(.., count)| count))];
+        ask_scene(make(random))?
+    };
+    let answer = case.answer().record();
+    Ok(vec![case.record, answer])
 }
 
 /// A scene whose neighbours are agents.
