@@ -3,6 +3,7 @@
 
 use std::panic;
 
+use counters::passes::passes;
 use dodgy_plain::debug::Line;
 use glam::Vec2;
 
@@ -119,14 +120,15 @@ fn same_lines(made: impl Iterator<Item = EdgeLine>, given: &[EdgeLine]) -> bool 
     made.len() == given.len() && made.iter().zip(given).all(same)
 }
 
-/// The Rust goes on with lines that are not admitted, and its `clamp` may panic; where it does not, it fell back to these lines.
+/// The Rust goes on with lines that are not admitted, and its `clamp` mostly panics then: the second pass was begun, and if it came to an end
+/// it had these lines.
 fn check_fallback(scene: &Scene, lines: &[EdgeLine]) -> Result<(), String> {
     let loud = panic::take_hook();
     panic::set_hook(Box::new(|_| ()));
     let whole = panic::catch_unwind(|| ask_counted(scene).0);
     panic::set_hook(loud);
     match whole {
-        Ok(whole) if whole.lines.len() != 2 => Err(format!("no second pass in the whole: {scene}")),
+        _ if passes().len() != 2 => Err(format!("no second pass in the whole: {scene}")),
         Ok(whole) if !same_lines(all_lines(scene, lines), &whole.lines[1]) => Err(format!(
             "other lines in the second pass of the whole: {scene}"
         )),
