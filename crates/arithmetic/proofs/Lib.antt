@@ -1,5 +1,4 @@
 pub mod Agree
-pub mod Facts
 pub mod Signs
 pub mod Difference
 pub mod EndLaws

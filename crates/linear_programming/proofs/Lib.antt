@@ -15,4 +15,4 @@ pub mod ResumeLaws
 pub mod ResumePlace
 pub mod Bounds
 pub mod Agreement
-pub mod BenchCases
+pub mod Computed

@@ -6,4 +6,4 @@ pub mod Faults
 pub mod EdgesInOrder
 pub mod Filled
 pub mod HandedOver
-pub mod BenchCases
+pub mod Computed

@@ -1,0 +1,2 @@
+-- 01's bench cases as one table.
+pub mod Table

@@ -1,0 +1,133 @@
+-- 01, "Bench cases": P1 to P12 as one table with one claim. antt computes each row by the definitions that the contracts of `solve_linear_program`, `sqrt` and
+-- `get_lines_for_agent_to_obstacle` cite. Zeros stand as the rules give them: P6, P10 and P11 have a −0. Assumes nothing.
+use Prim.Native.Nat.{ℕ}
+use mathlib.Core.Path.{_≡_, refl}
+use mathlib.Core.Bool.{true, false}
+use mathlib.Core.List.{List, [], _∷_, map}
+use lib.IntN.{negsuc}
+use lib.ListN.{length, replicate}
+use lib.Ieee.{Float, fin}
+use Rattle.arithmetic.specs.Binary32.{bits}
+use Rattle.arithmetic.specs.Root.{sqrtOf}
+use Rattle.common.specs.declared.Vec2.{Vec2}
+use Rattle.common.specs.Vectors.{vec}
+use Rattle.linear_programming.specs.declared.Line.{Line}
+use Rattle.linear_programming.specs.Lines.{line, linesOf}
+use Rattle.linear_programming.specs.Whole.{Outcome, stands, refusal, solving, relaxing, rigidFailure, Failed, noLine, failedLine}
+use Rattle.linear_programming.specs.Admit.{longest, wishFault, linesFault, judgedList, listCall}
+use Rattle.linear_programming.proofs.Computed.{+, −}
+use Rattle.obstacles.specs.declared.Agent.{Agent}
+use Rattle.obstacles.specs.Cutoffs.{halfᶠ}
+use Rattle.obstacles.specs.Obstacles.{Answer, lines, refused, obstacleCall}
+use Rattle.obstacles.specs.Read.{numbersOf}
+use Rattle.obstacles.proofs.Computed.{computed}
+
+-- a list with its rigid count, wish and limit; a number whose root is asked; an obstacle beside an agent at rest at the origin, with horizon 1
+pub data Asked : Type 0 where
+  list : ℕ → Vec2 → Float → List Line → Asked
+  root : Float → Asked
+  obstacle : ℕ → Float → List Vec2 → Asked
+
+pub data Answered : Type 0 where
+  ends : Outcome → Answered
+  is : Float → Answered
+  makes : Answer → Answered
+
+pub record Case : Type 0 where
+  pub asked : Asked
+  pub answered : Answered
+
+infix 5 _gives_
+abbrev _gives_ : Asked → Answered → Case
+q gives a = record { asked = q; answered = a }
+
+-- the numbers of vertices, two each
+abbrev corners : List Vec2 → List Float
+corners [] = []
+corners (v ∷ vs) = v .x ∷ v .y ∷ corners vs
+
+abbrev still : Agent
+still = record { position = vec (+ 0) (+ 0); velocity = vec (+ 0) (+ 0) }
+
+abbrev pub byTheRules : Asked → Answered
+byTheRules (list rigid wish limit ls) = ends (listCall rigid wish limit (numbersOf ls))
+byTheRules (root x) = is (sqrtOf x)
+byTheRules (obstacle kind margin vs) = makes (obstacleCall still kind (corners vs) 0 (length vs) margin (+ 1))
+
+-- ---- the table
+
+abbrev at : ℕ → Failed
+at k = failedLine (record { index = k })
+
+abbrev o : Vec2
+o = vec (+ 0) (+ 0)
+
+abbrev right : Vec2
+right = vec (+ 1) (+ 0)
+
+abbrev A : Line
+A = line (vec (+ 0) (+ 1)) right
+
+abbrev B : Line
+B = line (vec (+ 0) (− 1)) (vec (− 1) (+ 0))
+
+abbrev far : Line
+far = line (vec (+ 0) (+ 3)) right
+
+-- met by the origin
+abbrev behind : Line
+behind = line (vec (+ 0) (− 1)) right
+
+-- −√3 rounded
+abbrev −√3 : Float
+−√3 = fin true 14529495 (negsuc 22)
+
+-- (−1,1), (1,1), and the two exchanged
+abbrev wall : List Vec2
+wall = vec (− 1) (+ 1) ∷ vec (+ 1) (+ 1) ∷ []
+
+abbrev turned : List Vec2
+turned = vec (+ 1) (+ 1) ∷ vec (− 1) (+ 1) ∷ []
+
+-- the f32 next above 1,024
+abbrev tooFast : Float
+tooFast = bits 0x4480_0001
+
+pub table : List Case
+table =
+    -- P1, P2
+    (list 0 (vec (+ 3) (+ 4)) (+ 5) [] gives ends (stands (solving (vec (+ 3) (+ 4))) noLine 0))
+    ∷ (list 0 (vec (+ 4) (+ 0)) (+ 2) [] gives ends (stands (solving (vec (+ 2) (+ 0))) noLine 0))
+    -- P3, P4
+    ∷ (list 0 o (+ 2) (A ∷ []) gives ends (stands (solving (vec (+ 0) (+ 1))) noLine 1))
+    ∷ (list 0 right (+ 2) (line o right ∷ []) gives ends (stands (solving right) noLine 1))
+    -- P5, P6
+    ∷ (list 1 o (+ 2) (far ∷ []) gives ends (stands (rigidFailure 0 o) (at 0) 1))
+    ∷ (list 0 o (+ 2) (far ∷ []) gives ends (stands (relaxing (vec (− 0) (+ 2)) (+ 1)) (at 0) 2))
+    -- P7, P8, P9
+    ∷ (list 0 o (+ 2) (A ∷ B ∷ []) gives ends (stands (relaxing (vec (− 2) (+ 0)) (+ 1)) (at 1) 5))
+    ∷ (list 1 o (+ 2) (A ∷ B ∷ []) gives ends (stands (relaxing (vec −√3 (+ 1)) (+ 2)) (at 1) 5))
+    ∷ (list 2 o (+ 2) (A ∷ B ∷ []) gives ends (stands (rigidFailure 1 (vec (+ 0) (+ 1))) (at 1) 3))
+    -- P10
+    ∷ (root (fin false 1 (negsuc 147)) gives is (fin false 1 (negsuc 73)))
+    ∷ (root (− 0) gives is (− 0))
+    ∷ (root (+ 4) gives is (+ 2))
+    -- P11
+    ∷ (obstacle 2 (+ 2) wall gives makes (lines (line o (vec (− 1) (− 0)) ∷ [])))
+    ∷ (obstacle 2 halfᶠ wall gives makes (lines (line (vec (− 1) halfᶠ) (vec (− 1) (− 0)) ∷ [])))
+    ∷ (obstacle 2 (+ 2) turned gives makes (lines []))
+    ∷ (obstacle 2 halfᶠ turned gives makes (lines []))
+    -- P12
+    ∷ (obstacle 1 (+ 1) (vec (+ 5) (+ 0) ∷ []) gives makes (lines []))
+    ∷ (obstacle 1 (+ 1) (vec halfᶠ (+ 0) ∷ []) gives makes (refused 9))
+    -- 256 lines pass, 257 get 4; limit 1,024 passes, the next f32 gets 6
+    ∷ (list 0 o (+ 2) (replicate 256 behind) gives ends (stands (solving o) noLine 256))
+    ∷ (list 0 o (+ 2) (replicate 257 behind) gives ends (refusal 4))
+    ∷ (list 0 o longest [] gives ends (stands (solving o) noLine 0))
+    ∷ (list 0 o tooFast [] gives ends (refusal 6))
+    ∷ []
+
+-- each row's question, answered by the rules, has the row's answer
+pub bench : map (λ (c : Case). byTheRules (c .asked)) table ≡ map (λ (c : Case). c .answered) table
+unfolding table computed listCall judgedList linesOf numbersOf wishFault linesFault
+bench = refl

@@ -1,0 +1,197 @@
+// Runs 01's bench cases, P1 to P12, through the code: the cases that proofs/Table.antt claims of the definitions. A case that is wrong is told by its number.
+use admission::Judged;
+use common::Vec2;
+use linear_programming::Answer;
+use linear_programming::FailedLine;
+use linear_programming::Phase;
+use obstacles::Agent;
+use obstacles::ObstacleLines;
+use verdict::Tally;
+ghost use Prim.Native.Nat.{_≤_};
+ghost use lib.ListN.{length};
+
+// ---- whether an answer is the one that a case names, zeros of either sign equal
+
+fn is_failed(failed: FailedLine, k: usize) -> bool {
+    match failed {
+        FailedLine::NoLine => false,
+        FailedLine::At(failure) => failure.index == k,
+    }
+}
+
+fn is_met(answer: Answer, x: f32, y: f32, probes: u32) -> bool {
+    let Answer::Stands(phase, failed, n) = answer else {
+        return false;
+    };
+    let Phase::Solving(px, py) = phase else {
+        return false;
+    };
+    let FailedLine::NoLine = failed else {
+        return false;
+    };
+    (px == x) & (py == y) & (n == probes)
+}
+
+fn is_relaxed(answer: Answer, x: f32, y: f32, depth: f32, k: usize, probes: u32) -> bool {
+    let Answer::Stands(phase, failed, n) = answer else {
+        return false;
+    };
+    let Phase::Relaxing(px, py, penetration) = phase else {
+        return false;
+    };
+    (px == x) & (py == y) & (penetration == depth) & is_failed(failed, k) & (n == probes)
+}
+
+fn is_rigid(answer: Answer, k: usize, x: f32, y: f32, probes: u32) -> bool {
+    let Answer::Stands(phase, failed, n) = answer else {
+        return false;
+    };
+    let Phase::RigidFailure(at, px, py) = phase else {
+        return false;
+    };
+    (at == k) & (px == x) & (py == y) & is_failed(failed, k) & (n == probes)
+}
+
+fn is_refused(answer: Answer, number: u8) -> bool {
+    let Answer::Refused(told) = answer else {
+        return false;
+    };
+    told == number
+}
+
+// ---- lists
+
+// The lists' limit, and the wish of most of them.
+fn solved(numbers: &[f32], rigid: usize) -> Answer {
+    linear_programming::solve_linear_program(numbers, rigid, 2.0, Vec2::ZERO)
+}
+
+fn without_lines(wish: Vec2, limit: f32) -> Answer {
+    let none = [0.0f32; 4];
+    linear_programming::solve_linear_program(&none[0..0], 0, limit, wish)
+}
+
+fn starts(t: Tally) -> Tally {
+    let p1 = is_met(without_lines(Vec2::new(3.0, 4.0), 5.0), 3.0, 4.0, 0);
+    let p2 = is_met(without_lines(Vec2::new(4.0, 0.0), 2.0), 2.0, 0.0, 0);
+    t.with(p1, 1).with(p2, 2)
+}
+
+fn single_lines(t: Tally) -> Tally {
+    let a = [0.0, 1.0, 1.0, 0.0];
+    let through = [0.0, 0.0, 1.0, 0.0];
+    let far = [0.0, 3.0, 1.0, 0.0];
+    let right = Vec2::new(1.0, 0.0);
+    let p4 = linear_programming::solve_linear_program(&through, 0, 2.0, right);
+    t.with(is_met(solved(&a, 0), 0.0, 1.0, 1), 3)
+        .with(is_met(p4, 1.0, 0.0, 1), 4)
+        .with(is_rigid(solved(&far, 1), 0, 0.0, 0.0, 1), 5)
+        .with(is_relaxed(solved(&far, 0), 0.0, 2.0, 1.0, 0, 2), 6)
+}
+
+fn two_lines(t: Tally) -> Tally {
+    let both = [0.0, 1.0, 1.0, 0.0, 0.0, -1.0, -1.0, 0.0];
+    let minus_root_3 = words::number(0xbfdd_b3d7);
+    t.with(is_relaxed(solved(&both, 0), -2.0, 0.0, 1.0, 1, 5), 7)
+        .with(
+            is_relaxed(solved(&both, 1), minus_root_3, 1.0, 2.0, 1, 5),
+            8,
+        )
+        .with(is_rigid(solved(&both, 2), 1, 0.0, 1.0, 3), 9)
+}
+
+// A number of the line through (0, -1) in the direction (1, 0), which the origin meets.
+fn number_of_met_line(k: usize) -> f32 {
+    match k {
+        1 => -1.0,
+        2 => 1.0,
+        _ => 0.0,
+    }
+}
+
+fn fill(numbers: &mut [f32])
+    requires { ⌜ length (now numbers) ≤ 65536 ⌝ }
+{
+    let mut i = 0usize;
+    while i < numbers.len() {
+        numbers[i] = number_of_met_line(i % 4);
+        i += 1;
+    }
+}
+
+fn limits(t: Tally) -> Tally {
+    let mut numbers = [0.0f32; 1028];
+    fill(&mut numbers);
+    let fast = words::number(0x4480_0001);
+    t.with(is_met(solved(&numbers[0..1024], 0), 0.0, 0.0, 256), 256)
+        .with(is_refused(solved(&numbers, 0), 4), 257)
+        .with(is_met(without_lines(Vec2::ZERO, 1024.0), 0.0, 0.0, 0), 1024)
+        .with(is_refused(without_lines(Vec2::ZERO, fast), 6), 1025)
+}
+
+// ---- roots
+
+// A root is compared bit for bit: P10 has a -0.
+fn is_root(pattern: u32, root: u32) -> bool {
+    words::has_pattern(arithmetic::sqrt(words::number(pattern)), root)
+}
+
+fn roots(t: Tally) -> Tally {
+    t.with(is_root(0x0000_0002, 0x1a80_0000), 10)
+        .with(is_root(0x8000_0000, 0x8000_0000), 10)
+        .with(is_root(0x4080_0000, 0x4000_0000), 10)
+}
+
+// ---- obstacles
+
+fn made(kind: u8, vertices: &[f32], count: usize, margin: f32) -> ObstacleLines {
+    let agent = Agent {
+        position: Vec2::ZERO,
+        velocity: Vec2::ZERO,
+    };
+    obstacles::get_lines_for_agent_to_obstacle(agent, kind, vertices, 0, count, margin, 1.0)
+}
+
+fn is_no_line(found: ObstacleLines) -> bool {
+    let judged = found.judged;
+    let Judged::Fine = judged else {
+        return false;
+    };
+    found.count == 0
+}
+
+// One line with the point, in the direction (-1, 0).
+fn is_line(found: ObstacleLines, x: f32, y: f32) -> bool {
+    let judged = found.judged;
+    let Judged::Fine = judged else {
+        return false;
+    };
+    let lines = found.lines;
+    (found.count == 1) & (lines[0] == x) & (lines[1] == y) & (lines[2] == -1.0) & (lines[3] == 0.0)
+}
+
+fn walls(t: Tally) -> Tally {
+    let wall = [-1.0, 1.0, 1.0, 1.0];
+    let turned = [1.0, 1.0, -1.0, 1.0];
+    t.with(is_line(made(2, &wall, 2, 2.0), 0.0, 0.0), 11)
+        .with(is_line(made(2, &wall, 2, 0.5), -1.0, 0.5), 11)
+        .with(is_no_line(made(2, &turned, 2, 2.0)), 11)
+        .with(is_no_line(made(2, &turned, 2, 0.5)), 11)
+}
+
+fn points(t: Tally) -> Tally {
+    let aside = [5.0, 0.0];
+    let near = [0.5, 0.0];
+    let refused = made(1, &near, 1, 1.0).judged;
+    let nine = match refused {
+        Judged::Fault(number) => number == 9,
+        Judged::Fine => false,
+    };
+    t.with(is_no_line(made(1, &aside, 1, 1.0)), 12)
+        .with(nine, 12)
+}
+
+fn main() {
+    let lists = limits(two_lines(single_lines(starts(Tally::NONE))));
+    points(walls(roots(lists))).tell(b"bench cases");
+}
