@@ -12,7 +12,7 @@ use Rattle.linear_programming.specs.Lines.{linesOf}
 use Rattle.linear_programming.specs.Whole.{Outcome, stands, refusal, solving, noLine}
 use Rattle.admission.specs.Faults.{within, inside}
 use Rattle.linear_programming.specs.Admit.{wishFault, linesFault, judgedList, listCall}
-use Rattle.linear_programming.proofs.BenchCases.{computed}
+use Rattle.linear_programming.proofs.Computed.{computed}
 use Rattle.session.specs.declared.Fed.{Fed}
 use Rattle.session.specs.Sessions.{blankLines, blankSession, startedBy, startedAs}
 use Rattle.session.specs.Handed.{Handed, Begins}
