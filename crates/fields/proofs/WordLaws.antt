@@ -1,0 +1,43 @@
+-- What tests of the length say of a number's bytes, in the words of code: of one byte, two, four. Assumes nothing.
+use Prim.Native.Nat.{ℕ, suc, _+_, _*_, _≤_, _<_}
+use native.Mathlib.Omega.{arith}
+use native.Mathlib.Nat.{add-assoc}
+use native.Mathlib.Numerals.{add-one}
+use mathlib.Core.Path.{_≡_, sym, ap, _∙_}
+use mathlib.Core.List.{List}
+use lib.ListN.{length, take, drop, getD}
+use lib.Seq.{drop-cons}
+use borrow.Author.Tests.{lt-leb, le-leb}
+use Rattle.words.specs.Words.{wordOf}
+use Rattle.fields.specs.Bytes.{be, beFrom}
+use Rattle.fields.specs.Got.{refused, got, word}
+
+-- one byte more
+be-step : (n w : ℕ) (s : List ℕ) (at : ℕ) → at < length s → beFrom n (take (suc w) (drop at s)) ≡ beFrom (n * 256 + getD s at 0) (take w (drop (at + 1) s))
+unfolding beFrom
+be-step n w s at h = rw (add-one, drop-cons s at 0)
+
+-- bytes that are missing
+pub word-none : (w : ℕ) (s : List ℕ) (at : ℕ) → length s < at + w → refused 2 ≡ word w s at
+unfolding word
+word-none w s at h = simp (lt-leb (at + w) (length s) h)
+
+module _ (s : List ℕ) (at : ℕ) where
+  pub byte-some : at < length s → got (getD s at 0) (at + 1) ≡ word 1 s at
+  unfolding word be beFrom
+  byte-some h =
+      let e : getD s at 0 ≡ 0 + getD s at 0 = omega arith in
+      rw (le-leb (at + 1) (length s) (omega arith), drop-cons s at 0) (ap (λ (n : ℕ). got n (at + 1)) e)
+
+  pub two-some : at + 2 ≤ length s → got (getD s at 0 * 256 + getD s (at + 1) 0) (at + 2) ≡ word 2 s at
+  unfolding word be beFrom
+  two-some h =
+      let e : getD s at 0 * 256 + getD s (at + 1) 0 ≡ be (take 2 (drop at s)) = sym (be-step 0 1 s at (omega arith) ∙ be-step _ 0 s (at + 1) (omega arith) ∙ omega arith) in
+      rw (le-leb (at + 2) (length s) h) (ap (λ (n : ℕ). got n (at + 2)) e)
+
+  -- four bytes are what `words` calls the word
+  pub four-some : at + 4 ≤ length s → got (wordOf s at) (at + 4) ≡ word 4 s at
+  unfolding word be beFrom wordOf
+  four-some h =
+      let e : wordOf s at ≡ be (take 4 (drop at s)) = sym (be-step 0 3 s at (omega arith) ∙ be-step _ 2 s (at + 1) (omega arith) ∙ be-step _ 1 s (at + 1 + 1) (omega arith) ∙ be-step _ 0 s (at + 1 + 1 + 1) (omega arith) ∙ simp add-assoc (omega arith)) in
+      rw (le-leb (at + 4) (length s) h) (ap (λ (n : ℕ). got n (at + 4)) e)

@@ -1,0 +1,3 @@
+-- The definitions of fields that the contracts of readers and writers cite.
+pub mod Bytes
+pub mod Got

@@ -1,0 +1,96 @@
+-- Law: a scene that was read has no fault. Assumes nothing.
+use Prim.Native.Nat.{ℕ, zero, suc, _+_, _≤_}
+use native.Mathlib.Omega.{arith}
+use mathlib.Core.Path.{_≡_, refl}
+use mathlib.Core.Bool.{Bool, true}
+use mathlib.Core.List.{List, _++_, map, append-assoc}
+use lib.ListN.{length}
+use lib.Ieee.{Float}
+use borrow.Author.Tests.{le-leb}
+use Rattle.admission.specs.Faults.{fine, within}
+use Rattle.common.specs.declared.Vec2.{Vec2}
+use Rattle.linear_programming.specs.declared.Line.{Line}
+use Rattle.linear_programming.specs.Admit.{reach, lineFault, linesFault}
+use Rattle.dodgy_2d.specs.declared.Scene.{Scene}
+use Rattle.dodgy_2d.specs.Scenes.{headsOf, numbersFault, vectorFault, agentFault, headFault, obstaclesFault, sceneFault}
+use Rattle.fields.specs.Bytes.{each}
+use Rattle.fields.specs.Got.{got, many}
+use Rattle.fields.proofs.ChainLaws.{then-got, cons-got, got-same}
+use Rattle.scene_records.specs.declared.Cart.{Cart}
+use Rattle.scene_records.specs.Steps.{number, vector}
+use Rattle.scene_records.specs.Parts.{cart, coordinates, verticesAt, Obstacle, sizeOf, kindOf, numbersIn, obstacle, obstacles, neighbour, neighbours}
+use Rattle.scene_records.specs.Records.{sceneOf, sceneIn}
+use Rattle.scene_records.proofs.Taken.{number-taken, vector-taken, cart-taken, obstacle-taken, line-taken, fields-taken, scene-taken}
+use Rattle.scene_records.proofs.SceneParts.{own-vertices, later-vertices, vertices-front, heads-back, neighbours-back}
+use Rattle.scene_records.proofs.ReadBytes.{obstacles-total}
+
+module _ (s : List ℕ) where
+  number-passed : (passes : Float → Bool) (at : ℕ) (x : Float) (m : ℕ) → number passes s at ≡ got x m → passes x ≡ true
+  number-passed passes at x m e = number-taken s passes at x m e λ b p v t. t
+
+  vector-passed : (passes : Float → Bool) (at : ℕ) (v : Vec2) (m : ℕ) → vector passes s at ≡ got v m → (passes (v .x) ≡ true) × (passes (v .y) ≡ true)
+  vector-passed passes at v m e = vector-taken s passes at v m e λ a p q. (number-passed passes at (v .x) a p, number-passed passes a (v .y) m q)
+
+  vector-fine : (at : ℕ) (v : Vec2) (m : ℕ) → vector (within reach) s at ≡ got v m → vectorFault v ≡ fine
+  unfolding vectorFault numbersFault
+  vector-fine at v m e = let h = vector-passed (within reach) at v m e in rw (h .0, h .1)
+
+  cart-fine : (at : ℕ) (x : Cart) (m n : ℕ) (os : List Obstacle) (k : ℕ) (ls : List Line) → cart s at ≡ got x m → agentFault (sceneOf x n os k ls) ≡ fine
+  unfolding agentFault
+  cart-fine at x m n os k ls z =
+      cart-taken s at x m z λ a b d e f p v g t w l read-p read-v read-g read-t read-w read-l same.
+      rw (← same) (rw (vector-fine at p a read-p, vector-fine a v b read-v, number-passed _ b g d read-g, number-passed _ d t e read-t, vector-fine e w f read-w, number-passed _ f l m read-l) refl)
+
+  vertices-fine : (n at : ℕ) (vs : List Vec2) (m : ℕ) → verticesAt s n at ≡ got vs m → numbersFault (each coordinates vs) ≡ fine
+  unfolding verticesAt many each numbersFault
+  vertices-fine zero at vs m e = rw (← got-same e .0)
+  vertices-fine (suc n) at vs m e =
+      then-got (vector (within reach) s at) _ e λ v a p r.
+      cons-got v (verticesAt s n a) r λ rest q u.
+      let h = vector-passed (within reach) at v a p in
+      rw (u, h .0, h .1) (vertices-fine n a rest m q)
+
+  obstacles-fine : (n total at : ℕ) (os : List Obstacle) (m : ℕ) (rest : List Float) → obstacles s n total at ≡ got os m
+      → obstaclesFault total (headsOf (map kindOf os) (map sizeOf os)) (each numbersIn os ++ rest) ≡ fine
+  unfolding obstacles many each obstaclesFault headFault headsOf
+  obstacles-fine zero total at os m rest e = rw (← got-same e .0)
+  obstacles-fine (suc n) total at os m rest e =
+      then-got (obstacle s total at) _ e λ o a p r.
+      cons-got o (obstacles s n (total + sizeOf o) a) r λ more q u.
+      obstacle-taken s total at o a p λ b d read-k known read-n room some read-vs.
+      rw (u, known, room, some, append-assoc (numbersIn o) (each numbersIn more) rest, own-vertices o (each numbersIn more ++ rest), later-vertices o (each numbersIn more ++ rest), vertices-fine (sizeOf o) d (o .vertices) a read-vs)
+      (obstacles-fine n (total + sizeOf o) a more m rest q)
+
+  line-fine : (at : ℕ) (l : Line) (m : ℕ) → neighbour s at ≡ got l m → lineFault l ≡ fine
+  unfolding lineFault
+  line-fine at l m e =
+      line-taken s at l m e λ a read-p read-d band.
+      let p = vector-passed _ at (l .point) a read-p in
+      let d = vector-passed _ a (l .direction) m read-d in
+      rw (p .0, p .1, d .0, d .1, band)
+
+  lines-fine : (n at : ℕ) (ls : List Line) (m : ℕ) → neighbours s n at ≡ got ls m → linesFault ls ≡ fine
+  unfolding neighbours many linesFault
+  lines-fine zero at ls m e = rw (← got-same e .0)
+  lines-fine (suc n) at ls m e =
+      then-got (neighbour s at) _ e λ l a p r.
+      cons-got l (neighbours s n a) r λ rest q u.
+      rw (u, line-fine at l a p) (lines-fine n a rest m q)
+
+  pub read-admitted : (c : Scene) (m : ℕ) → sceneIn s ≡ got c m → sceneFault c ≡ fine
+  unfolding sceneFault
+  read-admitted c m z =
+      scene-taken s c m z λ n read-n few-n right z'.
+      fields-taken s 2 c m z' λ a b d e f x os ls read-version read-cart read-os few-os list-os read-ls few-ls list-ls end same.
+      let fits : length (each numbersIn os) ≤ 384 = (let most = obstacles-total s (length os) 0 d os e (omega arith) list-os in omega arith) in
+      rw (
+        same,
+        cart-fine a x b (length os) os (length ls) ls read-cart,
+        le-leb _ 16 few-os,
+        heads-back x os (length ls) ls few-os,
+        vertices-front os fits,
+        obstacles-fine (length os) 0 d os e _ list-os,
+        le-leb _ 64 few-ls,
+        neighbours-back x (length os) os ls few-ls,
+      )
+      (lines-fine (length ls) f ls m list-ls)

@@ -1,0 +1,51 @@
+-- Values that are read one behind the other and stored as numbers, w of them each: what a loop has stored and what is left make up the whole. Assumes nothing.
+use Prim.Native.Nat.{ℕ, suc, _+_, _-_, _≤_, _<_}
+use native.Mathlib.Omega.{arith}
+use native.Mathlib.Nat.{add-zero, add-suc, suc-add}
+use mathlib.Core.Path.{_≡_, refl, sym, ap, _∙_}
+use mathlib.Core.List.{List, [], _∷_, _++_}
+use lib.ListN.{length, set}
+use lib.Seq.{sets}
+use lib.Ieee.{Float}
+use Rattle.fields.specs.Bytes.{each}
+use Rattle.fields.specs.Got.{Got, refused, got, then, many}
+use Rattle.scene_records.specs.declared.Cursor.{Cursor}
+use Rattle.scene_records.specs.declared.Cursor.the-variants as cursor
+use Rattle.scene_records.specs.Steps.{from, told}
+use Rattle.scene_records.specs.Parts.{stored}
+use Rattle.scene_records.proofs.Cursors.{linked}
+
+-- two runs of stores, one behind the other
+pub sets-append : {A : Type 0} (l : List A) (i : ℕ) (vs ws : List A) → sets l i (vs ++ ws) ≡ sets (sets l i vs) (i + length vs) ws
+sets-append l i [] ws = rw add-zero
+sets-append l i (v ∷ vs) ws = sets-append (set l i v) (suc i) vs ws ∙ ap (λ (k : ℕ). sets (sets (set l i v) (suc i) vs) k ws) (suc-add i (length vs) ∙ sym (add-suc i (length vs)))
+
+module _ {A : Type 0} (numbers : A → List Float) (w : ℕ) (long : (a : A) → length (numbers a) ≡ w) (step : ℕ → Got A) where
+  -- n steps of the same kind
+  abbrev run : ℕ → ℕ → Got (List A)
+  run n at = many (λ (u : Unit {0}). step) (λ u a. u) n tt at
+
+  pub stored-done : (all : List Float) (place : ℕ) (c : Cursor) (n i : ℕ) → n ≤ i → told c all ≡ stored numbers all place (from c (run (n - i)))
+  unfolding told from stored many each
+  stored-done all place c n i h = let e : n - i ≡ 0 = omega arith in rw e (go c)
+    where
+      go : (c : Cursor) → told c all ≡ stored numbers all place (from c (run 0))
+      go (cursor.At at) = refl
+      go (cursor.Fault r) = refl
+
+  behind : (all : List Float) (place : ℕ) (a : A) (g : Got (List A)) → stored numbers all place (then g λ l k. got (a ∷ l) k) ≡ stored numbers (sets all place (numbers a)) (place + w) g
+  unfolding stored each
+  behind all place a (refused r) = refl
+  behind all place a (got l k) = ap (λ (v : List Float). got v k) (sets-append all place (numbers a) (each numbers l) ∙ rw (long a))
+
+  from-behind : (all : List Float) (place : ℕ) (a : A) (d : Cursor) (n : ℕ) → stored numbers all place (from d λ m. then (run n m) λ l k. got (a ∷ l) k) ≡ stored numbers (sets all place (numbers a)) (place + w) (from d (run n))
+  unfolding from stored
+  from-behind all place a (cursor.At at) n = behind all place a (run n at)
+  from-behind all place a (cursor.Fault r) n = refl
+
+  pub stored-next : (all all' : List Float) (place place' : ℕ) (c d : Cursor) (a : A) (n i : ℕ) → i < n → told d a ≡ from c step → all' ≡ sets all place (numbers a) → place + w ≡ place'
+      → stored numbers all place (from c (run (n - i))) ≡ stored numbers all' place' (from d (run (n - (i + 1))))
+  unfolding many
+  stored-next all all' place place' c d a n i h e put on =
+      let k : n - i ≡ suc (n - (i + 1)) = omega arith in
+      rw (k, put, ← on) (ap (stored numbers all place) (linked step (λ a m. then (run (n - (i + 1)) m) λ l k. got (a ∷ l) k) c d a e) ∙ from-behind all place a d (n - (i + 1)))

@@ -1,0 +1,199 @@
+-- Law: the bytes of a scene without a fault are read back to that scene, with zeros behind its counts. Assumes nothing.
+use Prim.Native.Nat.{ℕ, zero, suc, _+_, _*_, _≤_}
+use native.Mathlib.Omega.{arith}
+use mathlib.Core.Path.{_≡_, refl, ap, _∙_}
+use mathlib.Core.Bool.{Bool, true, not}
+use mathlib.Core.List.{List, [], _∷_}
+use lib.Dec.{leb}
+use lib.ListN.{length, take, drop, length-drop}
+use lib.Seq.{length-take-le}
+use lib.Ieee.{Float, binary32, fits}
+use borrow.Author.Tests.{leb-true}
+use Rattle.arithmetic.specs.Binary32.{0ᶠ, finite}
+use Rattle.arithmetic.proofs.Lists.{All, none, more, all-take, all-drop}
+use Rattle.admission.specs.Faults.{_⊳_, fine, must, within, inside}
+use Rattle.admission.proofs.FaultLaws.{⊳-fine, must-fine}
+use Rattle.common.specs.declared.Vec2.{Vec2}
+use Rattle.common.specs.Vectors.{lengthSquaredOf}
+use Rattle.linear_programming.specs.declared.Line.{Line}
+use Rattle.linear_programming.specs.Lines.{linesOf}
+use Rattle.linear_programming.specs.Admit.{reach, longest, lineReach, bandLow, bandHigh, lineFault, linesFault}
+use Rattle.linear_programming.proofs.Rows.{count}
+use Rattle.obstacles.specs.Obstacles.{isEmptyOpen}
+use Rattle.obstacles.specs.Vertices.{verticesOf}
+use Rattle.dodgy_2d.specs.declared.Scene.{Scene}
+use Rattle.dodgy_2d.specs.Scenes.{Head, headsOf, headsIn, neighboursIn, shortestHorizon, longestHorizon, isKind, roomFor, numbersFault, vectorFault, agentFault, headFault, obstaclesFault, sceneFault}
+use Rattle.fields.specs.Got.{got}
+use Rattle.fields.proofs.Backs.{Every}
+use Rattle.scene_records.specs.Records.{sceneOf, sceneIn}
+use Rattle.scene_records.specs.SceneBytes.{cartIn, withVertices, obstaclesIn, sceneBytes}
+use Rattle.scene_records.proofs.WallLaws.{room-within}
+use Rattle.scene_records.proofs.BytesRead.{Good, GoodVector, GoodCart, GoodObstacle, GoodLine, GoodParts, onTotal, parts-read}
+
+-- ---- what every value of the code's type has: its numbers are f32, and its arrays have their lengths
+
+abbrev pub Fit : Float → Type 0
+Fit x = fits binary32 x ≡ true
+
+pub record FitVector (v : Vec2) : Type 0 where
+  pub x : Fit (v .x)
+  pub y : Fit (v .y)
+
+pub record FitLine (l : Line) : Type 0 where
+  pub point : FitVector (l .point)
+  pub direction : FitVector (l .direction)
+
+pub record Typed (c : Scene) : Type 0 where
+  pub position : FitVector (c .agent .position)
+  pub velocity : FitVector (c .agent .velocity)
+  pub margin : Fit (c .margin)
+  pub horizon : Fit (c .horizon)
+  pub wish : FitVector (c .wish)
+  pub limit : Fit (c .limit)
+  pub kinds : length (c .kinds) ≡ 16
+  pub counts : length (c .counts) ≡ 16
+  pub vertices : length (c .vertices) ≡ 384
+  pub vertexNumbers : All Fit (c .vertices)
+  pub lines : length (c .lines) ≡ 256
+  pub lineNumbers : All Fit (c .lines)
+
+-- ---- numbers by fours and by twos
+
+fit-lines : (xs : List Float) → All Fit xs → All FitLine (linesOf xs)
+unfolding linesOf
+fit-lines [] h = none
+fit-lines (a ∷ []) h = none
+fit-lines (a ∷ b ∷ []) h = none
+fit-lines (a ∷ b ∷ c ∷ []) h = none
+fit-lines (a ∷ b ∷ c ∷ d ∷ xs) (more p (more q (more r (more t h)))) = more (record { point = record { x = p; y = q }; direction = record { x = r; y = t } }) (fit-lines xs h)
+
+vertices-long : (xs : List Float) (n : ℕ) → length xs ≡ 2 * n → length (verticesOf xs) ≡ n
+unfolding verticesOf
+vertices-long [] n h = omega arith
+vertices-long (x ∷ []) n h = absurd (omega arith)
+vertices-long (x ∷ y ∷ xs) zero h = absurd (omega arith)
+vertices-long (x ∷ y ∷ xs) (suc n) h = ap suc (vertices-long xs n (omega arith))
+
+-- ---- without a fault, each rule passed
+
+good : (passes : Float → Bool) (x : Float) (r : ℕ) → Fit x → must (passes x) r ≡ fine → Good passes x
+good passes x r f e = record { fit = f; pass = must-fine (passes x) r e }
+
+good-vector : (v : Vec2) → FitVector v → vectorFault v ≡ fine → GoodVector (within reach) v
+unfolding vectorFault numbersFault
+good-vector v f e =
+    let a = ⊳-fine (must (within reach (v .x)) 6) e in
+    let b = ⊳-fine (must (within reach (v .y)) 6) (a .1) in
+    record { x = good (within reach) (v .x) 6 (f .x) (a .0); y = good (within reach) (v .y) 6 (f .y) (b .0) }
+
+good-cart : (c : Scene) → Typed c → agentFault c ≡ fine → GoodCart (cartIn c)
+unfolding agentFault
+good-cart c t e =
+    let a = ⊳-fine (vectorFault (c .agent .position)) e in
+    let b = ⊳-fine (vectorFault (c .agent .velocity)) (a .1) in
+    let d = ⊳-fine (must (inside 0ᶠ longest (c .margin)) 6) (b .1) in
+    let f = ⊳-fine (must (inside shortestHorizon longestHorizon (c .horizon)) 6) (d .1) in
+    let g = ⊳-fine (vectorFault (c .wish)) (f .1) in
+    record {
+      position = good-vector (c .agent .position) (t .position) (a .0);
+      velocity = good-vector (c .agent .velocity) (t .velocity) (b .0);
+      margin = good (inside 0ᶠ longest) (c .margin) 6 (t .margin) (d .0);
+      horizon = good (inside shortestHorizon longestHorizon) (c .horizon) 6 (t .horizon) (f .0);
+      wish = good-vector (c .wish) (t .wish) (g .0);
+      limit = good (inside 0ᶠ longest) (c .limit) 6 (t .limit) (g .1);
+    }
+
+good-vertices : (xs : List Float) → All Fit xs → numbersFault xs ≡ fine → Every (λ (u : Unit {0}). GoodVector (within reach)) (λ u v. u) tt (verticesOf xs)
+unfolding verticesOf numbersFault
+good-vertices [] h e = tt
+good-vertices (x ∷ []) h e = tt
+good-vertices (x ∷ y ∷ xs) (more p (more q h)) e =
+    let a = ⊳-fine (must (within reach x) 6) e in
+    let b = ⊳-fine (must (within reach y) 6) (a .1) in
+    (record { x = good (within reach) x 6 p (a .0); y = good (within reach) y 6 q (b .0) }, good-vertices xs h (b .1))
+
+-- each obstacle's vertices are there: the total before it and the numbers left make up 384
+good-obstacles : (total : ℕ) (hs : List Head) (xs : List Float) → 2 * total + length xs ≡ 384 → All Fit xs → obstaclesFault total hs xs ≡ fine → Every GoodObstacle onTotal total (withVertices hs xs)
+unfolding obstaclesFault headFault withVertices
+good-obstacles total [] xs l h e = tt
+good-obstacles total (k ∷ hs) xs l h e =
+    let head-fine = ⊳-fine (must (isKind (k .kind)) 3 ⊳ must (roomFor total (k .count)) 4 ⊳ must (not (isEmptyOpen (k .kind) (k .count))) 5) e in
+    let numbers-fine = ⊳-fine (numbersFault (take (2 * k .count) xs)) (head-fine .1) in
+    let a = ⊳-fine (must (isKind (k .kind)) 3) (head-fine .0) in
+    let b = ⊳-fine (must (roomFor total (k .count)) 4) (a .1) in
+    let room : roomFor total (k .count) ≡ true = must-fine (roomFor total (k .count)) 4 (b .0) in
+    let fit : total + k .count ≤ 192 = room-within total (k .count) room in
+    let front : length (take (2 * k .count) xs) ≡ 2 * k .count = length-take-le (2 * k .count) xs (omega arith) in
+    let size : length (verticesOf (take (2 * k .count) xs)) ≡ k .count = vertices-long (take (2 * k .count) xs) (k .count) front in
+    let behind : 2 * (total + k .count) + length (drop (2 * k .count) xs) ≡ 384 = rw length-drop (omega arith) in (
+      record {
+        kind = must-fine (isKind (k .kind)) 3 (a .0);
+        room = rw size room;
+        some = rw size (must-fine (not (isEmptyOpen (k .kind) (k .count))) 5 (b .1));
+        vertices = good-vertices (take (2 * k .count) xs) (all-take (2 * k .count) h) (numbers-fine .0);
+      },
+      rw size (good-obstacles (total + k .count) hs (drop (2 * k .count) xs) behind (all-drop (2 * k .count) h) (numbers-fine .1)),
+    )
+
+good-line : (l : Line) → FitLine l → lineFault l ≡ fine → GoodLine l
+unfolding lineFault
+good-line l f e =
+    let a = ⊳-fine (must (within lineReach (l .point .x)) 6) e in
+    let b = ⊳-fine (must (within lineReach (l .point .y)) 6) (a .1) in
+    let c = ⊳-fine (must (finite (l .direction .x)) 6) (b .1) in
+    let d = ⊳-fine (must (finite (l .direction .y)) 6) (c .1) in
+    record {
+      point = record { x = good (within lineReach) (l .point .x) 6 (f .point .x) (a .0); y = good (within lineReach) (l .point .y) 6 (f .point .y) (b .0) };
+      direction = record { x = good finite (l .direction .x) 6 (f .direction .x) (c .0); y = good finite (l .direction .y) 6 (f .direction .y) (d .0) };
+      band = must-fine (inside bandLow bandHigh (lengthSquaredOf (l .direction))) 7 (d .1);
+    }
+
+good-lines : (ls : List Line) → All FitLine ls → linesFault ls ≡ fine → Every (λ (u : Unit {0}). GoodLine) (λ u l. u) tt ls
+unfolding linesFault
+good-lines [] h e = tt
+good-lines (l ∷ ls) (more p h) e = let a = ⊳-fine (lineFault l) e in (good-line l p (a .0), good-lines ls h (a .1))
+
+-- ---- counts
+
+heads-long : (ks cs : List ℕ) (n : ℕ) → length ks ≡ n → length cs ≡ n → length (headsOf ks cs) ≡ n
+unfolding headsOf
+heads-long [] cs n p q = p
+heads-long (k ∷ ks) [] n p q = q
+heads-long (k ∷ ks) (c ∷ cs) zero p q = absurd (omega arith)
+heads-long (k ∷ ks) (c ∷ cs) (suc n) p q = ap suc (heads-long ks cs n (omega arith) (omega arith))
+
+with-long : (hs : List Head) (xs : List Float) → length (withVertices hs xs) ≡ length hs
+unfolding withVertices
+with-long [] xs = refl
+with-long (h ∷ hs) xs = ap suc (with-long hs (drop (2 * h .count) xs))
+
+module _ (c : Scene) (t : Typed c) where
+  obstacles-long : c .obstacles ≤ 16 → length (obstaclesIn c) ≡ c .obstacles
+  obstacles-long h = with-long (headsIn c) (c .vertices) ∙ heads-long _ _ (c .obstacles) (length-take-le _ (c .kinds) (rw (t .kinds) h)) (length-take-le _ (c .counts) (rw (t .counts) h))
+
+  neighbours-long : c .neighbours ≤ 64 → length (neighboursIn c) ≡ c .neighbours
+  neighbours-long h = length-take-le _ (linesOf (c .lines)) (rw (count (c .lines), t .lines) h)
+
+  -- the scene with zeros behind its counts
+  abbrev pub tidied : Scene
+  tidied = sceneOf (cartIn c) (c .obstacles) (obstaclesIn c) (c .neighbours) (neighboursIn c)
+
+  pub bytes-are-read : sceneFault c ≡ fine → sceneIn (sceneBytes c) ≡ got tidied (length (sceneBytes c))
+  unfolding sceneFault
+  bytes-are-read e =
+      let a = ⊳-fine (agentFault c) e in
+      let b = ⊳-fine (must (leb (c .obstacles) 16) 4) (a .1) in
+      let d = ⊳-fine (obstaclesFault 0 (headsIn c) (c .vertices)) (b .1) in
+      let f = ⊳-fine (must (leb (c .neighbours) 64) 4) (d .1) in
+      let few : c .obstacles ≤ 16 = leb-true _ 16 (must-fine _ 4 (b .0)) in
+      let fewer : c .neighbours ≤ 64 = leb-true _ 64 (must-fine _ 4 (f .0)) in
+      let os-long = obstacles-long few in
+      let ls-long = neighbours-long fewer in
+      let ok : GoodParts (cartIn c) (obstaclesIn c) (neighboursIn c) = record {
+        cart = good-cart c t (a .0);
+        few = rw os-long few;
+        obstacles = good-obstacles 0 (headsIn c) (c .vertices) (omega (arith, t .vertices)) (t .vertexNumbers) (d .0);
+        fewer = rw ls-long fewer;
+        lines = good-lines (neighboursIn c) (all-take (c .neighbours) (fit-lines (c .lines) (t .lineNumbers))) (f .1);
+      } in
+      rw (os-long, ls-long) at (parts-read (cartIn c) (obstaclesIn c) (neighboursIn c) ok)

@@ -1,0 +1,76 @@
+-- `scene_records::walls::vertices_at` meets its contract. The invariant: what is stored and what is still to be read make up the whole. Assumes nothing.
+use Prim.Native.Nat.{_+_, _-_, _*_, _≤_}
+use mathlib.Core.Path.{_≡_, refl, sym, _∙_}
+use native.Mathlib.Nat.{add-zero, sub-zero}
+use native.Mathlib.Omega.{arith}
+use denote.Ref.{now}
+use lib.ListN.{length}
+use Rattle.linear_programming.specs.Admit.{reach}
+use Rattle.admission.specs.Faults.{within}
+use Rattle.scene_records.specs.Parts.{coordinates, verticesAt, stored}
+use Rattle.scene_records.specs.Steps.{from, vector}
+use Rattle.scene_records.proofs.StoredLaws.{stored-done, stored-next}
+use borrow.Author.Needs.{needs}
+use Rattle.scene_records.proofs.walls.vertices_at.Statement.{statement}
+use Rattle.scene_records.proofs.walls.vertices_at.Tie as tie
+
+abbrev Inv-loop : tie.InvT-loop
+Inv-loop bytes count start vertices₀ next₀ i₀ vertices next i =
+    (i ≤ count) × (length vertices ≡ length vertices₀)
+    × (stored coordinates vertices₀ (2 * start) (from next₀ (verticesAt bytes count)) ≡ stored coordinates vertices (2 * (start + i)) (from next (verticesAt bytes (count - i))))
+
+abbrev μ-loop : tie.MeasureT-loop
+μ-loop bytes count start vertices₀ next₀ i₀ vertices next i =
+    count - i
+
+loop-holds : tie.Need-loop-holds Inv-loop μ-loop
+loop-holds c = (omega arith, refl, rw (add-zero, sub-zero))
+
+vector-at-requires : tie.Need-vector-at-requires Inv-loop μ-loop
+vector-at-requires c κs = search needs
+
+add-put : tie.Need-add-put Inv-loop μ-loop
+add-put c = omega (arith, c .before .before .before .loop .inv .1, c .before .before .before .before .before .before .pre)
+
+put-requires : tie.Need-put-requires Inv-loop μ-loop
+put-requires c κs = omega (arith, c .before .before .before .loop .inv .1, c .before .before .before .before .before .before .pre)
+
+add-i : tie.Need-add-i Inv-loop μ-loop
+add-i c = search needs
+
+loop-less : tie.Need-loop-less Inv-loop μ-loop
+loop-less c = omega arith
+
+loop-again : tie.Need-loop-again Inv-loop μ-loop
+unfolding verticesAt
+loop-again c =
+    let l = c .before .before .before .before .before .before .loop in
+    let a = c .before .before .before .before .before .before .before .before .before .args in
+    let put = c .before .before .put .ensures in (
+      omega arith,
+      omega (arith, c .before .before .put .kept .0, l .inv .1),
+      l .inv .2 ∙ stored-next coordinates 2 (λ v. refl) (vector (within reach) (now (a .bytes))) _ _ _ _ _ _ _ (a .count) (l .i) (c .before .before .before .before .before .loop-test .taken) (c .before .before .before .before .vector-at .ensures) put (omega arith),
+    )
+
+same-length : tie.Need-same-length Inv-loop μ-loop
+same-length c = c .before .loop .inv .1
+
+returns : tie.Need-returns Inv-loop μ-loop
+unfolding verticesAt
+returns c = let l = c .before .loop in stored-done coordinates 2 (λ v. refl) (vector (within reach) (now (c .before .before .before .before .args .bytes))) _ _ _ _ _ (c .loop-test .left) ∙ sym (l .inv .2)
+
+pub vertices-at-spec : {M : Type 1} → statement M
+vertices-at-spec =
+    tie.close
+    (tie.spec
+    Inv-loop
+    μ-loop
+    loop-holds
+    vector-at-requires
+    add-put
+    put-requires
+    add-i
+    loop-less
+    loop-again
+    same-length
+    returns)

@@ -1,0 +1,155 @@
+// The obstacles: kind, vertex count and vertices of each, with the running total of vertices.
+use crate::Cursor;
+use crate::HeadRead;
+use crate::Rule;
+use crate::WallsRead;
+use crate::steps;
+use common::Vec2;
+use dodgy_2d::Scene;
+use obstacles::ObstacleLines;
+ghost use mathlib.Core.Path.{_≡_};
+ghost use mathlib.Core.Bool.{not};
+ghost use Prim.Native.Nat.{_+_, _*_, _≤_};
+ghost use lib.ListN.{length};
+ghost use lib.Seq.{sets};
+ghost use Rattle.dodgy_2d.specs.Scenes.{isKind, roomFor};
+ghost use Rattle.obstacles.specs.Obstacles.{isEmptyOpen};
+ghost use Rattle.scene_records.specs.Steps.{from, told};
+ghost use Rattle.scene_records.specs.Parts.{head, headAs, coordinates, verticesAt, stored, obstacles, walls, blankBytes, blankVertices, storedWalls};
+
+fn is_kind(kind: u8) -> bool
+    ensures { λ r. ⌜ r ≡ isKind kind ⌝ }
+{
+    kind == ObstacleLines::CLOSED || kind == ObstacleLines::OPEN
+}
+
+// Whether an obstacle may have as many vertices, with those before it.
+fn room_for(total: usize, count: usize) -> bool
+    ensures { λ r. ⌜ r ≡ roomFor total count ⌝ }
+{
+    if count > ObstacleLines::MOST {
+        return false;
+    }
+    total <= Scene::MOST_VERTICES - count
+}
+
+// Whether an obstacle is closed or has vertices.
+fn has_some(kind: u8, count: u8) -> bool
+    ensures { λ r. ⌜ r ≡ not (isEmptyOpen kind count) ⌝ }
+{
+    kind != ObstacleLines::OPEN || count != 0
+}
+
+// An obstacle's kind and vertex count, behind a total of vertices.
+fn head_at(bytes: &[u8], cursor: Cursor, total: usize) -> HeadRead
+    ensures { λ r. ⌜ r ≡ headAs (from cursor (head (now (bytes .entry)) total)) ⌝ }
+{
+    let kind = steps::byte_at(bytes, cursor);
+    let next = kind.next;
+    let next = steps::held_to(is_kind(kind.value), 3, next);
+    let count = steps::byte_at(bytes, next);
+    let next = count.next;
+    let next = steps::held_to(room_for(total, steps::wide(count.value)), 4, next);
+    let next = steps::held_to(has_some(kind.value, count.value), 5, next);
+    match next {
+        Cursor::At(_) => HeadRead {
+            kind: kind.value,
+            count: count.value,
+            next,
+        },
+        Cursor::Fault(_) => HeadRead {
+            kind: 0,
+            count: 0,
+            next,
+        },
+    }
+}
+
+// Stores a vertex at an index.
+fn put(vertices: &mut [f32], i: usize, vertex: Vec2)
+    requires { ⌜ 2 * i + 2 ≤ length (now vertices) ⌝ }
+    ensures { λ _. ⌜ now (vertices .exit) ≡ sets (now (vertices .entry)) (2 * i) (coordinates vertex) ⌝ }
+{
+    let k = 2 * i;
+    vertices[k] = vertex.x;
+    vertices[k + 1] = vertex.y;
+}
+
+// Stores as many vertices as `count` from the vertex `start` on.
+fn vertices_at(
+    bytes: &[u8],
+    cursor: Cursor,
+    count: usize,
+    start: usize,
+    vertices: &mut [f32],
+) -> Cursor
+    requires { ⌜ 2 * (start + count) ≤ length (now vertices) ⌝ }
+    ensures { λ r. ⌜ told r (now (vertices .exit)) ≡ stored coordinates (now (vertices .entry)) (2 * start) (from cursor (verticesAt (now (bytes .entry)) count)) ⌝ }
+{
+    let mut next = cursor;
+    let mut i = 0usize;
+    while i < count {
+        let vertex = steps::vector_at(bytes, next, Rule::Within(Vec2::REACH));
+        next = vertex.next;
+        put(vertices, start + i, vertex.value);
+        i += 1;
+    }
+    next
+}
+
+// Stores as many obstacles as `count`, one behind the other.
+fn obstacles_at(
+    bytes: &[u8],
+    cursor: Cursor,
+    count: usize,
+    kinds: &mut [u8],
+    counts: &mut [u8],
+    vertices: &mut [f32],
+) -> Cursor
+    requires { ⌜ (count ≤ length (now kinds)) × (count ≤ length (now counts)) × (384 ≤ length (now vertices)) ⌝ }
+    ensures { λ r. ⌜ told r (walls (now (kinds .exit)) (now (counts .exit)) (now (vertices .exit))) ≡ storedWalls (walls (now (kinds .entry)) (now (counts .entry)) (now (vertices .entry))) 0 0 (from cursor (obstacles (now (bytes .entry)) count 0)) ⌝ }
+{
+    let mut next = cursor;
+    let mut total = 0usize;
+    let mut i = 0usize;
+    while i < count {
+        let head = head_at(bytes, next, total);
+        let many = steps::wide(head.count);
+        let behind = head.next;
+        next = vertices_at(bytes, behind, many, total, vertices);
+        kinds[i] = head.kind;
+        counts[i] = head.count;
+        total += many;
+        i += 1;
+    }
+    next
+}
+
+pub(crate) fn blank_bytes() -> [u8; 16]
+    ensures { λ r. ⌜ r ≡ blankBytes ⌝ }
+{
+    [0u8; 16]
+}
+
+pub(crate) fn blank_vertices() -> [f32; 384]
+    ensures { λ r. ⌜ r ≡ blankVertices ⌝ }
+{
+    [0.0f32; 384]
+}
+
+// The obstacles of a scene, `count` of them.
+pub(crate) fn walls_at(bytes: &[u8], cursor: Cursor, count: usize) -> WallsRead
+    requires { ⌜ count ≤ 16 ⌝ }
+    ensures { λ r. ⌜ told (r .next) (walls (r .kinds) (r .counts) (r .vertices)) ≡ storedWalls (walls blankBytes blankBytes blankVertices) 0 0 (from cursor (obstacles (now (bytes .entry)) count 0)) ⌝ }
+{
+    let mut kinds = blank_bytes();
+    let mut counts = blank_bytes();
+    let mut vertices = blank_vertices();
+    let next = obstacles_at(bytes, cursor, count, &mut kinds, &mut counts, &mut vertices);
+    WallsRead {
+        kinds,
+        counts,
+        vertices,
+        next,
+    }
+}
