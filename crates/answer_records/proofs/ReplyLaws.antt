@@ -1,0 +1,45 @@
+-- Laws of reading a record: what a record without a fault is. Assumes nothing.
+use Prim.Native.Nat.{ℕ, _+_, _≤_}
+use native.Mathlib.Omega.{arith}
+use mathlib.Core.Path.{_≡_}
+use mathlib.Core.Bool.{true}
+use mathlib.Core.List.{List}
+use mathlib.Core.Logic.{_⊎_, inl, inr, ⊎-elim}
+use lib.Dec.{eqb, leb}
+use lib.ListN.{length, getD}
+use borrow.Author.Tests.{eqb-true}
+use Rattle.arithmetic.proofs.Choice.{or-cases}
+use Rattle.admission.specs.Faults.{fine, must, _⊳_}
+use Rattle.admission.proofs.FaultLaws.{⊳-fine, must-fine}
+use Rattle.answer_records.specs.Replies.{pairOf, isLength, lengthOfCode, answerFault}
+
+pub two-lengths : (n : ℕ) → isLength n ≡ true → (n ≡ 16) ⊎ (n ≡ 2)
+unfolding isLength
+two-lengths n h = ⊎-elim (λ e. inl (eqb-true n 16 e)) (λ e. inr (eqb-true n 2 e)) (or-cases (eqb n 16) (eqb n 2) h)
+
+pub has-code : (n : ℕ) → isLength n ≡ true → 2 ≤ n
+has-code n h = ⊎-elim (λ e. omega arith) (λ e. omega arith) (two-lengths n h)
+
+-- a record without a fault
+pub record Sound (s : List ℕ) : Type 0 where
+  pub named : isLength (pairOf s 0) ≡ true
+  pub matched : length s ≡ 2 + pairOf s 0
+  pub version : getD s 2 0 ≡ 1
+  pub coded : lengthOfCode (getD s 3 0) ≡ pairOf s 0
+
+pub sound : (s : List ℕ) → answerFault s ≡ fine → Sound s
+unfolding answerFault
+sound s e =
+    let length-there = ⊳-fine (must (leb 2 (length s)) 2) e in
+    let length-known = ⊳-fine (must (isLength (pairOf s 0)) 2) (length-there .1) in
+    let bytes-match = ⊳-fine (must (eqb (length s) (2 + pairOf s 0)) 2) (length-known .1) in
+    let version-one = ⊳-fine (must (eqb (getD s 2 0) 1) 1) (bytes-match .1) in
+    record {
+      named = must-fine _ 2 (length-known .0);
+      matched = eqb-true _ _ (must-fine _ 2 (bytes-match .0));
+      version = eqb-true _ _ (must-fine _ 1 (version-one .0));
+      coded = eqb-true _ _ (must-fine _ 2 (version-one .1));
+    }
+
+pub code-there : (s : List ℕ) → answerFault s ≡ fine → 4 ≤ length s
+code-there s e = let w = sound s e in omega (arith, has-code _ (w .named), w .matched)

@@ -1,0 +1,165 @@
+-- What is written is read back, and what is read is written again to the same bytes, for outcomes and for refusals. Assumes nothing.
+use Prim.Native.Nat.{ℕ, zero, suc, _+_, _-_, _/_, _%_, _^_, _≤_, _<_}
+use native.Mathlib.Omega.{arith}
+use native.Mathlib.Nat.{div-one}
+use mathlib.Core.Path.{_≡_, refl, sym, ap, _∙_}
+use mathlib.Core.Bool.{Bool, true, false, _&&_}
+use mathlib.Core.List.{List, [], _∷_}
+use lib.Dec.{leb, ltb}
+use lib.ListN.{length, getD}
+use borrow.Author.Tests.{le-leb, lt-leb, lt-ltb, le-ltb, ltb-true, ltb-false}
+use Rattle.arithmetic.specs.Binary32.{if_then_else_}
+use Rattle.words.specs.Words.{wordOf}
+use Rattle.fields.specs.Bytes.{be, beFrom, toBe, Small}
+use Rattle.fields.proofs.ByteLaws.{be-toBe}
+use Rattle.admission.specs.Faults.{Fault, fine, fault}
+use Rattle.answer_records.specs.declared.Answer.{Answer}
+use Rattle.answer_records.specs.declared.Reply.the-variants as reply
+use Rattle.answer_records.specs.Answers.{answerBytes, refusalBytes}
+use Rattle.answer_records.specs.Replies.{pairOf, isLength, lengthOfCode, answerFault, outcomeIn, unlessFault, answerIn}
+use Rattle.answer_records.proofs.ReplyLaws.{Sound, sound, has-code}
+
+-- ---- numbers and their bytes
+
+module _ (s : List ℕ) (at : ℕ) (small : Small s) where
+  pair-bytes : toBe 2 (pairOf s at) ≡ getD s at 0 ∷ getD s (at + 1) 0 ∷ []
+  unfolding toBe pairOf
+  pair-bytes =
+      let a = small at in
+      let b = small (at + 1) in
+      let first : pairOf s at / 256 % 256 ≡ getD s at 0 = omega arith in
+      let second : pairOf s at / 256 ^ 0 % 256 ≡ getD s (at + 1) 0 = rw div-one (omega arith) in
+      rw (first, second)
+
+  word-bytes : toBe 4 (wordOf s at) ≡ getD s at 0 ∷ getD s (at + 1) 0 ∷ getD s (at + 2) 0 ∷ getD s (at + 3) 0 ∷ []
+  unfolding toBe wordOf
+  word-bytes =
+      let a = small at in
+      let b = small (at + 1) in
+      let c = small (at + 2) in
+      let d = small (at + 3) in
+      let first : wordOf s at / 16777216 % 256 ≡ getD s at 0 = omega arith in
+      let second : wordOf s at / 65536 % 256 ≡ getD s (at + 1) 0 = omega arith in
+      let third : wordOf s at / 256 % 256 ≡ getD s (at + 2) 0 = omega arith in
+      let fourth : wordOf s at / 256 ^ 0 % 256 ≡ getD s (at + 3) 0 = rw div-one (omega arith) in
+      rw (first, second, third, fourth)
+
+-- a list by its elements
+upTo : ℕ → (ℕ → ℕ) → List ℕ
+upTo zero f = []
+upTo (suc n) f = f 0 ∷ upTo n (λ i. f (suc i))
+
+listed : (s : List ℕ) → s ≡ upTo (length s) (λ i. getD s i 0)
+unfolding upTo
+listed [] = refl
+listed (x ∷ s) = ap (λ (l : List ℕ). x ∷ l) (listed s)
+
+-- ---- what is written is read back
+
+-- an outcome whose numbers fit their fields
+pub record Fits (a : Answer) : Type 0 where
+  pub least : 1 ≤ a .code
+  pub most : a .code ≤ 5
+  pub x : a .x < 2 ^ 32
+  pub y : a .y < 2 ^ 32
+  pub failed : a .failed < 2 ^ 16
+  pub probes : a .probes < 2 ^ 32
+
+module _ (a : Answer) (fits : Fits a) where
+  same-outcome : outcomeIn (answerBytes a) ≡ a
+  unfolding outcomeIn answerBytes toBe be beFrom wordOf pairOf
+  same-outcome =
+      let x : wordOf (answerBytes a) 4 ≡ a .x = omega (arith, be-toBe 4 (a .x) (fits .x)) in
+      let y : wordOf (answerBytes a) 8 ≡ a .y = omega (arith, be-toBe 4 (a .y) (fits .y)) in
+      let failed : pairOf (answerBytes a) 12 ≡ a .failed = omega (arith, be-toBe 2 (a .failed) (fits .failed)) in
+      let probes : wordOf (answerBytes a) 14 ≡ a .probes = omega (arith, be-toBe 4 (a .probes) (fits .probes)) in
+      rw (x, y, failed, probes)
+
+  outcome-fine : answerFault (answerBytes a) ≡ fine
+  unfolding answerFault answerBytes toBe pairOf isLength lengthOfCode if_then_else_
+  outcome-fine = rw (le-leb 1 (a .code) (fits .least), le-leb (a .code) 5 (fits .most))
+
+  outcome-code : ltb (getD (answerBytes a) 3 0) 128 ≡ true
+  unfolding answerBytes toBe
+  outcome-code = lt-ltb (a .code) 128 (omega (arith, fits .most))
+
+  pub outcome-read-back : answerIn (answerBytes a) ≡ reply.Outcome a
+  unfolding answerIn if_then_else_
+  outcome-read-back = rw (outcome-fine, outcome-code, same-outcome)
+
+module _ (n : ℕ) (least : 1 ≤ n) (most : n ≤ 10) where
+  code-of : (128 + n) % 256 ≡ 128 + n
+  code-of = omega arith
+
+  refusal-fine : answerFault (refusalBytes n) ≡ fine
+  unfolding answerFault refusalBytes toBe pairOf isLength lengthOfCode if_then_else_
+  refusal-fine = rw (code-of, le-leb 1 (128 + n) (omega arith), lt-leb (128 + n) 5 (omega arith), le-leb 129 (128 + n) (omega arith), le-leb (128 + n) 138 (omega arith))
+
+  pub refusal-read-back : answerIn (refusalBytes n) ≡ reply.Refusal n
+  unfolding answerIn refusalBytes toBe if_then_else_
+  refusal-read-back =
+      let number : 128 + n - 128 ≡ n = omega arith in
+      rw (refusal-fine, code-of, le-ltb (128 + n) 128 (omega arith), number)
+
+-- ---- what is read is written again
+
+-- an outcome, a refusal or a fault: what each says of the bytes
+read-outcome : {C : Type 0} (f : Fault) (below : Bool) (o : Answer) (n : ℕ) (a : Answer) → unlessFault f (if below then reply.Outcome o else reply.Refusal n) ≡ reply.Outcome a →
+    (f ≡ fine → below ≡ true → o ≡ a → C) → C
+unfolding if_then_else_
+read-outcome fine true o n a e go = go refl refl cc
+read-outcome fine false o n a e go = absurd (let z : _≡_ {A = ℕ} 0 1 = cc in omega arith)
+read-outcome (fault r) below o n a e go = absurd (let z : _≡_ {A = ℕ} 0 1 = cc in omega arith)
+
+read-refusal : {C : Type 0} (f : Fault) (below : Bool) (o : Answer) (n m : ℕ) → unlessFault f (if below then reply.Outcome o else reply.Refusal n) ≡ reply.Refusal m →
+    (f ≡ fine → below ≡ false → n ≡ m → C) → C
+unfolding if_then_else_
+read-refusal fine true o n m e go = absurd (let z : _≡_ {A = ℕ} 0 1 = cc in omega arith)
+read-refusal fine false o n m e go = go refl refl cc
+read-refusal (fault r) below o n m e go = absurd (let z : _≡_ {A = ℕ} 0 1 = cc in omega arith)
+
+-- a length that goes with one kind of code alone, where it is one
+only : (w : ℕ) (b : Bool) → 2 ≤ (if b then w else 0) → (if b then w else 0) ≡ w
+unfolding if_then_else_
+only w true h = refl
+only w false h = absurd (omega arith)
+
+code-below : (k : ℕ) → k < 128 → lengthOfCode k ≡ (if leb 1 k && leb k 5 then 16 else 0)
+unfolding lengthOfCode if_then_else_
+code-below k h = rw (lt-leb 129 k (omega arith))
+
+code-above : (k : ℕ) → 128 ≤ k → lengthOfCode k ≡ (if leb 129 k && leb k 138 then 2 else 0)
+unfolding lengthOfCode if_then_else_
+code-above k h = rw (le-leb 1 k (omega arith), lt-leb k 5 (omega arith))
+
+-- the record's length where its code's is known
+named-length : (s : List ℕ) (w : ℕ) (b : Bool) → Sound s → lengthOfCode (getD s 3 0) ≡ (if b then w else 0) → pairOf s 0 ≡ w
+named-length s w b fair e =
+    let same : pairOf s 0 ≡ (if b then w else 0) = sym (fair .coded) ∙ e in
+    same ∙ only w b (rw same at (has-code (pairOf s 0) (fair .named)))
+
+-- the record by its bytes, and its length field's two
+its-bytes : (s : List ℕ) (w : ℕ) → Sound s → pairOf s 0 ≡ w → s ≡ upTo (2 + w) (λ i. getD s i 0)
+its-bytes s w fair e = rw (fair .matched ∙ ap (λ (n : ℕ). 2 + n) e) at (listed s)
+
+module _ (s : List ℕ) (small : Small s) where
+  length-bytes : (w : ℕ) → pairOf s 0 ≡ w → toBe 2 w ≡ getD s 0 0 ∷ getD s 1 0 ∷ []
+  length-bytes w e = ap (toBe 2) (sym e) ∙ pair-bytes s 0 small
+
+  pub outcome-written-again : (a : Answer) → answerIn s ≡ reply.Outcome a → s ≡ answerBytes a
+  unfolding answerIn answerBytes outcomeIn upTo
+  outcome-written-again a e =
+      read-outcome (answerFault s) (ltb (getD s 3 0) 128) (outcomeIn s) _ a e λ f b o.
+      let fair = sound s f in
+      let n : pairOf s 0 ≡ 16 = named-length s 16 _ fair (code-below (getD s 3 0) (ltb-true _ _ b)) in
+      its-bytes s 16 fair n ∙ rw (← o, length-bytes 16 n, word-bytes s 4 small, word-bytes s 8 small, pair-bytes s 12 small, word-bytes s 14 small, fair .version)
+
+  pub refusal-written-again : (n : ℕ) → answerIn s ≡ reply.Refusal n → s ≡ refusalBytes n
+  unfolding answerIn refusalBytes upTo
+  refusal-written-again m e =
+      read-refusal (answerFault s) (ltb (getD s 3 0) 128) (outcomeIn s) _ m e λ f b o.
+      let fair = sound s f in
+      let high : 128 ≤ getD s 3 0 = ltb-false _ _ b in
+      let n : pairOf s 0 ≡ 2 = named-length s 2 _ fair (code-above (getD s 3 0) high) in
+      let code : (128 + m) % 256 ≡ getD s 3 0 = omega (arith, small 3) in
+      its-bytes s 2 fair n ∙ rw (length-bytes 2 n, code, fair .version)

@@ -1,0 +1,61 @@
+-- `answer_records::write_answer` meets its contract. Assumes nothing.
+use borrow.Author.Needs.{needs}
+use native.Mathlib.Omega.{arith}
+use denote.Ref.{now}
+use lib.ListN.{length-set}
+use Rattle.answer_records.proofs.WrittenLaws.{no-room, stored}
+use Rattle.answer_records.proofs.write_answer.Statement.{statement}
+use Rattle.answer_records.proofs.write_answer.Tie as tie
+
+returns : tie.Need-returns
+returns c = no-room _ _ (c .if1 .taken)
+
+put-pair-requires : tie.Need-put-pair-requires
+put-pair-requires c κs = search needs
+
+slice-write-buffer : tie.Need-slice-write-buffer
+slice-write-buffer c = search needs
+
+slice-write-buffer-2 : tie.Need-slice-write-buffer-2
+slice-write-buffer-2 c = simp length-set (omega arith)
+
+put-word-requires : tie.Need-put-word-requires
+put-word-requires c κs = simp length-set (omega arith)
+
+put-word-requires-2 : tie.Need-put-word-requires-2
+put-word-requires-2 c κs = omega (arith, simp length-set at (c .before .before .before .put-word .kept .0), c .before .before .before .before .before .before .before .put-pair .kept .0, c .before .before .before .before .before .before .before .before .before .if1 .left)
+
+put-pair-requires-2 : tie.Need-put-pair-requires-2
+put-pair-requires-2 c κs = omega (arith, c .before .before .before .put-word2 .kept .0, simp length-set at (c .before .before .before .before .before .before .before .put-word .kept .0), c .before .before .before .before .before .before .before .before .before .before .before .put-pair .kept .0, c .before .before .before .before .before .before .before .before .before .before .before .before .before .if1 .left)
+
+put-word-requires-3 : tie.Need-put-word-requires-3
+put-word-requires-3 c κs = omega (arith, c .before .before .before .put-pair2 .kept .0, c .before .before .before .before .before .before .before .put-word2 .kept .0, simp length-set at (c .before .before .before .before .before .before .before .before .before .before .before .put-word .kept .0), c .before .before .before .before .before .before .before .before .before .before .before .before .before .before .before .put-pair .kept .0, c .before .before .before .before .before .before .before .before .before .before .before .before .before .before .before .before .before .if1 .left)
+
+same-length : tie.Need-same-length
+same-length c = omega (arith, c .before .before .put-word3 .kept .0, c .before .before .before .before .before .before .put-pair2 .kept .0, c .before .before .before .before .before .before .before .before .before .before .put-word2 .kept .0, simp length-set at (c .before .before .before .before .before .before .before .before .before .before .before .before .before .before .put-word .kept .0), c .before .before .before .before .before .before .before .before .before .before .before .before .before .before .before .before .before .before .put-pair .kept .0)
+
+returns-2 : tie.Need-returns-2
+returns-2 c =
+    let probes = c .before .before in
+    let failed = probes .before .before .before .before in
+    let second = failed .before .before .before .before in
+    let first = second .before .before .before .before in
+    let named = first .before .before .before .before in
+    let t = named .before .before in
+    let a = t .before .before .args in
+    stored (a .answer) (now (a .buffer)) _ _ _ _ _ (t .if1 .left) (named .put-pair .ensures) (first .put-word .ensures) (second .put-word2 .ensures) (failed .put-pair2 .ensures) (probes .put-word3 .ensures)
+
+pub write-answer-spec : {M : Type 1} → statement M
+write-answer-spec =
+    tie.close
+    (tie.spec
+    returns
+    put-pair-requires
+    slice-write-buffer
+    slice-write-buffer-2
+    put-word-requires
+    put-word-requires-2
+    put-pair-requires-2
+    put-word-requires-3
+    same-length
+    returns-2)

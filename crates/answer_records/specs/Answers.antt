@@ -1,0 +1,33 @@
+-- The bytes of answer records, and what writing them to a lent buffer leaves (01, "Records (ours)"). Definitions only. Assumes nothing.
+use Prim.Native.Nat.{ℕ, _+_, _%_}
+use mathlib.Core.List.{List, [], _∷_, _++_}
+use lib.Dec.{leb}
+use lib.ListN.{length, drop}
+use Rattle.arithmetic.specs.Binary32.{if_then_else_}
+use Rattle.fields.specs.Bytes.{toBe}
+use Rattle.admission.specs.declared.Judged.{Judged}
+use Rattle.admission.specs.Faults.{Fault, fine, fault, faultOf}
+use Rattle.answer_records.specs.declared.Answer.{Answer}
+
+-- "Answer: length 16, version 1, outcome, x, y, failed line (2 bytes, FFFF for none), probes (4 bytes)"
+unfoldable pub answerBytes : Answer → List ℕ
+answerBytes a = toBe 2 16 ++ 1 ∷ a .code ∷ toBe 4 (a .x) ++ toBe 4 (a .y) ++ toBe 2 (a .failed) ++ toBe 4 (a .probes)
+
+-- "a refused scene as 00 02 01 and 128 + number". A code is a byte: numbers go up to 10, and one over 127 is never read as a refusal's
+unfoldable pub refusalBytes : ℕ → List ℕ
+refusalBytes n = toBe 2 2 ++ 1 ∷ (128 + n) % 256 ∷ []
+
+-- what a writer tells, and what the buffer holds then
+pub record Written : Type 0 where
+  pub told : Fault
+  pub contents : List ℕ
+
+abbrev pub written : Fault → List ℕ → Written
+written f l = record { told = f; contents = l }
+
+abbrev pub writtenOf : Judged → List ℕ → Written
+writtenOf r l = written (faultOf r) l
+
+-- the bytes at the buffer's start, and behind them what stood there; a buffer too short for them is refused with 10 and left alone
+unfoldable pub laid : List ℕ → List ℕ → Written
+laid bytes buffer = if leb (length bytes) (length buffer) then written fine (bytes ++ drop (length bytes) buffer) else written (fault 10) buffer

@@ -1,0 +1,44 @@
+-- What reading an answer record gives (01, "Records (ours)", "The answer reader .."). Definitions only. Assumes nothing.
+use Prim.Native.Nat.{ℕ, _+_, _-_, _*_}
+use mathlib.Core.Bool.{Bool, _&&_, _||_}
+use mathlib.Core.List.{List}
+use lib.Dec.{eqb, leb, ltb}
+use lib.ListN.{length, getD}
+use Rattle.arithmetic.specs.Binary32.{if_then_else_}
+use Rattle.words.specs.Words.{wordOf}
+use Rattle.admission.specs.Faults.{Fault, fine, fault, must, _⊳_}
+use Rattle.answer_records.specs.declared.Answer.{Answer}
+use Rattle.answer_records.specs.declared.Reply.{Reply}
+use Rattle.answer_records.specs.declared.Reply.the-variants as reply
+
+-- the two bytes from a place on as one number, the first highest, a byte past the end counting as 0
+unfoldable pub pairOf : List ℕ → ℕ → ℕ
+pairOf s at = getD s at 0 * 256 + getD s (at + 1) 0
+
+unfoldable pub isLength : ℕ → Bool
+isLength n = eqb n 16 || eqb n 2
+
+-- "codes 1 to 5 and 129 to 138 only, the first with length 16, the second with length 2"; 0 is the length of no record
+unfoldable pub lengthOfCode : ℕ → ℕ
+lengthOfCode code = if leb 1 code && leb code 5 then 16 else (if leb 129 code && leb code 138 then 2 else 0)
+
+-- "fewer than two bytes, a length that is neither, or bytes that do not match it, 2; another version, 1; a code not of its length, 2"
+unfoldable pub answerFault : List ℕ → Fault
+answerFault s =
+    must (leb 2 (length s)) 2
+    ⊳ must (isLength (pairOf s 0)) 2
+    ⊳ must (eqb (length s) (2 + pairOf s 0)) 2
+    ⊳ must (eqb (getD s 2 0) 1) 1
+    ⊳ must (eqb (lengthOfCode (getD s 3 0)) (pairOf s 0)) 2
+
+-- "Point, failed line and probes are taken as they stand."
+unfoldable pub outcomeIn : List ℕ → Answer
+outcomeIn s = record { code = getD s 3 0; x = wordOf s 4; y = wordOf s 8; failed = pairOf s 12; probes = wordOf s 14 }
+
+abbrev pub unlessFault : Fault → Reply → Reply
+unlessFault fine r = r
+unlessFault (fault n) r = reply.Fault n
+
+-- an outcome's code lies below 128, a refusal's is 128 and its number
+unfoldable pub answerIn : List ℕ → Reply
+answerIn s = unlessFault (answerFault s) (if ltb (getD s 3 0) 128 then reply.Outcome (outcomeIn s) else reply.Refusal (getD s 3 0 - 128))

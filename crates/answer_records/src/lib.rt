@@ -1,0 +1,158 @@
+// Answer records (01, "Records (ours)"): an outcome in 18 bytes or a refusal in 4, written to lent bytes and read from them.
+use admission::Judged;
+ghost use mathlib.Core.Path.{_≡_};
+ghost use Prim.Native.Nat.{_+_, _≤_, _<_};
+ghost use lib.ListN.{length};
+ghost use lib.Seq.{sets};
+ghost use Rattle.fields.specs.Bytes.{toBe};
+ghost use Rattle.admission.specs.Faults.{faultOf};
+ghost use Rattle.answer_records.specs.Answers.{answerBytes, refusalBytes, laid, writtenOf};
+ghost use Rattle.answer_records.specs.Replies.{pairOf, isLength, lengthOfCode, answerFault, outcomeIn, answerIn};
+
+// An outcome as its record has it: the point by its bits, FFFF where no line failed.
+pub struct Answer {
+    pub code: u8,
+    pub x: u32,
+    pub y: u32,
+    pub failed: u16,
+    pub probes: u32,
+}
+
+impl Answer {
+    // The bytes of an outcome's record, and of a refusal's.
+    pub const LENGTH: usize = 18;
+
+    pub const REFUSAL_LENGTH: usize = 4;
+
+    pub const NO_LINE: u16 = 0xffff;
+}
+
+// What a record says: an outcome, a scene's refusal by its number, or the number of the record's own fault.
+pub enum Reply {
+    Outcome(Answer),
+    Refusal(u8),
+    Fault(u8),
+}
+
+// Writes an outcome's record to the buffer's start; bytes behind it keep their contents. A buffer of fewer than 18 bytes is refused (10) and keeps its contents.
+pub fn write_answer(buffer: &mut [u8], answer: Answer) -> Judged
+    ensures { λ r. ⌜ writtenOf r (now (buffer .exit)) ≡ laid (answerBytes answer) (now (buffer .entry)) ⌝ }
+{
+    if buffer.len() < Answer::LENGTH {
+        return Judged::Fault(10);
+    }
+    put_pair(buffer, 0, 16);
+    buffer[2] = 1;
+    buffer[3] = answer.code;
+    put_word(buffer, 4, answer.x);
+    put_word(buffer, 8, answer.y);
+    put_pair(buffer, 12, answer.failed);
+    put_word(buffer, 14, answer.probes);
+    Judged::Fine
+}
+
+// Writes the record of a refused scene to the buffer's start; bytes behind it keep their contents. A buffer of fewer than 4 bytes is refused (10) and keeps
+// its contents. The code is 128 + number modulo 256, and the reader takes it for the numbers 1 to 10 alone.
+pub fn write_refusal(buffer: &mut [u8], number: u8) -> Judged
+    ensures { λ r. ⌜ writtenOf r (now (buffer .exit)) ≡ laid (refusalBytes number) (now (buffer .entry)) ⌝ }
+{
+    if buffer.len() < Answer::REFUSAL_LENGTH {
+        return Judged::Fault(10);
+    }
+    put_pair(buffer, 0, 2);
+    buffer[2] = 1;
+    buffer[3] = std::num::wrapping_add_u8(128, number);
+    Judged::Fine
+}
+
+// What one whole record says. Fewer than two bytes, a length that is neither 16 nor 2, or bytes that do not match it, are the fault 2; another version 1;
+// a code not of its length 2. Point, failed line and probes are taken as they stand.
+pub fn read_answer(bytes: &[u8]) -> Reply
+    ensures { λ r. ⌜ r ≡ answerIn (now (bytes .entry)) ⌝ }
+{
+    let judged = judge_answer(bytes);
+    if let Judged::Fault(number) = judged {
+        return Reply::Fault(number);
+    }
+    let code = bytes[3];
+    if code < 128 {
+        return Reply::Outcome(outcome_in(bytes));
+    }
+    Reply::Refusal(code - 128)
+}
+
+// The two bytes from `at` on as one number, the first byte highest. A byte past the slice's end counts as 0.
+pub fn pair_at(s: &[u8], at: usize) -> u16
+    ensures { λ r. ⌜ r ≡ pairOf (now (s .entry)) at ⌝ }
+{
+    (words::word_at(s, at) / 0x1_0000) as u16
+}
+
+// The first fault of a record.
+fn judge_answer(bytes: &[u8]) -> Judged
+    ensures { λ r. ⌜ faultOf r ≡ answerFault (now (bytes .entry)) ⌝ }
+{
+    if bytes.len() < 2 {
+        return Judged::Fault(2);
+    }
+    let length = pair_at(bytes, 0) as usize;
+    if !is_length(length) {
+        return Judged::Fault(2);
+    }
+    if bytes.len() != 2 + length {
+        return Judged::Fault(2);
+    }
+    let version = admission::fault_unless(bytes[2] == 1, 1);
+    let code = admission::fault_unless(length_of_code(bytes[3]) == length, 2);
+    admission::first_of(version, code)
+}
+
+// The lengths that a record may name: an outcome's and a refusal's.
+fn is_length(length: usize) -> bool
+    ensures { λ r. ⌜ r ≡ isLength length ⌝ }
+{
+    length == 16 || length == 2
+}
+
+// The length that goes with a code. No record names 0, so every other code is refused.
+fn length_of_code(code: u8) -> usize
+    ensures { λ r. ⌜ r ≡ lengthOfCode code ⌝ }
+{
+    match code {
+        1..=5 => 16,
+        129..=138 => 2,
+        _ => 0,
+    }
+}
+
+// The outcome in a record of 18 bytes.
+fn outcome_in(bytes: &[u8]) -> Answer
+    requires { ⌜ 3 < length (now bytes) ⌝ }
+    ensures { λ r. ⌜ r ≡ outcomeIn (now (bytes .entry)) ⌝ }
+{
+    Answer {
+        code: bytes[3],
+        x: words::word_at(bytes, 4),
+        y: words::word_at(bytes, 8),
+        failed: pair_at(bytes, 12),
+        probes: words::word_at(bytes, 14),
+    }
+}
+
+fn put_pair(buffer: &mut [u8], at: usize, x: u16)
+    requires { ⌜ at + 2 ≤ length (now buffer) ⌝ }
+    ensures { λ _. ⌜ now (buffer .exit) ≡ sets (now (buffer .entry)) at (toBe 2 x) ⌝ }
+{
+    buffer[at] = (x / 0x100 % 0x100) as u8;
+    buffer[at + 1] = (x % 0x100) as u8;
+}
+
+fn put_word(buffer: &mut [u8], at: usize, x: u32)
+    requires { ⌜ at + 4 ≤ length (now buffer) ⌝ }
+    ensures { λ _. ⌜ now (buffer .exit) ≡ sets (now (buffer .entry)) at (toBe 4 x) ⌝ }
+{
+    buffer[at] = (x / 0x100_0000 % 0x100) as u8;
+    buffer[at + 1] = (x / 0x1_0000 % 0x100) as u8;
+    buffer[at + 2] = (x / 0x100 % 0x100) as u8;
+    buffer[at + 3] = (x % 0x100) as u8;
+}
