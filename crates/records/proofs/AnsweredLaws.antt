@@ -1,0 +1,107 @@
+-- Laws of one record answered: what the reader's and the writer's promises say of it, and of its reply's bytes. Assumes nothing.
+use Prim.Native.Nat.{ℕ, _≤_, _<_}
+use native.Mathlib.Omega.{arith}
+use mathlib.Core.Path.{_≡_, refl, sym, ap, _∙_}
+use mathlib.Core.List.{List, _++_}
+use lib.Dec.{leb}
+use lib.ListN.{length, drop}
+use borrow.Author.Tests.{le-leb, lt-leb}
+use Rattle.arithmetic.specs.Binary32.{if_then_else_}
+use Rattle.arithmetic.proofs.Choice.{if-all}
+use Rattle.admission.specs.declared.Judged.{Judged}
+use Rattle.admission.specs.declared.Judged.the-variants as judged
+use Rattle.admission.specs.Faults.{Fault, fine, fault}
+use Rattle.admission.proofs.FaultLaws.{no-fault}
+use Rattle.dodgy_2d.specs.declared.Scene.{Scene}
+use Rattle.dodgy_2d.specs.Outcomes.{sceneOutcome}
+use Rattle.fields.specs.Bytes.{toBe}
+use Rattle.fields.specs.Got.{Got, refused, got}
+use Rattle.scene_records.specs.declared.SceneRead.{SceneRead}
+use Rattle.scene_records.specs.Records.{readAs}
+use Rattle.answer_records.specs.Answers.{answerBytes, refusalBytes, Written, written, laid}
+use Rattle.records.specs.Answered.{Answered, answer, refusal, ofOutcome, ofReading, answered, laidAnswer, answerTo, replyBytes, replyTo}
+use Rattle.records.specs.Steps.{put, putAt}
+
+-- ---- the reader's promise
+
+pub read-refused : (g : Got Scene) (r : SceneRead) (n : ℕ) → r ≡ readAs g → r .judged ≡ judged.Fault n → ofReading g ≡ refusal n
+read-refused (refused m) r n e j =
+    let z : _≡_ {A = Judged} (judged.Fault m) (judged.Fault n) = sym (ap (λ (x : SceneRead). x .judged) e) ∙ j in
+    cc
+read-refused (got s at) r n e j =
+    let z : _≡_ {A = Judged} judged.Fine (judged.Fault n) = sym (ap (λ (x : SceneRead). x .judged) e) ∙ j in
+    absurd (let y : _≡_ {A = ℕ} 0 1 = cc in omega arith)
+
+pub read-solved : (g : Got Scene) (r : SceneRead) → r ≡ readAs g → r .judged ≡ judged.Fine → ofReading g ≡ ofOutcome (sceneOutcome (r .scene))
+read-solved (refused m) r e j =
+    let z : _≡_ {A = Judged} (judged.Fault m) judged.Fine = sym (ap (λ (x : SceneRead). x .judged) e) ∙ j in
+    absurd (let y : _≡_ {A = ℕ} 0 1 = cc in omega arith)
+read-solved (got s at) r e j = ap (λ (x : SceneRead). ofOutcome (sceneOutcome (x .scene))) (sym e)
+
+-- ---- the first fault
+
+module _ (bytes buffer : List ℕ) where
+  pub no-room : length buffer < 18 → written (fault 10) buffer ≡ answerTo bytes buffer
+  unfolding answerTo if_then_else_
+  no-room h = rw (lt-leb 18 (length buffer) h)
+
+  pub some-room : 18 ≤ length buffer → answerTo bytes buffer ≡ laidAnswer (answered bytes) buffer
+  unfolding answerTo if_then_else_
+  some-room h = rw (le-leb 18 (length buffer) h)
+
+-- ---- the reply's bytes
+
+pub laid-there : (bytes out : List ℕ) → length bytes ≤ length out → laid bytes out ≡ written fine (bytes ++ drop (length bytes) out)
+unfolding laid if_then_else_
+laid-there bytes out h = rw (le-leb (length bytes) (length out) h)
+
+laid-outcome : (a : Answered) (out l : List ℕ) → 18 ≤ length out → written fine l ≡ laidAnswer a out → put 18 l ≡ putAt 0 (replyBytes a) out
+unfolding answerBytes toBe
+laid-outcome (answer a) out l h e = ap (λ (w : Written). put 18 (w .contents)) (e ∙ laid-there (answerBytes a) out h)
+laid-outcome (refusal r) out l h e =
+    let z : _≡_ {A = Fault} fine (fault r) = ap (λ (w : Written). w .told) e in
+    absurd (let y : _≡_ {A = ℕ} 0 1 = cc in omega arith)
+
+laid-refusal : (a : Answered) (n : ℕ) (f : Fault) (out l m : List ℕ) → 18 ≤ length out → written (fault n) l ≡ laidAnswer a out → written f m ≡ laid (refusalBytes n) l → put 4 m ≡ putAt 0 (replyBytes a) out
+unfolding answerBytes refusalBytes toBe
+laid-refusal (answer a) n f out l m h e w =
+    let z : _≡_ {A = Fault} (fault n) fine = ap (λ (x : Written). x .told) (e ∙ laid-there (answerBytes a) out h) in
+    absurd (let y : _≡_ {A = ℕ} 0 1 = cc in omega arith)
+laid-refusal (refusal r) n f out l m h e w =
+    let number : n ≡ r = (let z : _≡_ {A = Fault} (fault n) (fault r) = ap (λ (x : Written). x .told) e in cc) in
+    let same : l ≡ out = ap (λ (x : Written). x .contents) e in
+    let room : 4 ≤ length l = rw same (omega arith) in
+    rw (← number, ← same) (ap (λ (x : Written). put 4 (x .contents)) (w ∙ laid-there (refusalBytes n) l room))
+
+module _ (bytes out l : List ℕ) (h : 18 ≤ length out) where
+  pub replied : written fine l ≡ answerTo bytes out → put 18 l ≡ putAt 0 (replyTo bytes) out
+  unfolding replyTo
+  replied e = laid-outcome (answered bytes) out l h (e ∙ some-room bytes out h)
+
+  pub replied-refusal : (n : ℕ) (f : Fault) (m : List ℕ) → written (fault n) l ≡ answerTo bytes out → written f m ≡ laid (refusalBytes n) l → put 4 m ≡ putAt 0 (replyTo bytes) out
+  unfolding replyTo
+  replied-refusal n f m e w = laid-refusal (answered bytes) n f out l m h (e ∙ some-room bytes out h) w
+
+-- ---- a refusal leaves the buffer alone
+
+record Untouched (buffer : List ℕ) (w : Written) : Type 0 where
+  pub stays : (n : ℕ) → w .told ≡ fault n → w .contents ≡ buffer
+
+told-untouched : (r : ℕ) (buffer : List ℕ) → Untouched buffer (written (fault r) buffer)
+told-untouched r buffer = record { stays = λ n e. refl }
+
+answer-untouched : (a : Answered) (buffer : List ℕ) → Untouched buffer (laidAnswer a buffer)
+unfolding laid
+answer-untouched (answer a) buffer =
+    if-all (Untouched buffer) (leb (length (answerBytes a)) (length buffer))
+    (record { stays = λ n e. absurd (no-fault n e) })
+    (told-untouched 10 buffer)
+answer-untouched (refusal r) buffer = told-untouched r buffer
+
+answered-untouched : (bytes buffer : List ℕ) → Untouched buffer (answerTo bytes buffer)
+unfolding answerTo
+answered-untouched bytes buffer = if-all (Untouched buffer) (leb 18 (length buffer)) (answer-untouched (answered bytes) buffer) (told-untouched 10 buffer)
+
+-- Where a record is refused, the buffer holds what it held.
+pub refused-untouched : (bytes buffer : List ℕ) (n : ℕ) → answerTo bytes buffer .told ≡ fault n → answerTo bytes buffer .contents ≡ buffer
+refused-untouched bytes buffer n e = answered-untouched bytes buffer .stays n e

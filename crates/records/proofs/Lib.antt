@@ -1,0 +1,13 @@
+-- The laws of `records` that other crates may cite.
+pub mod AnsweredLaws
+pub mod PartLaws
+pub mod StepLaws
+pub mod WorkLaws
+pub mod CutLaws
+pub mod TurnLaws
+pub mod KeptLaws
+pub mod RunLaws
+pub mod RoomLaws
+pub mod Agreement
+pub mod RefusalLaws
+pub mod OutcomeLaws

@@ -1,0 +1,50 @@
+-- `records::answer_record` meets its contract. Assumes nothing.
+use borrow.Author.Needs.{needs}
+use mathlib.Core.Path.{sym, _∙_}
+use Rattle.records.specs.Answered.{answered}
+use Rattle.records.proofs.AnsweredLaws.{no-room, some-room, read-refused, read-solved}
+use Rattle.records.proofs.answer_record.Statement.{statement}
+use Rattle.records.proofs.answer_record.Tie as tie
+
+returns : tie.Need-returns
+returns c = no-room _ _ (c .if1 .taken)
+
+read-scene-requires : tie.Need-read-scene-requires
+read-scene-requires c κs = search needs
+
+enum-known-judged : tie.Need-enum-known-judged
+enum-known-judged c = search needs
+
+returns-2 : tie.Need-returns-2
+unfolding answered
+returns-2 c = sym (some-room _ _ (c .before .before .before .before .if1 .left) ∙ rw (read-refused _ _ _ (c .before .before .before .read-scene .ensures) (c .before .judged .given .1)))
+
+enum-told : tie.Need-enum-told
+enum-told c = search needs
+
+compute-avoiding-velocity-requires : tie.Need-compute-avoiding-velocity-requires
+compute-avoiding-velocity-requires c κs = search needs
+
+write-outcome-requires : tie.Need-write-outcome-requires
+write-outcome-requires c κs = search needs
+
+same-length : tie.Need-same-length
+same-length c = search needs
+
+returns-3 : tie.Need-returns-3
+unfolding answered
+returns-3 c = c .before .before .write-outcome .ensures ∙ sym (some-room _ _ (c .before .before .before .before .before .before .before .before .before .if1 .left) ∙ rw (read-solved _ _ (c .before .before .before .before .before .before .before .before .read-scene .ensures) (c .before .before .before .before .before .before .enum-told .given .1), ← c .before .before .before .before .compute-avoiding-velocity .ensures))
+
+pub answer-record-spec : {M : Type 1} → statement M
+answer-record-spec =
+    tie.close
+    (tie.spec
+    returns
+    read-scene-requires
+    enum-known-judged
+    returns-2
+    enum-told
+    compute-avoiding-velocity-requires
+    write-outcome-requires
+    same-length
+    returns-3)

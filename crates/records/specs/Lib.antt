@@ -1,0 +1,5 @@
+-- The definitions that the contracts of `records` cite.
+pub mod Answered
+pub mod Parts
+pub mod Steps
+pub mod Streams
