@@ -5,39 +5,11 @@ use crate::answers::is_vector;
 use crate::answers::number_at;
 use crate::answers::vector_at;
 use common::Vec2;
-use verdict::Tally;
 ghost use mathlib.Core.Path.{_≡_};
 ghost use Rattle.replay.specs.CommonSet.{operatorsAgree, functionsAgree, isReplayed};
 
-// Replays the file of the set, and tells how it went.
-pub(crate) fn replay() {
-    let fd = os::open_read(b"common");
-    if fd < 0 {
-        verdict::tell_no_file(b"common");
-        return;
-    }
-    tally_of(fd).tell(b"common");
-    libc::close(fd);
-}
-
-// The tally of a file of records of 96 bytes, named by their index. A file that has not ended at the last index is bad.
-fn tally_of(fd: i32) -> Tally {
-    let mut tally = Tally::NONE;
-    let mut bytes: [u8; 96] = [0; 96];
-    let mut index: u32 = 0;
-    while index < u32::MAX {
-        let n = io::read_full(fd, &mut bytes);
-        if n == 0 {
-            return tally;
-        }
-        tally = tally.with(is_replayed(&bytes[0..n]), index);
-        index += 1;
-    }
-    tally.with(false, index)
-}
-
 // Whether the record is whole, and each answer is the one that `common` gives, bit for bit.
-fn is_replayed(bytes: &[u8]) -> bool
+pub(crate) fn is_replayed(bytes: &[u8]) -> bool
     ensures { λ r. ⌜ r ≡ isReplayed (now (bytes .entry)) ⌝ }
 {
     if bytes.len() < 96 {

@@ -2,9 +2,7 @@
 // in several ways, and after each batch, refused ones too, the session must stand as the answer to the lines so far. The tally counts these comparisons.
 use crate::answers::number_at;
 use crate::answers::vector_at;
-use crate::records::Reading;
 use crate::records::numbers_at;
-use crate::records::read_record;
 use crate::standings::is_standing;
 use admission::Judged;
 use linear_programming::Line;
@@ -34,36 +32,8 @@ enum Cut {
     Refusing,
 }
 
-// Replays the file of the set, and tells how it went.
-pub(crate) fn replay() {
-    let fd = os::open_read(b"cuts");
-    if fd < 0 {
-        verdict::tell_no_file(b"cuts");
-        return;
-    }
-    tally_of(fd).tell(b"cuts");
-    libc::close(fd);
-}
-
-// The tally of a file, a comparison named by its record's index. It ends at a broken record, and a file that has not ended at the last index is bad.
-fn tally_of(fd: i32) -> Tally {
-    let mut tally = Tally::NONE;
-    let mut head: [u8; 20] = [0; 20];
-    let mut rest: [u8; 10264] = [0; 10264];
-    let mut index: u32 = 0;
-    while index < u32::MAX {
-        match read_record(fd, &mut head, &mut rest, 10) {
-            Reading::Whole => tally = with_record(tally, &head, &rest, index),
-            Reading::Broken => return tally.with(false, index),
-            Reading::End => return tally,
-        }
-        index += 1;
-    }
-    tally.with(false, index)
-}
-
 // The tally with the comparisons of a record. One with numbers left over, or more than its bytes hold, is bad.
-fn with_record(tally: Tally, head: &[u8], rest: &[u8], name: u32) -> Tally {
+pub(crate) fn with_record(tally: Tally, head: &[u8], rest: &[u8], name: u32) -> Tally {
     let count = words::word_at(head, 0) as usize;
     if count > 4 * Line::MOST {
         return tally.with(false, name);

@@ -3,66 +3,16 @@
 use crate::answers::agrees;
 use crate::answers::number_at;
 use crate::answers::vector_at;
-use crate::records::Reading;
 use crate::records::numbers_at;
 use admission::Judged;
 use obstacles::Agent;
 use obstacles::ObstacleLines;
-use verdict::Tally;
 ghost use mathlib.Core.Path.{_≡_};
 ghost use Prim.Native.Nat.{_<_, _≤_};
 ghost use Rattle.replay.specs.EdgesSet.{longAt, agentAt, areNumbers, isAnswer, isReplayed};
 
-// Replays the file of the set, and tells how it went.
-pub(crate) fn replay() {
-    let fd = os::open_read(b"edges");
-    if fd < 0 {
-        verdict::tell_no_file(b"edges");
-        return;
-    }
-    tally_of(fd).tell(b"edges");
-    libc::close(fd);
-}
-
-// The tally of a file, its records named by their index. It ends at a broken one, and a file that has not ended at the last index is bad.
-fn tally_of(fd: i32) -> Tally {
-    let mut tally = Tally::NONE;
-    let mut head: [u8; 52] = [0; 52];
-    let mut rest: [u8; 2560] = [0; 2560];
-    let mut index: u32 = 0;
-    while index < u32::MAX {
-        match read_encounter(fd, &mut head, &mut rest) {
-            Reading::Whole => tally = tally.with(is_replayed(&head, &rest), index),
-            Reading::Broken => return tally.with(false, index),
-            Reading::End => return tally,
-        }
-        index += 1;
-    }
-    tally.with(false, index)
-}
-
-// Reads the thirteen words of a record's head, then its numbers and lines to the start of `rest`.
-fn read_encounter(fd: i32, head: &mut [u8], rest: &mut [u8]) -> Reading {
-    let n = io::read_full(fd, head);
-    if n == 0 {
-        return Reading::End;
-    }
-    if n < head.len() {
-        return Reading::Broken;
-    }
-    let numbers = words::word_at(head, 4) as usize;
-    let size = 4 * numbers + 16 * line_count(words::word_at(head, 8));
-    if size > rest.len() {
-        return Reading::Broken;
-    }
-    if io::read_full(fd, &mut rest[0..size]) < size {
-        return Reading::Broken;
-    }
-    Reading::Whole
-}
-
 // How many lines stand behind the numbers: none where the answer is a refusal.
-fn line_count(answer: u32) -> usize
+pub(crate) fn line_count(answer: u32) -> usize
     ensures { λ r. ⌜ r < 100 ⌝ }
 {
     if answer < 100 {
@@ -72,7 +22,7 @@ fn line_count(answer: u32) -> usize
 }
 
 // Whether the record's answer is the one that `obstacles` gives.
-fn is_replayed(head: &[u8], rest: &[u8]) -> bool
+pub(crate) fn is_replayed(head: &[u8], rest: &[u8]) -> bool
     ensures { λ r. ⌜ r ≡ isReplayed (now (head .entry)) (now (rest .entry)) ⌝ }
 {
     let kind = words::word_at(head, 0);

@@ -2,50 +2,19 @@
 // A record is its list and one answer.
 use crate::answers::number_at;
 use crate::answers::vector_at;
-use crate::records::Reading;
 use crate::records::numbers_at;
-use crate::records::read_record;
 use crate::standings::is_failed;
 use crate::standings::is_kind;
 use crate::standings::is_standing;
 use linear_programming::Answer;
 use linear_programming::FailedLine;
-use verdict::Tally;
 ghost use mathlib.Core.Path.{_≡_};
 ghost use Prim.Native.Nat.{_<_};
 ghost use Rattle.linear_programming.specs.Read.{outcomeOf};
 ghost use Rattle.replay.specs.ListsSet.{isRefusal, isAnswer, isReplayed};
 
-// Replays the file of the set, and tells how it went.
-pub(crate) fn replay() {
-    let fd = os::open_read(b"lists");
-    if fd < 0 {
-        verdict::tell_no_file(b"lists");
-        return;
-    }
-    tally_of(fd).tell(b"lists");
-    libc::close(fd);
-}
-
-// The tally of a file, its records named by their index. It ends at a broken one, and a file that has not ended at the last index is bad.
-fn tally_of(fd: i32) -> Tally {
-    let mut tally = Tally::NONE;
-    let mut head: [u8; 20] = [0; 20];
-    let mut rest: [u8; 5144] = [0; 5144];
-    let mut index: u32 = 0;
-    while index < u32::MAX {
-        match read_record(fd, &mut head, &mut rest, 4) {
-            Reading::Whole => tally = tally.with(is_replayed(&head, &rest), index),
-            Reading::Broken => return tally.with(false, index),
-            Reading::End => return tally,
-        }
-        index += 1;
-    }
-    tally.with(false, index)
-}
-
 // Whether the record's answer is the one that `linear_programming` gives.
-fn is_replayed(head: &[u8], rest: &[u8]) -> bool
+pub(crate) fn is_replayed(head: &[u8], rest: &[u8]) -> bool
     ensures { λ r. ⌜ r ≡ isReplayed (now (head .entry)) (now (rest .entry)) ⌝ }
 {
     let count = words::word_at(head, 0) as usize;

@@ -1,28 +1,28 @@
--- `replay::cuts_set::tally_of` meets its contract: it ends, since there are only so many names. Assumes nothing.
+-- `replay::sets::tally_of` meets its contract. It ends, since there are only so many names. Assumes nothing.
 use Prim.Native.Nat.{_-_}
 use mathlib.Core.Path.{_≡_}
 use lib.ListN.{length}
 use borrow.Author.Needs.{needs}
-use Rattle.replay.proofs.cuts_set.tally_of.Statement.{statement}
-use Rattle.replay.proofs.cuts_set.tally_of.Tie as tie
+use Rattle.replay.proofs.sets.tally_of.Statement.{statement}
+use Rattle.replay.proofs.sets.tally_of.Tie as tie
 
 abbrev Inv-loop : tie.InvT-loop
-Inv-loop fd tally₀ head₀ rest₀ index₀ tally head rest index = (length head ≡ 20) × (length rest ≡ 10264)
+Inv-loop fd set tally₀ head₀ rest₀ index₀ tally head rest index = (length head ≡ 96) × (length rest ≡ 10264)
 
 abbrev μ-loop : tie.MeasureT-loop
-μ-loop fd tally₀ head₀ rest₀ index₀ tally head rest index = 0xffff_ffff - index
+μ-loop fd set tally₀ head₀ rest₀ index₀ tally head rest index = 0xffff_ffff - index
 
 loop-holds : tie.Need-loop-holds Inv-loop μ-loop
 loop-holds c = search needs
 
-slice-aggregate-read-record : tie.Need-slice-aggregate-read-record Inv-loop μ-loop
-slice-aggregate-read-record c = search needs
+slice-aggregate-read : tie.Need-slice-aggregate-read Inv-loop μ-loop
+slice-aggregate-read c = search needs
 
-slice-aggregate-read-record-2 : tie.Need-slice-aggregate-read-record-2 Inv-loop μ-loop
-slice-aggregate-read-record-2 c = search needs
+slice-aggregate-read-2 : tie.Need-slice-aggregate-read-2 Inv-loop μ-loop
+slice-aggregate-read-2 c = search needs
 
-read-record-requires : tie.Need-read-record-requires Inv-loop μ-loop
-read-record-requires c κs = search needs
+read-requires : tie.Need-read-requires Inv-loop μ-loop
+read-requires c κs = search needs
 
 enum-told : tie.Need-enum-told Inv-loop μ-loop
 enum-told c = search needs
@@ -73,9 +73,9 @@ tally-of-spec =
     Inv-loop
     μ-loop
     loop-holds
-    slice-aggregate-read-record
-    slice-aggregate-read-record-2
-    read-record-requires
+    slice-aggregate-read
+    slice-aggregate-read-2
+    read-requires
     enum-told
     slice-aggregate-with-record
     slice-aggregate-with-record-2
