@@ -4,6 +4,7 @@ use std::collections::BTreeMap;
 use std::{fs, iter};
 
 use crate::records::answers::name_of;
+use crate::records::Records;
 use crate::words::hex_bytes;
 
 /// Prints how many answers there are of each kind. Fails where any differ, with the first one's index and, if `scenes` are given, its scene.
@@ -55,24 +56,6 @@ fn print_counts(pairs: &[Pair]) -> Result<(), String> {
 
 fn shown(record: Option<&[u8]>) -> String {
     record.map_or("none".to_string(), hex_bytes)
-}
-
-/// What is left of a file, record by record; a last one cut short is what there is of it.
-struct Records<'a>(&'a [u8]);
-
-impl<'a> Iterator for Records<'a> {
-    type Item = &'a [u8];
-
-    fn next(&mut self) -> Option<&'a [u8]> {
-        let length = match self.0 {
-            [] => return None,
-            [high, low, ..] => 2 + usize::from(u16::from_be_bytes([*high, *low])),
-            _ => 1,
-        };
-        let (record, rest) = self.0.split_at(length.min(self.0.len()));
-        self.0 = rest;
-        Some(record)
-    }
 }
 
 /// With every -0 of the point as +0.

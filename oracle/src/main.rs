@@ -11,6 +11,7 @@ mod edge_vectors;
 mod encounters;
 mod line_lists;
 mod list_vectors;
+mod plain_answers;
 mod random;
 mod records;
 mod scale;
@@ -28,7 +29,8 @@ const USAGE: &str = "usage: oracle self-check
        oracle vectors scenes|bad_records RECORDS ANSWERS
        oracle lists|edges SEED COUNT|SECONDSs FILE
        oracle scenes SEED COUNT|SECONDSs SCENES ANSWERS
-       oracle agree ANSWERS OTHER_ANSWERS [SCENES]";
+       oracle agree ANSWERS OTHER_ANSWERS [SCENES]
+       oracle answer SCENES ANSWERS";
 
 fn main() -> ExitCode {
     let arguments: Vec<String> = env::args().skip(1).collect();
@@ -56,6 +58,7 @@ fn main() -> ExitCode {
         }
         ["agree", answers, others] => agree::compare_files(answers, others, None),
         ["agree", answers, others, scenes] => agree::compare_files(answers, others, Some(scenes)),
+        ["answer", scenes, answers] => plain_answers::write_file(scenes, answers),
         _ => Err(USAGE.to_string()),
     };
     match outcome {

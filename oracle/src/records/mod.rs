@@ -46,6 +46,24 @@ pub fn with_length(rest: Vec<u8>) -> Vec<u8> {
     record
 }
 
+/// What is left of a stream, record by record; a last one cut short is what there is of it.
+pub struct Records<'a>(pub &'a [u8]);
+
+impl<'a> Iterator for Records<'a> {
+    type Item = &'a [u8];
+
+    fn next(&mut self) -> Option<&'a [u8]> {
+        let length = match self.0 {
+            [] => return None,
+            [high, low, ..] => 2 + usize::from(u16::from_be_bytes([*high, *low])),
+            _ => 1,
+        };
+        let (record, rest) = self.0.split_at(length.min(self.0.len()));
+        self.0 = rest;
+        Some(record)
+    }
+}
+
 fn vector(bytes: &mut Vec<u8>, vector: Vec2) {
     number(bytes, vector.x);
     number(bytes, vector.y);

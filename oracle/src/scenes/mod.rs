@@ -1,6 +1,6 @@
 //! Scenes: an agent among obstacles and neighbours.
 
-mod outcomes;
+pub mod outcomes;
 pub mod passes;
 mod whole;
 

@@ -5,7 +5,8 @@ use counters::Branch;
 use super::passes::{Pass, Passes};
 use crate::records::answers::{Answer, Velocity};
 
-const NOT_ADMITTED: u8 = 9;
+/// A pass made an edge line that is not admitted.
+pub const NOT_ADMITTED: u8 = 9;
 
 impl Passes {
     /// "First pass success is outcome 1, or 2 if relaxed"; 3, 4 and 5 are those of a second pass. Probes add over passes.
