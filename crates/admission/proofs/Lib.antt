@@ -1,1 +1,2 @@
+-- The laws of `admission`: of faults and of judgements.
 pub mod FaultLaws

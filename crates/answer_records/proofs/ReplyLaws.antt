@@ -9,7 +9,7 @@ use lib.Dec.{eqb, leb}
 use lib.ListN.{length, getD}
 use borrow.Author.Tests.{eqb-true}
 use Rattle.arithmetic.proofs.Choice.{or-cases}
-use Rattle.admission.specs.Faults.{fine, must, _⊳_}
+use Rattle.admission.specs.Faults.{fine, must}
 use Rattle.admission.proofs.FaultLaws.{⊳-fine, must-fine}
 use Rattle.answer_records.specs.Replies.{pairOf, isLength, lengthOfCode, answerFault}
 

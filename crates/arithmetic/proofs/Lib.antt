@@ -1,3 +1,4 @@
+-- The laws of `arithmetic`: of agreement, of signs and ends, of bit patterns, of the root, and of lists and magnitudes that all layers use.
 pub mod Agree
 pub mod Signs
 pub mod Difference

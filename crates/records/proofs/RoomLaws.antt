@@ -15,7 +15,7 @@ use Rattle.linear_programming.specs.Admit.{reach}
 use Rattle.dodgy_2d.specs.declared.Scene.{Scene}
 use Rattle.dodgy_2d.specs.Outcomes.{sceneOutcome}
 use Rattle.fields.specs.Bytes.{toBe}
-use Rattle.fields.specs.Got.{Got, refused, got, then, word}
+use Rattle.fields.specs.Got.{Got, refused, got, word}
 use Rattle.fields.proofs.ChainLaws.{got-same, then-got, guard-got}
 use Rattle.scene_records.specs.Steps.{version, number, vector}
 use Rattle.scene_records.specs.Parts.{cart}
