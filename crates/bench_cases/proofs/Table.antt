@@ -11,15 +11,15 @@ use Rattle.arithmetic.specs.Binary32.{bits}
 use Rattle.arithmetic.specs.Root.{sqrtOf}
 use Rattle.common.specs.declared.Vec2.{Vec2}
 use Rattle.common.specs.Vectors.{vec}
-use Rattle.linear_programming.specs.declared.Line.{Line}
-use Rattle.linear_programming.specs.Lines.{line, linesOf}
+use Rattle.lines.specs.declared.Line.{Line}
+use Rattle.lines.specs.Lines.{line, linesOf, numbersOf}
+use Rattle.lines.specs.LineFaults.{linesFault}
 use Rattle.linear_programming.specs.Whole.{Outcome, stands, refusal, solving, relaxing, rigidFailure, Failed, noLine, failedLine}
-use Rattle.linear_programming.specs.Admit.{longest, wishFault, linesFault, judgedList, listCall}
-use Rattle.linear_programming.proofs.Computed.{+, −}
+use Rattle.linear_programming.specs.Admit.{longest, wishFault, judgedList, listCall}
+use Rattle.linear_programming.proofs.Computed.{computed as solved, +, −}
 use Rattle.obstacles.specs.declared.Agent.{Agent}
 use Rattle.obstacles.specs.Cutoffs.{halfᶠ}
 use Rattle.obstacles.specs.Obstacles.{Answer, lines, refused, obstacleCall}
-use Rattle.obstacles.specs.Read.{numbersOf}
 use Rattle.obstacles.proofs.Computed.{computed}
 
 -- a list with its rigid count, wish and limit; a number whose root is asked; an obstacle beside an agent at rest at the origin, with horizon 1
@@ -129,5 +129,5 @@ table =
 
 -- each row's question, answered by the rules, has the row's answer
 pub bench : map (λ (c : Case). byTheRules (c .asked)) table ≡ map (λ (c : Case). c .answered) table
-unfolding table computed listCall judgedList linesOf numbersOf wishFault linesFault
+unfolding table computed solved listCall judgedList linesOf numbersOf wishFault linesFault
 bench = refl

@@ -8,9 +8,9 @@ use lib.Seq.{paste, take-paste, length-take-le}
 use lib.Ieee.{Float}
 use Rattle.admission.specs.Faults.{fine, fault, faultOf, judgedAs}
 use Rattle.admission.proofs.FaultLaws.{no-fault}
-use Rattle.linear_programming.specs.declared.Line.{Line}
-use Rattle.linear_programming.specs.Lines.{linesOf}
-use Rattle.linear_programming.proofs.Rows.{lines-append}
+use Rattle.lines.specs.declared.Line.{Line}
+use Rattle.lines.specs.Lines.{linesOf}
+use Rattle.lines.proofs.Rows.{lines-append}
 use Rattle.obstacles.specs.declared.Agent.{Agent}
 use Rattle.obstacles.specs.declared.ObstacleLines.{ObstacleLines}
 use Rattle.obstacles.specs.Obstacles.{Answer, lines, refused, obstacleCall}

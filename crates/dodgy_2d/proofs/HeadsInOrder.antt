@@ -11,7 +11,7 @@ use borrow.Author.Tests.{leb-true}
 use Rattle.arithmetic.proofs.Choice.{and-left, and-right}
 use Rattle.admission.specs.Faults.{Fault, fine, fault, must, _⊳_}
 use Rattle.admission.proofs.FaultLaws.{⊳-fine, ⊳-assoc, must-fine}
-use Rattle.linear_programming.proofs.Fold.{left-next, left-none}
+use Rattle.lines.proofs.Fold.{left-next, left-none}
 use Rattle.dodgy_2d.specs.Scenes.{Head, headOf, headsOf, numbersFault, isKind, roomFor, headFault, obstaclesFault}
 
 -- ---- the heads from the i-th up to the n-th

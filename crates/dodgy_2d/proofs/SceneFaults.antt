@@ -7,9 +7,9 @@ use lib.ListN.{length, take, drop, getD}
 use lib.Ieee.{Float}
 use Rattle.admission.specs.Faults.{Fault, fine, fault, must, _⊳_, within}
 use Rattle.common.specs.Vectors.{vec}
-use Rattle.linear_programming.specs.Lines.{line, linesOf}
+use Rattle.lines.specs.Lines.{line, linesOf}
 use Rattle.linear_programming.specs.Admit.{reach}
-use Rattle.linear_programming.proofs.Fold.{left-next, left-none}
+use Rattle.lines.proofs.Fold.{left-next, left-none}
 use Rattle.dodgy_2d.specs.Scenes.{numbersFault}
 
 pub ⊳-none : (f : Fault) → (f ⊳ fine) ≡ f

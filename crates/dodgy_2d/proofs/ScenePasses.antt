@@ -12,12 +12,13 @@ use Rattle.arithmetic.specs.Binary32.{0ᶠ}
 use Rattle.admission.specs.Faults.{fine, must, within, inside}
 use Rattle.admission.proofs.FaultLaws.{⊳-fine, must-fine}
 use Rattle.common.specs.declared.Vec2.{Vec2}
-use Rattle.linear_programming.specs.declared.Line.{Line}
-use Rattle.linear_programming.specs.Lines.{linesOf}
-use Rattle.linear_programming.specs.Admit.{reach, longest, wishFault, linesFault, judgedList, listCall}
+use Rattle.lines.specs.declared.Line.{Line}
+use Rattle.lines.specs.Lines.{linesOf}
+use Rattle.lines.specs.LineFaults.{linesFault}
+use Rattle.linear_programming.specs.Admit.{reach, longest, wishFault, judgedList, listCall}
 use Rattle.linear_programming.specs.Whole.{Phase, Failed, stands, wholeList}
-use Rattle.linear_programming.proofs.JudgeLaws.{faults-append}
-use Rattle.linear_programming.proofs.Rows.{count}
+use Rattle.lines.proofs.JudgeLaws.{faults-append}
+use Rattle.lines.proofs.Rows.{count}
 use Rattle.linear_programming.proofs.WholeProbes.{whole-fits}
 use Rattle.obstacles.specs.declared.Agent.{Agent}
 use Rattle.obstacles.specs.Obstacles.{Answer, lines, refused}

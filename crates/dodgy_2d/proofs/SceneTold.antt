@@ -6,7 +6,7 @@ use native.Mathlib.Omega.{arith}
 use Rattle.admission.specs.Faults.{Fault, fine, fault}
 use Rattle.common.specs.declared.Vec2.{Vec2}
 use Rattle.linear_programming.specs.Whole.{Phase, solving, relaxing, rigidFailure, Failed, Outcome, stands, refusal}
-use Rattle.linear_programming.proofs.JudgeLaws.{faults-append}
+use Rattle.lines.proofs.JudgeLaws.{faults-append}
 use Rattle.linear_programming.proofs.Bounds.NeverRefused.{Stood, stood, never-refused}
 use Rattle.obstacles.specs.Obstacles.{Answer, lines, refused}
 use Rattle.dodgy_2d.specs.declared.Scene.{Scene}

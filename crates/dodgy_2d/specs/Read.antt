@@ -4,7 +4,7 @@ use mathlib.Core.List.{List}
 use lib.ListN.{take}
 use lib.Ieee.{Float}
 use Rattle.common.specs.Vectors.{vec}
-use Rattle.linear_programming.specs.Lines.{linesOf}
+use Rattle.lines.specs.Lines.{linesOf}
 use Rattle.linear_programming.specs.Read.{failedOf, failedAs}
 use Rattle.obstacles.specs.Obstacles.{Answer, lines, refused}
 use Rattle.dodgy_2d.specs.declared.EdgeLines.{EdgeLines}

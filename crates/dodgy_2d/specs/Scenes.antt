@@ -8,9 +8,10 @@ use lib.Ieee.{Float}
 use Rattle.arithmetic.specs.Binary32.{bits, 0ᶠ}
 use Rattle.admission.specs.Faults.{Fault, fine, must, _⊳_, within, inside}
 use Rattle.common.specs.declared.Vec2.{Vec2}
-use Rattle.linear_programming.specs.declared.Line.{Line}
-use Rattle.linear_programming.specs.Lines.{linesOf}
-use Rattle.linear_programming.specs.Admit.{reach, longest, linesFault}
+use Rattle.lines.specs.declared.Line.{Line}
+use Rattle.lines.specs.Lines.{linesOf}
+use Rattle.lines.specs.LineFaults.{linesFault}
+use Rattle.linear_programming.specs.Admit.{reach, longest}
 use Rattle.obstacles.specs.Obstacles.{isEmptyOpen}
 use Rattle.dodgy_2d.specs.declared.Scene.{Scene}
 

@@ -9,7 +9,7 @@ ghost use Prim.Native.Nat.{_+_, _*_, _≤_, _<_};
 ghost use lib.ListN.{length, take};
 ghost use lib.Seq.{paste};
 ghost use Rattle.admission.specs.Faults.{fine};
-ghost use Rattle.linear_programming.specs.Lines.{linesOf};
+ghost use Rattle.lines.specs.Lines.{linesOf};
 ghost use Rattle.obstacles.specs.Obstacles.{lines as linesAre, obstacleCall};
 ghost use Rattle.dodgy_2d.specs.Scenes.{headsOf, obstaclesFault};
 ghost use Rattle.dodgy_2d.specs.Outcomes.{joined, edgeLines};

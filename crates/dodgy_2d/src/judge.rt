@@ -156,5 +156,5 @@ pub(crate) fn judge_scene(scene: Scene) -> Judged
         return Judged::Fault(4);
     }
     let lines = scene.lines;
-    linear_programming::judge_lines(&lines[0..4 * m])
+    lines::judge_lines(&lines[0..4 * m])
 }

@@ -1,6 +1,4 @@
--- The laws of `linear_programming`: of lists and walks, of each step, of the whole list, and what it never refuses.
-pub mod Rows
-pub mod Fold
+-- The laws of `linear_programming`: of walks, of each step, of the whole list, and what it never refuses.
 pub mod WalkLaws
 pub mod OneLineLaws
 pub mod PassLaws

@@ -8,8 +8,8 @@ use lib.ListN.{length}
 use lib.Ieee.{Float}
 use Rattle.arithmetic.proofs.Choice.{if-all}
 use Rattle.common.specs.declared.Vec2.{Vec2}
-use Rattle.linear_programming.specs.declared.Line.{Line}
-use Rattle.linear_programming.proofs.Fold.{fold-stays}
+use Rattle.lines.specs.declared.Line.{Line}
+use Rattle.lines.proofs.Fold.{fold-stays}
 use Rattle.linear_programming.specs.OneLine.{Objective, toward, along, Interval, between, empty, chord, crossed, cut, beside, narrow, Found, at, fails, refuses, choose, oneLine}
 
 pub empty-stays : (own : Line) (n : ℕ) (it : Line) → narrow own (empty n) it ≡ empty n

@@ -8,7 +8,7 @@ use lib.ListN.{length, length-append}
 use lib.Ieee.{Float}
 use Rattle.arithmetic.proofs.Choice.{if-all}
 use Rattle.common.specs.declared.Vec2.{Vec2}
-use Rattle.linear_programming.specs.declared.Line.{Line}
+use Rattle.lines.specs.declared.Line.{Line}
 use Rattle.linear_programming.specs.declared.LinearProgram2D.{LinearProgram2D}
 use Rattle.linear_programming.specs.declared.LinearProgram2D.the-variants as lp2d
 use Rattle.linear_programming.specs.Walk.{walk}

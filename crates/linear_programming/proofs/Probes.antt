@@ -9,7 +9,7 @@ use lib.ListN.{length, length-append}
 use lib.Ieee.{Float}
 use Rattle.arithmetic.proofs.Choice.{if-all}
 use Rattle.common.specs.declared.Vec2.{Vec2}
-use Rattle.linear_programming.specs.declared.Line.{Line}
+use Rattle.lines.specs.declared.Line.{Line}
 use Rattle.linear_programming.specs.OneLine.{Objective, toward, along, Found, at}
 use Rattle.linear_programming.specs.Pass.{Failure, Pass, now, failed, refused, judged, solved, passLine, pass}
 use Rattle.linear_programming.specs.Relax.{buildProbes, tightened, Relaxed, on, turned, replaced, relaxLine}

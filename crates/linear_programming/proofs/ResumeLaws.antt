@@ -9,7 +9,7 @@ use lib.Seq.{take-at, drop-at}
 use lib.Ieee.{Float}
 use Rattle.arithmetic.specs.Binary32.{0ᶠ, if_then_else_}
 use Rattle.common.specs.declared.Vec2.{Vec2}
-use Rattle.linear_programming.specs.declared.Line.{Line}
+use Rattle.lines.specs.declared.Line.{Line}
 use Rattle.linear_programming.specs.OneLine.{Objective, toward, along, Found, at, fails, refuses, oneLine}
 use Rattle.linear_programming.specs.Pass.{Pass, now, failed, refused, judged, solved, passLine}
 use Rattle.linear_programming.specs.Relax.{Relaxed, on, turned, buildProbes, replaced, relaxLine}

@@ -8,7 +8,7 @@ use mathlib.Core.Logic.{_⊎_, inl, inr}
 use lib.ListN.{length, length-append, take, drop, take-append-drop, drop-of-length-le}
 use lib.Seq.{take-all, take-length}
 use lib.Ieee.{Float}
-use Rattle.linear_programming.specs.declared.Line.{Line}
+use Rattle.lines.specs.declared.Line.{Line}
 use Rattle.linear_programming.specs.Relax.{Tight, kept, skipped, tighten, behind, tightenNext, tightened, turned, relaxLine}
 
 module _ (own : Line) (made : List Line) (prev : Line) where

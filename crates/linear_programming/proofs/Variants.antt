@@ -8,7 +8,7 @@ use types.Run.{OneOf}
 use denote.Enum.Declared.{tagOf}
 use lib.ListN.{length}
 use lib.Ieee.{Float}
-use Rattle.linear_programming.specs.declared.Line.{Line}
+use Rattle.lines.specs.declared.Line.{Line}
 use Rattle.linear_programming.specs.declared.AlongLine.{AlongLine}
 use Rattle.linear_programming.specs.declared.AlongLine.the-variants as along-line
 use Rattle.linear_programming.proofs.AlongLine.{the-type as along-type}

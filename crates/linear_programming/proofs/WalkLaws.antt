@@ -6,7 +6,7 @@ use native.Mathlib.Omega.{arith}
 use lib.ListN.{length, take, drop, getD}
 use lib.Seq.{append-snoc}
 use Rattle.linear_programming.specs.Walk.{walk}
-use Rattle.linear_programming.proofs.Fold.{left-next, left-none, take-next}
+use Rattle.lines.proofs.Fold.{left-next, left-none, take-next}
 
 module _ {A S : Type 0} where
   -- in two parts

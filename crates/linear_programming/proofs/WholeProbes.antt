@@ -8,7 +8,7 @@ use lib.Ieee.{Float}
 use Rattle.arithmetic.specs.Binary32.{0ᶠ}
 use Rattle.arithmetic.proofs.Choice.{if-all}
 use Rattle.common.specs.declared.Vec2.{Vec2}
-use Rattle.linear_programming.specs.declared.Line.{Line}
+use Rattle.lines.specs.declared.Line.{Line}
 use Rattle.linear_programming.specs.Walk.{walk}
 use Rattle.linear_programming.specs.OneLine.{toward}
 use Rattle.linear_programming.specs.Pass.{Pass, now, failed, refused, pass}

@@ -1,15 +1,15 @@
 -- 01, "What is admitted" and "Refusal numbers" for a line list: the first fault in order is told. Definitions only. Assumes nothing.
 use Prim.Native.Nat.{ℕ, _%_}
-use mathlib.Core.List.{List, [], _∷_}
+use mathlib.Core.List.{List}
 use lib.ListN.{length}
 use lib.Dec.{leb, eqb}
 use lib.Ieee.{Float}
-use Rattle.arithmetic.specs.Binary32.{bits, 0ᶠ, finite}
+use Rattle.arithmetic.specs.Binary32.{bits, 0ᶠ}
 use Rattle.admission.specs.Faults.{Fault, fine, fault, must, _⊳_, within, inside}
 use Rattle.common.specs.declared.Vec2.{Vec2}
-use Rattle.common.specs.Vectors.{lengthSquaredOf}
-use Rattle.linear_programming.specs.declared.Line.{Line}
-use Rattle.linear_programming.specs.Lines.{linesOf}
+use Rattle.lines.specs.declared.Line.{Line}
+use Rattle.lines.specs.Lines.{linesOf}
+use Rattle.lines.specs.LineFaults.{linesFault}
 use Rattle.linear_programming.specs.Whole.{Outcome, refusal, wholeList}
 
 infix 15 _⟫_
@@ -31,36 +31,11 @@ reach = bits 0x4780_0000
 abbrev pub longest : Float
 longest = bits 0x4480_0000
 
--- 268,435,456
-abbrev pub lineReach : Float
-lineReach = bits 0x4D80_0000
-
--- 1023/1024 and 1025/1024
-abbrev pub bandLow : Float
-bandLow = bits 0x3F7F_C000
-
-abbrev pub bandHigh : Float
-bandHigh = bits 0x3F80_2000
-
--- ---- faults of a wish with its limit, of a line, of lines
+-- ---- the fault of a wish with its limit
 
 -- "wish x, wish y, limit (6)"
 unfoldable pub wishFault : Vec2 → Float → Fault
 wishFault wish limit = must (within reach (wish .x)) 6 ⊳ must (within reach (wish .y)) 6 ⊳ must (inside 0ᶠ longest limit) 6
-
--- "7 follows both direction components"
-unfoldable pub lineFault : Line → Fault
-lineFault l =
-    must (within lineReach (l .point .x)) 6
-    ⊳ must (within lineReach (l .point .y)) 6
-    ⊳ must (finite (l .direction .x)) 6
-    ⊳ must (finite (l .direction .y)) 6
-    ⊳ must (inside bandLow bandHigh (lengthSquaredOf (l .direction))) 7
-
--- "lines in order (6, 7)"
-unfoldable pub linesFault : List Line → Fault
-linesFault [] = fine
-linesFault (l ∷ ls) = lineFault l ⊳ linesFault ls
 
 -- ---- the single call
 

@@ -1,6 +1,5 @@
 -- The definitions that the contracts of `linear_programming` cite, in the order of 01's "Rules of the solve".
 pub mod Walk
-pub mod Lines
 pub mod OneLine
 pub mod Pass
 pub mod Relax

@@ -7,8 +7,8 @@ use Rattle.arithmetic.specs.Ends.{absOf, minOf, maxOf, clampOf}
 use Rattle.arithmetic.specs.Root.{sqrtOf}
 use Rattle.common.specs.declared.Vec2.{Vec2}
 use Rattle.common.specs.Vectors.{addOf, subOf, mulOf, dotOf, determinantOf}
-use Rattle.linear_programming.specs.declared.Line.{Line}
-use Rattle.linear_programming.specs.Lines.{epsilon}
+use Rattle.lines.specs.declared.Line.{Line}
+use Rattle.lines.specs.Lines.{epsilon}
 
 pub data Objective : Type 0 where
   toward : Vec2 → Objective

@@ -7,7 +7,7 @@ use lib.Ieee.{Float}
 use Rattle.arithmetic.specs.Binary32.{_⊗_, _<ᶠ_, 0ᶠ, if_then_else_, finite}
 use Rattle.common.specs.declared.Vec2.{Vec2}
 use Rattle.common.specs.Vectors.{subOf, mulOf, determinantOf, lengthSquaredOf, normalizeOf}
-use Rattle.linear_programming.specs.declared.Line.{Line}
+use Rattle.lines.specs.declared.Line.{Line}
 use Rattle.linear_programming.specs.Walk.{walk}
 use Rattle.linear_programming.specs.OneLine.{Objective, toward, along, Found, at, fails, refuses, oneLine}
 

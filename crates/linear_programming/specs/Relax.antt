@@ -8,8 +8,8 @@ use Rattle.arithmetic.specs.Binary32.{_⊘_, _<ᶠ_, _≤ᶠ_, bits, 0ᶠ, if_t
 use Rattle.arithmetic.specs.Ends.{absOf}
 use Rattle.common.specs.declared.Vec2.{Vec2}
 use Rattle.common.specs.Vectors.{addOf, subOf, mulOf, dotOf, determinantOf, perpOf, normalizeOf}
-use Rattle.linear_programming.specs.declared.Line.{Line}
-use Rattle.linear_programming.specs.Lines.{line, epsilon}
+use Rattle.lines.specs.declared.Line.{Line}
+use Rattle.lines.specs.Lines.{line, epsilon}
 use Rattle.linear_programming.specs.OneLine.{along, pointOn}
 use Rattle.linear_programming.specs.Pass.{Pass, now, failed, refused, finitePoint, pass}
 

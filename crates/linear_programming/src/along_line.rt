@@ -1,15 +1,14 @@
 // The one-line solve: the best value on a line within the circle and the earlier lines.
 use crate::AlongLine;
 use crate::Interval;
-use crate::Line;
 use crate::OptimalValue;
-use crate::lines;
 use common::Vec2;
+use lines::Line;
 ghost use mathlib.Core.Path.{_≡_};
 ghost use Prim.Native.Nat.{_+_, _*_, _≤_, _<_};
 ghost use mathlib.Core.List.{foldl};
 ghost use lib.ListN.{length, take};
-ghost use Rattle.linear_programming.specs.Lines.{linesOf};
+ghost use Rattle.lines.specs.Lines.{linesOf};
 ghost use Rattle.linear_programming.specs.OneLine.{between, chord, crossed, cut, beside, narrow, pointOn, choose, oneLine};
 ghost use Rattle.linear_programming.specs.Read.{objectiveOf, intervalOf, foundOf};
 
@@ -89,7 +88,7 @@ fn narrow_all(line: Line, left: f32, right: f32, lines: &[f32], count: usize) ->
     let mut looked = 0u32;
     let mut i = 0usize;
     while i < count {
-        let interval = narrow_by(line, t_left, t_right, looked, lines::line_of(lines, i));
+        let interval = narrow_by(line, t_left, t_right, looked, lines::line_at(lines, i));
         let Interval::Between(l, r, n) = interval else {
             return interval;
         };

@@ -1,48 +1,17 @@
 // The linear program of a cart's velocity (the Rust's linear_programming.rs): the one-line, 2D and relaxation solves, and the single call over a list of lines.
 use admission::Judged;
 use common::Vec2;
+use lines::Line;
 ghost use mathlib.Core.Path.{_≡_};
-ghost use lib.ListN.{getD};
-ghost use Rattle.linear_programming.specs.Lines.{line, linesOf, offLine};
-ghost use Rattle.linear_programming.specs.Admit.{lineFault, linesFault, listCall};
+ghost use Rattle.linear_programming.specs.Admit.{listCall};
 ghost use Rattle.linear_programming.specs.Resume.{resumedCall};
-ghost use Rattle.admission.specs.Faults.{faultOf};
 ghost use Rattle.linear_programming.specs.Read.{phaseOf, failedOf, outcomeOf};
 
 mod along_line;
 mod judge;
-mod lines;
 mod solve_2d;
 mod solve_3d;
 mod solve_list;
-
-// A half-plane to the left of `direction` through `point`.
-pub struct Line {
-    pub point: Vec2,
-    pub direction: Vec2,
-}
-
-impl Line {
-    // Directions whose determinant is no greater are parallel.
-    pub const EPSILON: f32 = 0.00001;
-
-    // The greatest magnitude of a point's component.
-    pub const REACH: f32 = 268435456.0;
-
-    // The band of a direction's squared length: 1023/1024 to 1025/1024.
-    pub const BAND_LOW: f32 = 0.9990234375;
-
-    pub const BAND_HIGH: f32 = 1.0009765625;
-
-    // The most lines of a list or a session.
-    pub const MOST: usize = 256;
-
-    pub fn new(point: Vec2, direction: Vec2) -> Line
-        ensures { λ r. ⌜ r ≡ line point direction ⌝ }
-    {
-        Line { point, direction }
-    }
-}
 
 // What the best value is nearest to, or farthest along, by components.
 pub(crate) enum OptimalValue {
@@ -118,10 +87,7 @@ pub fn solve_linear_program(numbers: &[f32], rigid: usize, limit: f32, wish: Vec
     if count > Line::MOST {
         return Answer::Refused(4);
     }
-    let judged = admission::first_of(
-        judge::judge_wish(wish, limit),
-        judge::judge_lines(numbers, count),
-    );
+    let judged = admission::first_of(judge::judge_wish(wish, limit), lines::judge_lines(numbers));
     if let Judged::Fault(number) = judged {
         return Answer::Refused(number);
     }
@@ -155,32 +121,4 @@ pub fn resume_linear_program(
         phase,
         failed,
     )
-}
-
-// The line at an index of a list that is lent as numbers, four a line; past its end a line of NaNs.
-pub fn line_at(numbers: &[f32], i: usize) -> Line
-    ensures { λ r. ⌜ r ≡ getD (linesOf (now (numbers .entry))) i offLine ⌝ }
-{
-    if i < numbers.len() / 4 {
-        return lines::line_of(numbers, i);
-    }
-    let nan = 0.0 / 0.0;
-    Line {
-        point: Vec2 { x: nan, y: nan },
-        direction: Vec2 { x: nan, y: nan },
-    }
-}
-
-// The first fault of a line: 6 for a number that is not finite or out of range, then 7 for a direction out of its band.
-pub fn judge_line(line: Line) -> Judged
-    ensures { λ r. ⌜ faultOf r ≡ lineFault line ⌝ }
-{
-    judge::judge_line(line)
-}
-
-// The first fault of a list of lines that is lent as numbers, four a line; numbers that make no whole line are passed over.
-pub fn judge_lines(numbers: &[f32]) -> Judged
-    ensures { λ r. ⌜ faultOf r ≡ linesFault (linesOf (now (numbers .entry))) ⌝ }
-{
-    judge::judge_lines(numbers, numbers.len() / 4)
 }

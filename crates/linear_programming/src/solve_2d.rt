@@ -4,13 +4,12 @@ use crate::Failure;
 use crate::LinearProgram2D;
 use crate::OptimalValue;
 use crate::along_line;
-use crate::lines;
 use common::Vec2;
 ghost use mathlib.Core.Path.{_≡_};
 ghost use Prim.Native.Nat.{_+_, _*_, _≤_, _<_};
 ghost use lib.ListN.{getD, length, take, drop};
 ghost use Rattle.linear_programming.specs.Walk.{walk};
-ghost use Rattle.linear_programming.specs.Lines.{linesOf, offLine};
+ghost use Rattle.lines.specs.Lines.{linesOf, offLine};
 ghost use Rattle.linear_programming.specs.Pass.{now as standing, start, finitePoint, judged, solved, passLine};
 ghost use Rattle.linear_programming.specs.Read.{objectiveOf, foundOf, passOf, probesIn};
 
@@ -83,7 +82,7 @@ fn pass_line(
     requires { ⌜ (4 * index + 4 ≤ length (now lines)) × (index < 256) × (probes < 65536) ⌝ }
     ensures { λ r. ⌜ passOf r ≡ passLine (objectiveOf «optimal_value») radius (take index (linesOf (now (lines .entry)))) (getD (linesOf (now (lines .entry))) index offLine) (standing point probes) ⌝ }
 {
-    let line = lines::line_of(lines, index);
+    let line = lines::line_at(lines, index);
     if common::determinant(line.direction, point.sub(line.point)) > 0.0 {
         return LinearProgram2D::Feasible(point, probes + 1);
     }

@@ -1,19 +1,18 @@
 // Relaxation: the lines that are not rigid move back at the same speed, until the value that violates them least is found.
-use crate::Line;
 use crate::LinearProgram2D;
 use crate::LinearProgram3D;
 use crate::OptimalValue;
 use crate::Tightened;
-use crate::lines;
 use crate::solve_2d;
 use common::Vec2;
+use lines::Line;
 ghost use mathlib.Core.Bool.{_&&_};
 ghost use mathlib.Core.Path.{_≡_};
 ghost use Prim.Native.Nat.{_+_, _*_, _≤_, _<_};
 ghost use lib.ListN.{getD, length, take, drop};
 ghost use Rattle.arithmetic.specs.Binary32.{finite};
 ghost use Rattle.linear_programming.specs.Walk.{walk};
-ghost use Rattle.linear_programming.specs.Lines.{linesOf, offLine};
+ghost use Rattle.lines.specs.Lines.{linesOf, offLine};
 ghost use Rattle.linear_programming.specs.OneLine.{along};
 ghost use Rattle.linear_programming.specs.Pass.{finitePoint, pass};
 ghost use Rattle.linear_programming.specs.Relax.{tightAt, midpoint, intersection, tighten as tightenedBy, tightened, on, depthIn, replaced, relaxLine};
@@ -71,7 +70,7 @@ fn copy_rigid(lines: &[f32], rigid: usize, tight: &mut [f32])
 {
     let mut n = 0usize;
     while n < rigid {
-        lines::put(tight, n, lines::line_of(lines, n));
+        lines::put_line(tight, n, lines::line_at(lines, n));
         n += 1;
     }
 }
@@ -91,10 +90,10 @@ fn tighten_into(
     let mut n = rigid;
     let mut i = rigid;
     while i < index {
-        let previous = lines::line_of(lines, i);
+        let previous = lines::line_at(lines, i);
         i += 1;
         if let Tightened::Kept(line) = tighten(constraint, previous) {
-            lines::put(tight, n, line);
+            lines::put_line(tight, n, line);
             n += 1;
         }
     }
@@ -177,7 +176,7 @@ fn relax_line(
     requires { ⌜ (4 * index + 4 ≤ length (now lines)) × (index < 256) × (probes < 16777216) ⌝ }
     ensures { λ r. ⌜ relaxedOf r ≡ relaxLine rigid radius (take index (linesOf (now (lines .entry)))) (getD (linesOf (now (lines .entry))) index offLine) (on value penetration probes) ⌝ }
 {
-    let constraint = lines::line_of(lines, index);
+    let constraint = lines::line_at(lines, index);
     if depth_in(constraint, value) <= penetration {
         return LinearProgram3D::Relaxed(value, penetration, probes + 1);
     }

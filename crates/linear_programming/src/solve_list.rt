@@ -1,21 +1,20 @@
 // The whole-list rules: the 2D pass, then relaxation from the line that it failed at.
 use crate::Answer;
 use crate::FailedLine;
-use crate::Line;
 use crate::LinearProgram2D;
 use crate::LinearProgram3D;
 use crate::OptimalValue;
 use crate::Phase;
-use crate::lines;
 use crate::solve_2d;
 use crate::solve_3d;
 use common::Vec2;
+use lines::Line;
 ghost use mathlib.Core.Path.{_≡_};
 ghost use Prim.Native.Nat.{_*_, _≤_, _<_};
 ghost use lib.ListN.{length, take};
-ghost use Rattle.linear_programming.specs.Lines.{linesOf};
+ghost use Rattle.lines.specs.Lines.{linesOf};
 ghost use Rattle.linear_programming.specs.Whole.{relaxedOutcome, afterPass, wholeList};
-ghost use Rattle.linear_programming.specs.Resume.{resumed, resumedCall};
+ghost use Rattle.linear_programming.specs.Resume.{resumed};
 ghost use Rattle.linear_programming.specs.Read.{passOf, relaxedOf, phaseOf, failedOf, outcomeOf, probesOf, indexOf};
 
 fn relaxed_answer(failed: FailedLine, relaxed: LinearProgram3D) -> Answer
@@ -147,7 +146,7 @@ fn lay(lines: [Line; 256], count: usize, numbers: &mut [f32])
 {
     let mut n = 0usize;
     while n < count {
-        lines::put(numbers, n, lines[n]);
+        lines::put_line(numbers, n, lines[n]);
         n += 1;
     }
 }

@@ -5,8 +5,8 @@ use mathlib.Core.List.{[], _∷_}
 use lib.Ieee.{binary32, round}
 use Rattle.common.specs.Vectors.{negOf, divOf, distanceSquaredOf, eqOf}
 use Rattle.admission.specs.Faults.{within, inside}
-use Rattle.linear_programming.specs.Admit.{lineFault}
-use Rattle.linear_programming.proofs.Computed.{computed as solved}
+use Rattle.lines.specs.LineFaults.{lineFault}
+use Rattle.lines.proofs.Computed.{computed as numbers}
 use Rattle.obstacles.specs.Vertices.{verticesOf, nextOf, previousOf, isEnd, convexAt, edgeVertexAt, outerAt, edgeAt}
 use Rattle.obstacles.specs.Cover.{coverEpsilon, isDeep, covers, isEdgeCovered}
 use Rattle.obstacles.specs.Collision.{shapeOf, inUnit, reaches, cornerLine, nextHandles, rightCornerLine}
@@ -17,7 +17,7 @@ use Rattle.obstacles.specs.Obstacles.{admitted, addEdge, linesUpTo, edge
 
 -- what computing by the rules opens
 unfoldable pub computed : Unit {0}
-unfolding solved negOf divOf distanceSquaredOf eqOf within inside lineFault
+unfolding numbers negOf divOf distanceSquaredOf eqOf within inside lineFault
     verticesOf nextOf previousOf isEnd convexAt edgeVertexAt outerAt edgeAt isDeep covers isEdgeCovered
     shapeOf inUnit reaches cornerLine nextHandles rightCornerLine tangent extended sideDirection isBeyond shadowBeside
     tCutoff cutoffOf vertexLine areBelow projectsLeft projectsRight missesCutoff distanceUnless cutoffLine besideShadow shadowLine atMostBoth nearestLine chooseLine

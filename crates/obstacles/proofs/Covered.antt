@@ -8,7 +8,7 @@ use lib.ListN.{length, drop, getD, drop-of-length-le}
 use lib.Seq.{drop-cons}
 use lib.Ieee.{Float}
 use Rattle.common.specs.declared.Vec2.{Vec2}
-use Rattle.linear_programming.specs.declared.Line.{Line}
+use Rattle.lines.specs.declared.Line.{Line}
 use Rattle.obstacles.specs.Cover.{covers, isEdgeCovered}
 
 module _ (left right : Vec2) (horizon margin : Float) (ls : List Line) (i : ℕ) where

@@ -11,9 +11,9 @@ use lib.Ieee.{Float}
 use Rattle.arithmetic.proofs.Choice.{if-all}
 use Rattle.arithmetic.proofs.Lists.{All, none, all-snoc}
 use Rattle.common.specs.declared.Vec2.{Vec2}
-use Rattle.linear_programming.specs.declared.Line.{Line}
+use Rattle.lines.specs.declared.Line.{Line}
+use Rattle.lines.specs.LineFaults.{lineFault}
 use Rattle.admission.specs.Faults.{Fault, fine, fault}
-use Rattle.linear_programming.specs.Admit.{lineFault}
 use Rattle.obstacles.specs.declared.Agent.{Agent}
 use Rattle.obstacles.specs.Edges.{EdgeLine, nothing, made}
 use Rattle.obstacles.specs.Vertices.{edgeAt}

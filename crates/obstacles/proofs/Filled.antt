@@ -1,5 +1,5 @@
 -- Lent numbers that the lines so far fill, with zeros behind them: how they start, one line more, and the answer that they are. Assumes nothing.
-use Prim.Native.Nat.{ℕ, _+_, _-_, _*_, _≤_, _<_}
+use Prim.Native.Nat.{ℕ, zero, suc, _+_, _-_, _*_, _≤_, _<_}
 use mathlib.Core.Path.{_≡_, ap, _∙_}
 use mathlib.Core.List.{List, _++_}
 use native.Mathlib.Omega.{arith}
@@ -7,14 +7,25 @@ use lib.ListN.{length, take, drop, replicate, take-append-drop}
 use lib.Seq.{sets, length-sets, drop-drop, length-take-le}
 use lib.Ieee.{Float}
 use Rattle.arithmetic.specs.Binary32.{0ᶠ}
-use Rattle.linear_programming.specs.declared.Line.{Line}
-use Rattle.linear_programming.specs.Lines.{linesOf}
+use Rattle.lines.specs.declared.Line.{Line}
+use Rattle.lines.specs.Lines.{linesOf, fourOf, numbersOf}
 use Rattle.admission.specs.Faults.{fine, judgedAs}
-use Rattle.linear_programming.proofs.Rows.{count}
+use Rattle.lines.proofs.Rows.{count}
 use Rattle.obstacles.specs.declared.ObstacleLines.{ObstacleLines}
 use Rattle.obstacles.specs.Obstacles.{lines}
-use Rattle.obstacles.specs.Read.{fourOf, numbersOf, blankNumbers, answerAs}
-use Rattle.obstacles.proofs.Numbers.{numbers-back, drop-replicate, stored-drop}
+use Rattle.obstacles.specs.Read.{blankNumbers, answerAs}
+use Rattle.lines.proofs.Numbers.{numbers-back, stored-drop}
+
+drop-replicate : {A : Type 0} (k n : ℕ) (x : A) → drop k (replicate n x) ≡ replicate (n - k) x
+drop-replicate zero n x =
+    let e : n ≡ n - 0 = omega arith in
+    ap (λ (m : ℕ). replicate m x) e
+drop-replicate (suc k) zero x =
+    let e : 0 ≡ 0 - suc k = omega arith in
+    ap (λ (m : ℕ). replicate m x) e
+drop-replicate (suc k) (suc n) x =
+    let e : n - k ≡ suc n - suc k = omega arith in
+    drop-replicate k n x ∙ ap (λ (m : ℕ). replicate m x) e
 
 -- the first n lines stand in the numbers, and the rest is as it was
 pub record Filled (n : ℕ) (b : List Float) : Type 0 where

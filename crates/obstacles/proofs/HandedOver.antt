@@ -8,15 +8,15 @@ use lib.Seq.{take-at}
 use lib.Ieee.{Float}
 use Rattle.arithmetic.specs.Binary32.{0ᶠ}
 use Rattle.arithmetic.proofs.Lists.{All, none, more}
-use Rattle.linear_programming.specs.declared.Line.{Line}
-use Rattle.linear_programming.specs.Lines.{linesOf}
+use Rattle.lines.specs.declared.Line.{Line}
+use Rattle.lines.specs.Lines.{linesOf, numbersOf}
+use Rattle.lines.specs.LineFaults.{lineFault, linesFault}
 use Rattle.admission.specs.Faults.{Fault, fine, fault}
-use Rattle.linear_programming.specs.Admit.{lineFault, linesFault}
 use Rattle.obstacles.specs.declared.Agent.{Agent}
 use Rattle.obstacles.specs.Obstacles.{Answer, lines, refused, _orRefused_, obstacleFault, obstacleCall}
-use Rattle.obstacles.specs.Read.{numbersOf, answerAs}
+use Rattle.obstacles.specs.Read.{answerAs}
 use Rattle.obstacles.proofs.EdgesInOrder.{Sound, refuses, stands, lines-sound}
-use Rattle.obstacles.proofs.Numbers.{numbers-long, lines-back}
+use Rattle.lines.proofs.Numbers.{numbers-long, lines-back}
 
 or-refused-sound : (n : ℕ) (f : Fault) (a : Answer) → Sound n a → Sound n (f orRefused a)
 or-refused-sound n fine a s = s

@@ -1,6 +1,5 @@
--- The laws of `obstacles`: of vertices and lines as numbers, of the edges in order, of what is handed over, and the bench cases.
+-- The laws of `obstacles`: of vertices as numbers, of the edges in order, of what is handed over, and the bench cases.
 pub mod Corners
-pub mod Numbers
 pub mod Covered
 pub mod Faults
 pub mod EdgesInOrder

@@ -5,7 +5,7 @@ use lib.Ieee.{Float}
 use Rattle.arithmetic.specs.Binary32.{_⊖_, _⊘_, _≤ᶠ_, bits}
 use Rattle.common.specs.declared.Vec2.{Vec2}
 use Rattle.common.specs.Vectors.{subOf, divOf, determinantOf}
-use Rattle.linear_programming.specs.declared.Line.{Line}
+use Rattle.lines.specs.declared.Line.{Line}
 
 -- EDGE_COVER_EPSILON, 1e-5 as f32
 abbrev pub coverEpsilon : Float

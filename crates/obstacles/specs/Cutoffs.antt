@@ -4,8 +4,8 @@ use lib.Ieee.{Float, inf}
 use Rattle.arithmetic.specs.Binary32.{_⊘_, _≤ᶠ_, _<ᶠ_, bits, 0ᶠ, 1ᶠ, if_then_else_}
 use Rattle.common.specs.declared.Vec2.{Vec2}
 use Rattle.common.specs.Vectors.{addOf, subOf, negOf, mulOf, divOf, dotOf, perpOf, lengthSquaredOf, normalizeOf}
-use Rattle.linear_programming.specs.declared.Line.{Line}
-use Rattle.linear_programming.specs.Lines.{line}
+use Rattle.lines.specs.declared.Line.{Line}
+use Rattle.lines.specs.Lines.{line}
 use Rattle.obstacles.specs.declared.Agent.{Agent}
 use Rattle.obstacles.specs.declared.Cutoff.{Cutoff}
 use Rattle.obstacles.specs.declared.Shadow.{Shadow}

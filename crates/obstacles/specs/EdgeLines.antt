@@ -5,8 +5,8 @@ use lib.Ieee.{Float}
 use Rattle.arithmetic.specs.Binary32.{_⊘_, _<ᶠ_, 0ᶠ, 1ᶠ, if_then_else_}
 use Rattle.common.specs.declared.Vec2.{Vec2}
 use Rattle.common.specs.Vectors.{subOf, negOf, eqOf, determinantOf}
-use Rattle.linear_programming.specs.declared.Line.{Line}
-use Rattle.linear_programming.specs.Lines.{line}
+use Rattle.lines.specs.declared.Line.{Line}
+use Rattle.lines.specs.Lines.{line}
 use Rattle.obstacles.specs.declared.Agent.{Agent}
 use Rattle.obstacles.specs.declared.EdgeShape.{EdgeShape}
 use Rattle.obstacles.specs.Edges.{at, Edge, Side, onLeft, onRight, EdgeLine, nothing, made}

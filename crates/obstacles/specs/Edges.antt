@@ -1,6 +1,6 @@
 -- An edge of an obstacle as `get_line_for_agent_to_edge` takes it, and what it gives back. Definitions only. Assumes nothing.
 use Rattle.common.specs.declared.Vec2.{Vec2}
-use Rattle.linear_programming.specs.declared.Line.{Line}
+use Rattle.lines.specs.declared.Line.{Line}
 use Rattle.obstacles.specs.declared.EdgeVertex.{EdgeVertex}
 
 -- the Rust's `Option<Vec2>`: the vertex beyond an end of the edge, or none

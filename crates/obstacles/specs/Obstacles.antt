@@ -7,9 +7,9 @@ use lib.ListN.{length, take, drop}
 use lib.Ieee.{Float}
 use Rattle.arithmetic.specs.Binary32.{if_then_else_}
 use Rattle.common.specs.declared.Vec2.{Vec2}
-use Rattle.linear_programming.specs.declared.Line.{Line}
+use Rattle.lines.specs.declared.Line.{Line}
+use Rattle.lines.specs.LineFaults.{lineFault}
 use Rattle.admission.specs.Faults.{Fault, fine, fault, must, _⊳_}
-use Rattle.linear_programming.specs.Admit.{lineFault}
 use Rattle.obstacles.specs.declared.Agent.{Agent}
 use Rattle.obstacles.specs.Edges.{EdgeLine, nothing, made}
 use Rattle.obstacles.specs.Vertices.{closedKind, openKind, verticesOf, edgeAt}

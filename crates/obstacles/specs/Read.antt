@@ -1,10 +1,10 @@
 -- What each enum of the code says, in the Rust's and in 01's values and numbers, and the struct that an answer is handed over in. Definitions only. Assumes nothing.
 use Prim.Native.Nat.{_-_, _*_}
-use mathlib.Core.List.{List, [], _∷_, _++_}
+use mathlib.Core.List.{List, _++_}
 use lib.ListN.{length, replicate}
 use lib.Ieee.{Float}
 use Rattle.arithmetic.specs.Binary32.{0ᶠ}
-use Rattle.linear_programming.specs.declared.Line.{Line}
+use Rattle.lines.specs.Lines.{numbersOf}
 use Rattle.admission.specs.Faults.{fine, fault, judgedAs}
 use Rattle.obstacles.specs.declared.Outer.{Outer}
 use Rattle.obstacles.specs.declared.Outer.the-variants as outer
@@ -47,13 +47,6 @@ admittedOf admitted-line.Nothing = nothingKept
 admittedOf (admitted-line.Refused r) = notAdmitted r
 
 -- ---- lines as numbers, four a line
-
-abbrev pub fourOf : Line → List Float
-fourOf l = l .point .x ∷ l .point .y ∷ l .direction .x ∷ l .direction .y ∷ []
-
-unfoldable pub numbersOf : List Line → List Float
-numbersOf [] = []
-numbersOf (l ∷ ls) = l .point .x ∷ l .point .y ∷ l .direction .x ∷ l .direction .y ∷ numbersOf ls
 
 unfoldable pub blankNumbers : List Float
 blankNumbers = replicate 256 0ᶠ

@@ -5,7 +5,7 @@ use crate::EdgeShape;
 use crate::EdgeVertex;
 use crate::Outer;
 use common::Vec2;
-use linear_programming::Line;
+use lines::Line;
 ghost use mathlib.Core.Path.{_≡_};
 ghost use Rattle.obstacles.specs.Collision.{shapeOf, inUnit, reaches as reached, cornerLine, nextHandles, rightCornerLine};
 ghost use Rattle.obstacles.specs.Read.{neighbourOf, edgeOf, edgeLineOf};

@@ -1,9 +1,9 @@
 // The cover test: an edge that lies deep enough in the invalid half of a line made earlier cannot be collided with, and needs no line of its own.
 use crate::Edge;
 use common::Vec2;
-use linear_programming::Line;
+use lines::Line;
 ghost use mathlib.Core.Path.{_≡_};
-ghost use Rattle.linear_programming.specs.Lines.{linesOf};
+ghost use Rattle.lines.specs.Lines.{linesOf};
 ghost use Rattle.obstacles.specs.Cover.{isDeep, covers, isEdgeCovered};
 
 // Whether a vertex is deep enough in the invalid half of a line.
@@ -38,7 +38,7 @@ pub(crate) fn is_edge_covered(
 {
     let mut i = 0usize;
     while i < existing_lines.len() / 4 {
-        let line = linear_programming::line_at(existing_lines, i);
+        let line = lines::line_at(existing_lines, i);
         if is_covered_by(left_vertex, right_vertex, horizon, margin, line) {
             return true;
         }

@@ -6,7 +6,7 @@ use crate::Shadow;
 use crate::Side;
 use crate::collision;
 use common::Vec2;
-use linear_programming::Line;
+use lines::Line;
 ghost use mathlib.Core.Path.{_≡_};
 ghost use Rattle.obstacles.specs.Cutoffs.{tCutoff, cutoffOf, vertexLine, areBelow, projectsLeft, projectsRight, missesCutoff, distanceUnless, cutoffLine, shadowLine, atMostBoth, nearestLine, chooseLine};
 ghost use Rattle.obstacles.specs.Read.{sideOf, edgeLineOf};

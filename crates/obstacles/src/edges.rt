@@ -10,9 +10,9 @@ use crate::cover;
 use crate::cutoffs;
 use crate::shadows;
 use common::Vec2;
-use linear_programming::Line;
+use lines::Line;
 ghost use mathlib.Core.Path.{_≡_};
-ghost use Rattle.linear_programming.specs.Lines.{linesOf};
+ghost use Rattle.lines.specs.Lines.{linesOf};
 ghost use Rattle.obstacles.specs.EdgeLines.{isDegenerate, alone as aloneOf, lineForShadows, lineOfVertex, lineOfEdge, linePast, lineInFront, lineForEdge};
 ghost use Rattle.obstacles.specs.Read.{sideOf, edgeOf, edgeLineOf};
 

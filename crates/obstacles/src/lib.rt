@@ -1,7 +1,7 @@
 // The lines that an obstacle's edges ask an agent to keep to (the Rust's obstacles.rs).
 use admission::Judged;
 use common::Vec2;
-use linear_programming::Line;
+use lines::Line;
 ghost use mathlib.Core.Path.{_≡_};
 ghost use Rattle.obstacles.specs.Obstacles.{obstacleCall};
 ghost use Rattle.obstacles.specs.Read.{answerAs};

@@ -7,17 +7,15 @@ use crate::ObstacleLines;
 use crate::edges;
 use crate::vertices;
 use admission::Judged;
-use linear_programming::Line;
 ghost use mathlib.Core.Path.{_≡_};
-ghost use Prim.Native.Nat.{_+_, _*_, _/_, _≤_, _<_};
+ghost use Prim.Native.Nat.{_/_, _≤_, _<_};
 ghost use lib.ListN.{length};
-ghost use lib.Seq.{sets};
-ghost use Rattle.linear_programming.specs.Lines.{linesOf};
+ghost use Rattle.lines.specs.Lines.{linesOf};
 ghost use Rattle.admission.specs.Faults.{faultOf};
 ghost use Rattle.obstacles.specs.Vertices.{verticesOf, edgeAt};
 ghost use Rattle.obstacles.specs.EdgeLines.{lineForEdge};
 ghost use Rattle.obstacles.specs.Obstacles.{isEmptyOpen, obstacleFault, edgeCount, admitted, obstacleLines, refused as refusedWith};
-ghost use Rattle.obstacles.specs.Read.{admittedOf, fourOf, blankNumbers, addedOf, answerAs};
+ghost use Rattle.obstacles.specs.Read.{admittedOf, blankNumbers, addedOf, answerAs};
 
 fn is_empty_open(kind: u8, count: usize) -> bool
     ensures { λ r. ⌜ r ≡ isEmptyOpen kind count ⌝ }
@@ -81,22 +79,10 @@ fn admitted_line(
     let EdgeLine::Made(line) = made else {
         return AdmittedLine::Nothing;
     };
-    let Judged::Fine = linear_programming::judge_line(line) else {
+    let Judged::Fine = lines::judge_line(line) else {
         return AdmittedLine::Refused(9);
     };
     AdmittedLine::Kept(line)
-}
-
-// Stores a line at an index.
-fn put(lines: &mut [f32], i: usize, line: Line)
-    requires { ⌜ 4 * i + 4 ≤ length (now lines) ⌝ }
-    ensures { λ _. ⌜ now (lines .exit) ≡ sets (now (lines .entry)) (4 * i) (fourOf line) ⌝ }
-{
-    let k = 4 * i;
-    lines[k] = line.point.x;
-    lines[k + 1] = line.point.y;
-    lines[k + 2] = line.direction.x;
-    lines[k + 3] = line.direction.y;
 }
 
 // Fills blank numbers with the lines of all edges. The lines made so far are the only ones that the next edge sees.
@@ -127,7 +113,7 @@ fn add_edges(
         i += 1;
         match admitted {
             AdmittedLine::Kept(line) => {
-                put(lines, count, line);
+                lines::put_line(lines, count, line);
                 count += 1;
             }
             AdmittedLine::Nothing => {}

@@ -11,9 +11,9 @@ use Rattle.arithmetic.specs.Binary32.{finite}
 use Rattle.admission.specs.Faults.{Fault, fine, fault, must, _⊳_, inside}
 use Rattle.admission.proofs.FaultLaws.{no-fault}
 use Rattle.common.specs.declared.Vec2.{Vec2}
-use Rattle.linear_programming.specs.declared.Line.{Line}
+use Rattle.lines.specs.declared.Line.{Line}
+use Rattle.lines.specs.LineFaults.{bandLow, bandHigh, lineFault}
 use Rattle.common.specs.Vectors.{lengthSquaredOf}
-use Rattle.linear_programming.specs.Admit.{bandLow, bandHigh, lineFault}
 use Rattle.obstacles.specs.declared.Agent.{Agent}
 use Rattle.obstacles.specs.Edges.{EdgeLine, nothing, made}
 use Rattle.obstacles.specs.Obstacles as walls

@@ -5,7 +5,7 @@ use crate::answers::vector_at;
 use crate::records::numbers_at;
 use crate::standings::is_standing;
 use admission::Judged;
-use linear_programming::Line;
+use lines::Line;
 use session::Fed;
 use session::Session;
 use verdict::Tally;

@@ -16,8 +16,9 @@ use Rattle.arithmetic.proofs.Choice.{and-left, or-cases}
 use Rattle.admission.specs.Faults.{within, inside}
 use Rattle.common.specs.declared.Vec2.{Vec2}
 use Rattle.common.specs.Vectors.{lengthSquaredOf}
-use Rattle.linear_programming.specs.declared.Line.{Line}
-use Rattle.linear_programming.specs.Admit.{reach, longest, lineReach, bandLow, bandHigh}
+use Rattle.lines.specs.declared.Line.{Line}
+use Rattle.lines.specs.LineFaults.{lineReach, bandLow, bandHigh}
+use Rattle.linear_programming.specs.Admit.{reach, longest}
 use Rattle.obstacles.specs.Obstacles.{isEmptyOpen}
 use Rattle.dodgy_2d.specs.Scenes.{shortestHorizon, longestHorizon, isKind, roomFor}
 use Rattle.fields.specs.Bytes.{toBe, each}

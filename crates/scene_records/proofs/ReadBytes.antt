@@ -13,8 +13,9 @@ use Rattle.arithmetic.specs.Binary32.{finite}
 use Rattle.arithmetic.specs.Ends.{absOf}
 use Rattle.admission.specs.Faults.{within, inside}
 use Rattle.common.specs.declared.Vec2.{Vec2}
-use Rattle.linear_programming.specs.declared.Line.{Line}
-use Rattle.linear_programming.specs.Admit.{reach, lineReach}
+use Rattle.lines.specs.declared.Line.{Line}
+use Rattle.lines.specs.LineFaults.{lineReach}
+use Rattle.linear_programming.specs.Admit.{reach}
 use Rattle.dodgy_2d.specs.declared.Scene.{Scene}
 use Rattle.fields.specs.Bytes.{toBe, each, Small}
 use Rattle.fields.specs.Got.{got, many}

@@ -7,8 +7,9 @@ use lib.ListN.{length, getD}
 use lib.Seq.{sets}
 use lib.Ieee.{Float}
 use borrow.Author.Tests.{le-leb, lt-leb, eq-eqb, ne-eqb}
-use Rattle.linear_programming.specs.declared.Line.{Line}
-use Rattle.obstacles.specs.Read.{fourOf, blankNumbers}
+use Rattle.lines.specs.declared.Line.{Line}
+use Rattle.lines.specs.Lines.{fourOf}
+use Rattle.obstacles.specs.Read.{blankNumbers}
 use Rattle.fields.specs.Bytes.{each}
 use Rattle.fields.specs.Got.{Got, refused, got, then, word}
 use Rattle.fields.proofs.WordLaws.{word-none, two-some}

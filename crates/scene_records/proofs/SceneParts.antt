@@ -8,12 +8,12 @@ use lib.ListN.{length, take, drop, length-map}
 use lib.Seq.{sets, sets-eq, take-at, drop-at}
 use lib.Ieee.{Float}
 use Rattle.common.specs.declared.Vec2.{Vec2}
-use Rattle.linear_programming.specs.declared.Line.{Line}
-use Rattle.linear_programming.specs.Lines.{linesOf}
-use Rattle.linear_programming.proofs.Rows.{lines-append}
+use Rattle.lines.specs.declared.Line.{Line}
+use Rattle.lines.specs.Lines.{linesOf, fourOf, numbersOf}
+use Rattle.lines.proofs.Rows.{lines-append}
 use Rattle.obstacles.specs.Vertices.{verticesOf}
-use Rattle.obstacles.specs.Read.{fourOf, numbersOf, blankNumbers}
-use Rattle.obstacles.proofs.Numbers.{lines-back, numbers-long}
+use Rattle.obstacles.specs.Read.{blankNumbers}
+use Rattle.lines.proofs.Numbers.{lines-back, numbers-long}
 use Rattle.dodgy_2d.specs.Scenes.{headsOf, headsIn, neighboursIn}
 use Rattle.fields.specs.Bytes.{each}
 use Rattle.scene_records.specs.declared.Cart.{Cart}

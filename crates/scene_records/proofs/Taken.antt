@@ -11,8 +11,9 @@ use Rattle.arithmetic.specs.Binary32.{0ᶠ, finite}
 use Rattle.admission.specs.Faults.{within, inside}
 use Rattle.common.specs.declared.Vec2.{Vec2}
 use Rattle.common.specs.Vectors.{lengthSquaredOf}
-use Rattle.linear_programming.specs.declared.Line.{Line}
-use Rattle.linear_programming.specs.Admit.{reach, longest, lineReach, bandLow, bandHigh}
+use Rattle.lines.specs.declared.Line.{Line}
+use Rattle.lines.specs.LineFaults.{lineReach, bandLow, bandHigh}
+use Rattle.linear_programming.specs.Admit.{reach, longest}
 use Rattle.obstacles.specs.Obstacles.{isEmptyOpen}
 use Rattle.dodgy_2d.specs.declared.Scene.{Scene}
 use Rattle.dodgy_2d.specs.Scenes.{Head, shortestHorizon, longestHorizon, isKind, roomFor}

@@ -15,10 +15,11 @@ use Rattle.admission.specs.Faults.{_⊳_, fine, must, within, inside}
 use Rattle.admission.proofs.FaultLaws.{⊳-fine, must-fine}
 use Rattle.common.specs.declared.Vec2.{Vec2}
 use Rattle.common.specs.Vectors.{lengthSquaredOf}
-use Rattle.linear_programming.specs.declared.Line.{Line}
-use Rattle.linear_programming.specs.Lines.{linesOf}
-use Rattle.linear_programming.specs.Admit.{reach, longest, lineReach, bandLow, bandHigh, lineFault, linesFault}
-use Rattle.linear_programming.proofs.Rows.{count}
+use Rattle.lines.specs.declared.Line.{Line}
+use Rattle.lines.specs.Lines.{linesOf}
+use Rattle.lines.specs.LineFaults.{lineReach, bandLow, bandHigh, lineFault, linesFault}
+use Rattle.linear_programming.specs.Admit.{reach, longest}
+use Rattle.lines.proofs.Rows.{count}
 use Rattle.obstacles.specs.Obstacles.{isEmptyOpen}
 use Rattle.obstacles.specs.Vertices.{verticesOf}
 use Rattle.dodgy_2d.specs.declared.Scene.{Scene}

@@ -9,9 +9,10 @@ use Rattle.arithmetic.specs.Binary32.{0ᶠ, finite}
 use Rattle.admission.specs.Faults.{within, inside}
 use Rattle.common.specs.declared.Vec2.{Vec2}
 use Rattle.common.specs.Vectors.{lengthSquaredOf}
-use Rattle.linear_programming.specs.declared.Line.{Line}
-use Rattle.linear_programming.specs.Lines.{line}
-use Rattle.linear_programming.specs.Admit.{reach, longest, lineReach, bandLow, bandHigh}
+use Rattle.lines.specs.declared.Line.{Line}
+use Rattle.lines.specs.Lines.{line}
+use Rattle.lines.specs.LineFaults.{lineReach, bandLow, bandHigh}
+use Rattle.linear_programming.specs.Admit.{reach, longest}
 use Rattle.obstacles.specs.Obstacles.{isEmptyOpen}
 use Rattle.dodgy_2d.specs.Scenes.{Head, headOf, shortestHorizon, longestHorizon, isKind, roomFor}
 use Rattle.fields.specs.Bytes.{each}

@@ -8,8 +8,9 @@ use lib.Ieee.{Float}
 use Rattle.arithmetic.specs.Binary32.{0ᶠ}
 use Rattle.admission.specs.Faults.{fine, fault, judgedAs}
 use Rattle.common.specs.Vectors.{vec}
-use Rattle.linear_programming.specs.declared.Line.{Line}
-use Rattle.obstacles.specs.Read.{fourOf, blankNumbers}
+use Rattle.lines.specs.declared.Line.{Line}
+use Rattle.lines.specs.Lines.{fourOf}
+use Rattle.obstacles.specs.Read.{blankNumbers}
 use Rattle.dodgy_2d.specs.declared.Scene.{Scene}
 use Rattle.fields.specs.Bytes.{each}
 use Rattle.fields.specs.Got.{Got, refused, got, then, guard, word}

@@ -2,7 +2,7 @@
 use admission::Judged;
 use common::Vec2;
 use dodgy_2d::Scene;
-use linear_programming::Line;
+use lines::Line;
 use obstacles::Agent;
 ghost use mathlib.Core.Path.{_≡_};
 ghost use Rattle.fields.specs.Got.{refused as refusedWith};

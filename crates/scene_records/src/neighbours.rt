@@ -4,12 +4,12 @@ use crate::LineRead;
 use crate::LinesRead;
 use crate::Rule;
 use crate::steps;
-use linear_programming::Line;
+use lines::Line;
 ghost use mathlib.Core.Path.{_≡_};
-ghost use Prim.Native.Nat.{_+_, _*_, _≤_};
+ghost use Prim.Native.Nat.{_*_, _≤_};
 ghost use lib.ListN.{length};
-ghost use lib.Seq.{sets};
-ghost use Rattle.obstacles.specs.Read.{fourOf, blankNumbers};
+ghost use Rattle.lines.specs.Lines.{fourOf};
+ghost use Rattle.obstacles.specs.Read.{blankNumbers};
 ghost use Rattle.scene_records.specs.Steps.{from, told};
 ghost use Rattle.scene_records.specs.Parts.{neighbour, neighbours, stored};
 
@@ -29,18 +29,6 @@ fn line_at(bytes: &[u8], cursor: Cursor) -> LineRead
     }
 }
 
-// Stores a line at an index.
-fn put(lines: &mut [f32], i: usize, line: Line)
-    requires { ⌜ 4 * i + 4 ≤ length (now lines) ⌝ }
-    ensures { λ _. ⌜ now (lines .exit) ≡ sets (now (lines .entry)) (4 * i) (fourOf line) ⌝ }
-{
-    let k = 4 * i;
-    lines[k] = line.point.x;
-    lines[k + 1] = line.point.y;
-    lines[k + 2] = line.direction.x;
-    lines[k + 3] = line.direction.y;
-}
-
 // Stores as many lines as `count`.
 fn store_lines(bytes: &[u8], cursor: Cursor, count: usize, lines: &mut [f32]) -> Cursor
     requires { ⌜ 4 * count ≤ length (now lines) ⌝ }
@@ -51,7 +39,7 @@ fn store_lines(bytes: &[u8], cursor: Cursor, count: usize, lines: &mut [f32]) ->
     while i < count {
         let line = line_at(bytes, next);
         next = line.next;
-        put(lines, i, line.value);
+        lines::put_line(lines, i, line.value);
         i += 1;
     }
     next

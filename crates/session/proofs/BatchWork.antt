@@ -8,15 +8,15 @@ use lib.ListN.{length, length-append, length-map, take, drop}
 use lib.Seq.{sets, sets-eq, take-at, length-take-le}
 use lib.Ieee.{Float}
 use borrow.Author.Tests.{le-leb, leb-true}
-use Rattle.linear_programming.specs.declared.Line.{Line}
-use Rattle.linear_programming.specs.Lines.{linesOf}
+use Rattle.lines.specs.declared.Line.{Line}
+use Rattle.lines.specs.Lines.{linesOf}
 use Rattle.linear_programming.specs.Whole.{Outcome}
 use Rattle.admission.specs.Faults.{fine, must}
 use Rattle.linear_programming.specs.Admit.{fours}
 use Rattle.linear_programming.specs.Read.{phaseOf, failedOf}
 use Rattle.linear_programming.specs.Resume.{resumedCall}
 use Rattle.admission.proofs.FaultLaws.{⊳-fine, must-fine}
-use Rattle.linear_programming.proofs.Rows.{count}
+use Rattle.lines.proofs.Rows.{count}
 use Rattle.session.specs.declared.Session.{Session}
 use Rattle.session.specs.Batches.{batchFault, settledOn, settled, worked}
 

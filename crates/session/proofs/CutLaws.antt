@@ -9,14 +9,16 @@ use lib.ListN.{length, length-append}
 use lib.Ieee.{Float}
 use borrow.Author.Tests.{eq-eqb, le-leb, leb-true}
 use Rattle.common.specs.declared.Vec2.{Vec2}
-use Rattle.linear_programming.specs.declared.Line.{Line}
-use Rattle.linear_programming.specs.Lines.{linesOf}
+use Rattle.lines.specs.declared.Line.{Line}
+use Rattle.lines.specs.Lines.{linesOf}
+use Rattle.lines.specs.LineFaults.{linesFault}
 use Rattle.linear_programming.specs.Whole.{Phase, Failed, Outcome, stands, wholeList}
 use Rattle.admission.specs.Faults.{Fault, fine, fault, must, _⊳_, faultOf}
-use Rattle.linear_programming.specs.Admit.{fours, wishFault, linesFault, judgedList, listCall}
+use Rattle.linear_programming.specs.Admit.{fours, wishFault, judgedList, listCall}
 use Rattle.admission.proofs.FaultLaws.{⊳-fine, must-fine}
-use Rattle.linear_programming.proofs.JudgeLaws.{⟫-stands, faults-append}
-use Rattle.linear_programming.proofs.Rows.{lines-append}
+use Rattle.lines.proofs.JudgeLaws.{faults-append}
+use Rattle.linear_programming.proofs.JudgeLaws.{⟫-stands}
+use Rattle.lines.proofs.Rows.{lines-append}
 use Rattle.linear_programming.proofs.Bounds.NeverRefused.{Stood, stood, never-refused}
 use Rattle.session.specs.declared.Session.{Session}
 use Rattle.session.specs.Sessions.{linesIn, outcomeIn, startedBy, startedAs}

@@ -9,16 +9,18 @@ use lib.ListN.{length, length-append}
 use lib.Seq.{length-take-le, length-sets}
 use lib.Ieee.{Float}
 use borrow.Author.Tests.{le-leb}
-use Rattle.linear_programming.specs.declared.Line.{Line}
-use Rattle.linear_programming.specs.Lines.{linesOf}
+use Rattle.lines.specs.declared.Line.{Line}
+use Rattle.lines.specs.Lines.{linesOf}
+use Rattle.lines.specs.LineFaults.{linesFault}
 use Rattle.linear_programming.specs.Whole.{Phase, solving, relaxing, rigidFailure, Failed, noLine, failedLine, Outcome, stands, refusal, wholeList}
 use Rattle.admission.specs.Faults.{Fault, fine, fault, must, _⊳_}
-use Rattle.linear_programming.specs.Admit.{_⟫_, fours, wishFault, linesFault, judgedList}
+use Rattle.linear_programming.specs.Admit.{_⟫_, fours, wishFault, judgedList}
 use Rattle.linear_programming.specs.Read.{phaseOf, phaseAs, failedOf, failedAs}
 use Rattle.linear_programming.specs.Resume.{resumed, addProbes}
 use Rattle.admission.proofs.FaultLaws.{no-fault, ⊳-fine}
-use Rattle.linear_programming.proofs.JudgeLaws.{⟫-stands, faults-append}
-use Rattle.linear_programming.proofs.Rows.{count}
+use Rattle.lines.proofs.JudgeLaws.{faults-append}
+use Rattle.linear_programming.proofs.JudgeLaws.{⟫-stands}
+use Rattle.lines.proofs.Rows.{count}
 use Rattle.linear_programming.proofs.ResumeLaws.{resumed-whole}
 use Rattle.linear_programming.proofs.WholeProbes.{whole-fits}
 use Rattle.session.specs.declared.Session.{Session}

@@ -8,10 +8,11 @@ use lib.Ieee.{Float}
 use Rattle.arithmetic.specs.Binary32.{0ᶠ}
 use Rattle.common.specs.declared.Vec2.{Vec2}
 use Rattle.common.specs.Vectors.{vec}
-use Rattle.linear_programming.specs.Lines.{linesOf}
+use Rattle.lines.specs.Lines.{linesOf}
+use Rattle.lines.specs.LineFaults.{linesFault}
 use Rattle.linear_programming.specs.Whole.{Outcome, stands, refusal, solving, noLine}
 use Rattle.admission.specs.Faults.{within, inside}
-use Rattle.linear_programming.specs.Admit.{wishFault, linesFault, judgedList, listCall}
+use Rattle.linear_programming.specs.Admit.{wishFault, judgedList, listCall}
 use Rattle.linear_programming.proofs.Computed.{computed}
 use Rattle.session.specs.declared.Fed.{Fed}
 use Rattle.session.specs.Sessions.{blankLines, blankSession, startedBy, startedAs}

@@ -5,11 +5,12 @@ use lib.Dec.{leb}
 use lib.ListN.{length}
 use lib.Seq.{sets}
 use lib.Ieee.{Float}
-use Rattle.linear_programming.specs.declared.Line.{Line}
-use Rattle.linear_programming.specs.Lines.{linesOf}
+use Rattle.lines.specs.declared.Line.{Line}
+use Rattle.lines.specs.Lines.{linesOf}
+use Rattle.lines.specs.LineFaults.{linesFault}
 use Rattle.linear_programming.specs.Whole.{Outcome, stands, refusal}
 use Rattle.admission.specs.Faults.{Fault, fine, fault, must, _⊳_, judgedAs}
-use Rattle.linear_programming.specs.Admit.{_⟫_, mostLines, fours, linesFault}
+use Rattle.linear_programming.specs.Admit.{_⟫_, mostLines, fours}
 use Rattle.linear_programming.specs.Resume.{resumed}
 use Rattle.linear_programming.specs.Read.{phaseOf, phaseAs, failedOf, failedAs}
 use Rattle.session.specs.declared.Session.{Session}

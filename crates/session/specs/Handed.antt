@@ -5,7 +5,7 @@ use mathlib.Core.List.{List, [], _++_}
 use lib.ListN.{length}
 use lib.Ieee.{Float}
 use Rattle.common.specs.declared.Vec2.{Vec2}
-use Rattle.linear_programming.specs.Lines.{linesOf}
+use Rattle.lines.specs.Lines.{linesOf}
 use Rattle.linear_programming.specs.Whole.{Outcome, refusal}
 use Rattle.admission.specs.Faults.{Fault, fine, fault, faultOf}
 use Rattle.linear_programming.specs.Admit.{_⟫_, fours, judgedList, listCall}

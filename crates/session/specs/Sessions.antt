@@ -6,8 +6,8 @@ use lib.Ieee.{Float}
 use Rattle.arithmetic.specs.Binary32.{0ᶠ}
 use Rattle.common.specs.declared.Vec2.{Vec2}
 use Rattle.common.specs.Vectors.{vec}
-use Rattle.linear_programming.specs.declared.Line.{Line}
-use Rattle.linear_programming.specs.Lines.{line}
+use Rattle.lines.specs.declared.Line.{Line}
+use Rattle.lines.specs.Lines.{line}
 use Rattle.linear_programming.specs.Whole.{solving, noLine, Outcome, stands, refusal}
 use Rattle.admission.specs.Faults.{fine, fault, judgedAs}
 use Rattle.linear_programming.specs.Admit.{listCall}

@@ -3,13 +3,13 @@ use admission::Judged;
 use common::Vec2;
 use linear_programming::Answer;
 use linear_programming::FailedLine;
-use linear_programming::Line;
 use linear_programming::Phase;
+use lines::Line;
 ghost use mathlib.Core.Path.{_≡_};
 ghost use Prim.Native.Nat.{_+_, _/_, _≤_};
 ghost use lib.ListN.{length};
 ghost use lib.Seq.{sets};
-ghost use Rattle.linear_programming.specs.Lines.{linesOf};
+ghost use Rattle.lines.specs.Lines.{linesOf};
 ghost use Rattle.admission.specs.Faults.{faultOf};
 ghost use Rattle.linear_programming.specs.Read.{outcomeOf};
 ghost use Rattle.session.specs.Sessions.{blankLines, blankSession, startedAs};
@@ -73,7 +73,7 @@ fn judge_batch(count: usize, numbers: &[f32]) -> Judged
     if numbers.len() / 4 > Line::MOST - count {
         return Judged::Fault(4);
     }
-    linear_programming::judge_lines(numbers)
+    lines::judge_lines(numbers)
 }
 
 // The lines with those of a batch behind the first `count`.
@@ -84,7 +84,7 @@ fn store(lines: [Line; 256], count: usize, numbers: &[f32]) -> [Line; 256]
     let mut stored = lines;
     let mut i = 0usize;
     while i < numbers.len() / 4 {
-        stored[count + i] = linear_programming::line_at(numbers, i);
+        stored[count + i] = lines::line_at(numbers, i);
         i += 1;
     }
     stored

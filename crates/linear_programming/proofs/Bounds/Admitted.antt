@@ -16,9 +16,10 @@ use Rattle.arithmetic.proofs.Magnitude.Comparisons.{le-within, over-not-le, bet
 use Rattle.common.specs.declared.Vec2.{Vec2}
 use Rattle.common.specs.Vectors.{dotOf, lengthSquaredOf}
 use Rattle.common.proofs.VectorSizes.{Inside}
-use Rattle.linear_programming.specs.declared.Line.{Line}
+use Rattle.lines.specs.declared.Line.{Line}
+use Rattle.lines.specs.LineFaults.{lineReach, bandLow, bandHigh, lineFault, linesFault}
 use Rattle.admission.specs.Faults.{fine, must, within as isWithin, inside}
-use Rattle.linear_programming.specs.Admit.{reach, longest, lineReach, bandLow, bandHigh, wishFault, lineFault, linesFault}
+use Rattle.linear_programming.specs.Admit.{reach, longest, wishFault}
 use Rattle.admission.proofs.FaultLaws.{⊳-fine, must-fine}
 use Rattle.linear_programming.proofs.Bounds.SolveSizes.{LineIn}
 

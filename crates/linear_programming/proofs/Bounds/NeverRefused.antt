@@ -17,15 +17,16 @@ use Rattle.arithmetic.proofs.Magnitude.Comparisons.{not-le-apart}
 use Rattle.common.specs.declared.Vec2.{Vec2}
 use Rattle.common.specs.Vectors.{dotOf, perpOf, determinantOf}
 use Rattle.common.proofs.VectorSizes.{Inside, roomier, inside-finite, add-inside, sub-inside, mul-inside, perp-inside, determinant-within}
-use Rattle.linear_programming.specs.declared.Line.{Line}
+use Rattle.lines.specs.declared.Line.{Line}
+use Rattle.lines.specs.Lines.{epsilon}
+use Rattle.lines.specs.LineFaults.{linesFault}
 use Rattle.linear_programming.specs.Walk.{walk}
-use Rattle.linear_programming.specs.Lines.{epsilon}
 use Rattle.linear_programming.specs.OneLine.{toward, along}
 use Rattle.linear_programming.specs.Pass.{Pass, finitePoint, pass}
 use Rattle.linear_programming.specs.Relax.{halfᶠ, Tight, kept, skipped, tightAt, midpoint, intersection, tighten, behind, tightenNext, tightened, Relaxed, on, depthIn, replaced, relaxLine}
 use Rattle.linear_programming.specs.Whole.{Phase, Failed, Outcome, stands, relaxedOutcome, afterPass, wholeList}
 use Rattle.admission.specs.Faults.{fine}
-use Rattle.linear_programming.specs.Admit.{wishFault, linesFault}
+use Rattle.linear_programming.specs.Admit.{wishFault}
 use Rattle.linear_programming.proofs.Bounds.SolveSizes.{LineIn, epsilon-over, Goes, start-inside, along-inside, on-line, pass-goes, aimed, pointed, goes, ends}
 use Rattle.linear_programming.proofs.Bounds.Admitted.{Admitted, wish-admitted, lines-admitted}
 use Rattle.linear_programming.proofs.Bounds.TightDirections.{not-parallel, not-one-way}

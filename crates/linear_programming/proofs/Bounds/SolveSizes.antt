@@ -21,9 +21,9 @@ use Rattle.common.specs.declared.Vec2.{Vec2}
 use Rattle.common.specs.Vectors.{subOf, dotOf, lengthSquaredOf, normalizeOf, determinantOf}
 use Rattle.common.proofs.VectorSizes.{Inside, roomier, inside-finite, add-inside, sub-inside, mul-inside, dot-within, determinant-within, length-squared-fits}
 use Rattle.common.proofs.NormalizedSize.{inverse-within}
-use Rattle.linear_programming.specs.declared.Line.{Line}
+use Rattle.lines.specs.declared.Line.{Line}
+use Rattle.lines.specs.Lines.{epsilon}
 use Rattle.linear_programming.specs.Walk.{walk}
-use Rattle.linear_programming.specs.Lines.{epsilon}
 use Rattle.linear_programming.specs.OneLine.{Objective, toward, along, Interval, between, empty, chord, crossed, cut, beside, narrow, Found, at, fails, pointOn, choose, oneLine}
 use Rattle.linear_programming.specs.Pass.{start, Failure, Pass, now, failed, finitePoint, judged, solved, passLine, pass}
 

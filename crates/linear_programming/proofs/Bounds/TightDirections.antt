@@ -13,9 +13,9 @@ use Rattle.arithmetic.proofs.Magnitude.Near.{near-or-small, near-product-nonneg
 use Rattle.common.specs.Vectors.{subOf, dotOf, lengthSquaredOf, normalizeOf, determinantOf}
 use Rattle.common.proofs.VectorSizes.{Inside, sub-inside, length-squared-over-x, length-squared-over-y}
 use Rattle.common.proofs.NormalizedSize.{normalize-inside}
-use Rattle.linear_programming.specs.declared.Line.{Line}
-use Rattle.linear_programming.specs.Lines.{epsilon}
-use Rattle.linear_programming.specs.Admit.{bandLow}
+use Rattle.lines.specs.declared.Line.{Line}
+use Rattle.lines.specs.Lines.{epsilon}
+use Rattle.lines.specs.LineFaults.{bandLow}
 use Rattle.linear_programming.proofs.Bounds.SolveSizes.{epsilon-over}
 use Rattle.linear_programming.proofs.Bounds.Admitted.{Admitted, low-over}
 

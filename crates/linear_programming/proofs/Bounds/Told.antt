@@ -9,11 +9,12 @@ use lib.Ieee.{Float}
 use Rattle.arithmetic.specs.Binary32.{0ᶠ, finite}
 use Rattle.common.specs.declared.Vec2.{Vec2}
 use Rattle.common.specs.Vectors.{lengthSquaredOf}
-use Rattle.linear_programming.specs.declared.Line.{Line}
-use Rattle.linear_programming.specs.Lines.{linesOf}
+use Rattle.lines.specs.declared.Line.{Line}
+use Rattle.lines.specs.Lines.{linesOf}
+use Rattle.lines.specs.LineFaults.{lineReach, bandLow, bandHigh, lineFault, linesFault}
 use Rattle.linear_programming.specs.Whole.{Phase, Failed, Outcome, stands, refusal}
 use Rattle.admission.specs.Faults.{Fault, fine, fault, must, _⊳_, within, inside}
-use Rattle.linear_programming.specs.Admit.{_⟫_, mostLines, reach, longest, lineReach, bandLow, bandHigh, wishFault, lineFault, linesFault, judgedList, listCall}
+use Rattle.linear_programming.specs.Admit.{_⟫_, mostLines, reach, longest, wishFault, judgedList, listCall}
 use Rattle.admission.proofs.FaultLaws.{⊳-fine}
 use Rattle.linear_programming.proofs.Bounds.NeverRefused.{Stood, stood, never-refused}
 

@@ -8,11 +8,11 @@ use lib.Dec.{eqb, leb}
 use lib.ListN.{length}
 use lib.Ieee.{Float}
 use borrow.Author.Tests.{eq-eqb, ne-eqb, le-leb, lt-leb}
-use Rattle.linear_programming.specs.declared.Line.{Line}
-use Rattle.linear_programming.specs.Lines.{linesOf}
+use Rattle.lines.specs.declared.Line.{Line}
+use Rattle.lines.specs.Lines.{linesOf}
 use Rattle.linear_programming.specs.Whole.{wholeList}
-use Rattle.linear_programming.specs.Admit.{linesFault, judgedList, listCall}
-use Rattle.linear_programming.proofs.Rows.{count, all-lines}
+use Rattle.linear_programming.specs.Admit.{judgedList, listCall}
+use Rattle.lines.proofs.Rows.{count, all-lines}
 use borrow.Author.Needs.{needs}
 use Rattle.linear_programming.proofs.solve_linear_program.Statement.{statement}
 use Rattle.linear_programming.proofs.solve_linear_program.Tie as tie
@@ -53,12 +53,11 @@ unfolding listCall judgedList
 returns-3 c =
     let start = c .before .before .before .before .before .before .before .before .before in
     let xs = now (start .args .numbers) in
-    let lines = c .before .before .before .before .judge-lines .ensures ∙ ap linesFault (all-lines xs) in
     simp (
       four _ (c .before .before .before .before .before .before .before .if1 .left),
       few xs (c .before .before .before .before .before .before .if2 .left),
       ← c .before .before .before .before .before .judge-wish .ensures,
-      ← lines,
+      ← c .before .before .before .before .judge-lines .ensures,
       ← c .before .before .before .first-of .ensures,
       c .before .judged .given .1,
     )
@@ -74,13 +73,12 @@ unfolding listCall judgedList
 returns-4 c =
     let start = c .before .before .before .before .before .before .before .before .before in
     let xs = now (start .args .numbers) in
-    let lines = c .before .before .before .before .judge-lines .ensures ∙ ap linesFault (all-lines xs) in
     let whole = c .solve-from-start .ensures ∙ ap (λ (l : List Line). wholeList (start .args .rigid) (start .args .wish) (start .args .limit) l) (all-lines xs) in
     simp (
       four _ (c .before .before .before .before .before .before .before .if1 .left),
       few xs (c .before .before .before .before .before .before .if2 .left),
       ← c .before .before .before .before .before .judge-wish .ensures,
-      ← lines,
+      ← c .before .before .before .before .judge-lines .ensures,
       ← c .before .before .before .first-of .ensures,
       c .before .enum-told .given .1,
     )

@@ -9,8 +9,8 @@ use lib.Dec.{leb}
 use lib.ListN.{length}
 use lib.Ieee.{Float}
 use borrow.Author.Tests.{eq-eqb, ne-eqb, le-leb, lt-leb}
-use Rattle.linear_programming.specs.Lines.{linesOf}
-use Rattle.linear_programming.proofs.Rows.{count}
+use Rattle.lines.specs.Lines.{linesOf}
+use Rattle.lines.proofs.Rows.{count}
 use Rattle.session.specs.Batches.{batchFault}
 use borrow.Author.Needs.{needs}
 use Rattle.session.proofs.judge_batch.Statement.{statement}

@@ -8,9 +8,9 @@ use native.Mathlib.Numerals.{add-one}
 use denote.Ref.{now}
 use lib.ListN.{length, drop, getD, set, length-set, drop-of-length-le}
 use lib.Seq.{sets, drop-cons}
-use Rattle.linear_programming.specs.declared.Line.{Line}
-use Rattle.linear_programming.specs.Lines.{linesOf, offLine}
-use Rattle.linear_programming.proofs.Rows.{count}
+use Rattle.lines.specs.declared.Line.{Line}
+use Rattle.lines.specs.Lines.{linesOf, offLine}
+use Rattle.lines.proofs.Rows.{count}
 use borrow.Author.Needs.{needs}
 use Rattle.session.proofs.store.Statement.{statement}
 use Rattle.session.proofs.store.Tie as tie

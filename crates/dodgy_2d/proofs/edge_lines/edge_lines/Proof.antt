@@ -5,7 +5,7 @@ use native.Mathlib.Omega.{arith}
 use denote.Ref.{now}
 use lib.ListN.{length, take, drop}
 use Rattle.admission.specs.Faults.{fine}
-use Rattle.linear_programming.specs.Lines.{linesOf}
+use Rattle.lines.specs.Lines.{linesOf}
 use Rattle.obstacles.specs.Obstacles.{lines}
 use Rattle.dodgy_2d.specs.Scenes.{obstaclesFault}
 use Rattle.dodgy_2d.specs.Outcomes.{joined, edgeLines}

@@ -2,8 +2,8 @@
 use mathlib.Core.Path.{_≡_, ap, _∙_}
 use Prim.Native.Nat.{ℕ, _-_, _*_}
 use lib.ListN.{length, take}
-use Rattle.linear_programming.specs.Lines.{linesOf}
-use Rattle.linear_programming.specs.Admit.{linesFault}
+use Rattle.lines.specs.Lines.{linesOf}
+use Rattle.lines.specs.LineFaults.{linesFault}
 use Rattle.dodgy_2d.proofs.SceneFaults.{neighbours-there}
 use native.Mathlib.Omega.{arith}
 use borrow.Author.Tests.{le-leb, lt-leb}

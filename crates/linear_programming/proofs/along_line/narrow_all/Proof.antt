@@ -5,11 +5,11 @@ use mathlib.Core.List.{foldl}
 use native.Mathlib.Omega.{arith}
 use denote.Ref.{now}
 use lib.ListN.{take, drop}
-use Rattle.linear_programming.specs.Lines.{linesOf, offLine}
+use Rattle.lines.specs.Lines.{linesOf, offLine}
 use Rattle.linear_programming.specs.OneLine.{between, narrow}
-use Rattle.linear_programming.proofs.Fold.{fold-on, fold-stop, fold-done}
+use Rattle.lines.proofs.Fold.{fold-on, fold-stop, fold-done}
 use Rattle.linear_programming.proofs.OneLineLaws.{empty-stays, looked-on}
-use Rattle.linear_programming.proofs.Rows.{fits}
+use Rattle.lines.proofs.Rows.{fits}
 use borrow.Author.Needs.{needs}
 use Rattle.linear_programming.proofs.along_line.narrow_all.Statement.{statement}
 use Rattle.linear_programming.proofs.along_line.narrow_all.Tie as tie
@@ -24,8 +24,8 @@ abbrev μ-loop : tie.MeasureT-loop
 loop-holds : tie.Need-loop-holds Inv-loop μ-loop
 loop-holds c = (omega arith, refl, refl)
 
-line-of-requires : tie.Need-line-of-requires Inv-loop μ-loop
-line-of-requires c κs = search needs
+line-at-requires : tie.Need-line-at-requires Inv-loop μ-loop
+line-at-requires c κs = search needs
 
 narrow-by-requires : tie.Need-narrow-by-requires Inv-loop μ-loop
 narrow-by-requires c κs = search needs
@@ -40,7 +40,7 @@ returns : tie.Need-returns Inv-loop μ-loop
 returns c =
     let a = c .before .before .before .before .before .before .before .args in
     let l = c .before .before .before .before .before .loop in
-    let step = rw (c .enum-told .given .1, c .before .before .before .line-of .ensures) at (c .before .before .narrow-by .ensures) in
+    let step = rw (c .enum-told .given .1, c .before .before .before .line-at .ensures) at (c .before .before .narrow-by .ensures) in
     rw (c .enum-told .given .1) (sym (l .inv .2 ∙ fold-stop (narrow (a .line)) (linesOf (now (a .lines))) (a .count) (l .i) (fits (now (a .lines)) (a .count) (omega arith)) offLine (omega arith) (sym step) (empty-stays (a .line) _)))
 
 add-i : tie.Need-add-i Inv-loop μ-loop
@@ -53,7 +53,7 @@ loop-again : tie.Need-loop-again Inv-loop μ-loop
 loop-again c =
     let a = c .before .before .before .before .before .before .before .before .args in
     let l = c .before .before .before .before .before .before .loop in
-    let step = rw (c .before .interval .given .1, c .before .before .before .before .line-of .ensures) at (c .before .before .before .narrow-by .ensures) in (
+    let step = rw (c .before .interval .given .1, c .before .before .before .before .line-at .ensures) at (c .before .before .before .narrow-by .ensures) in (
       omega arith,
       omega (arith, looked-on _ _ _ _ _ _ _ _ step),
       l .inv .2 ∙ fold-on (narrow (a .line)) (linesOf (now (a .lines))) (a .count) (l .i) (fits (now (a .lines)) (a .count) (omega arith)) offLine (omega arith) (sym step),
@@ -72,7 +72,7 @@ narrow-all-spec =
     Inv-loop
     μ-loop
     loop-holds
-    line-of-requires
+    line-at-requires
     narrow-by-requires
     enum-known-interval
     enum-told

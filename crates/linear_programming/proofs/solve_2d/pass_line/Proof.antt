@@ -3,16 +3,16 @@ use Rattle.arithmetic.specs.Binary32.{if_then_else_}
 use native.Mathlib.Omega.{arith}
 use denote.Ref.{now}
 use lib.Seq.{length-take-le}
-use Rattle.linear_programming.specs.Lines.{linesOf}
+use Rattle.lines.specs.Lines.{linesOf}
 use Rattle.linear_programming.specs.Pass.{passLine}
-use Rattle.linear_programming.proofs.Rows.{fits}
+use Rattle.lines.proofs.Rows.{fits}
 use Rattle.linear_programming.proofs.Variants.{looked-most}
 use borrow.Author.Needs.{needs}
 use Rattle.linear_programming.proofs.solve_2d.pass_line.Statement.{statement}
 use Rattle.linear_programming.proofs.solve_2d.pass_line.Tie as tie
 
-line-of-requires : tie.Need-line-of-requires
-line-of-requires c κs = search needs
+line-at-requires : tie.Need-line-at-requires
+line-at-requires c κs = search needs
 
 sub-requires : tie.Need-sub-requires
 sub-requires c κs = search needs
@@ -25,7 +25,7 @@ add-t12 c = search needs
 
 returns : tie.Need-returns
 unfolding passLine if_then_else_
-returns c = simp (c .if1 .taken, ← c .before .determinant .ensures, ← c .before .before .sub .ensures, ← c .before .before .before .line-of .ensures)
+returns c = simp (c .if1 .taken, ← c .before .determinant .ensures, ← c .before .before .sub .ensures, ← c .before .before .before .line-at .ensures)
 
 solve-linear-program-along-line-requires : tie.Need-solve-linear-program-along-line-requires
 solve-linear-program-along-line-requires c κs = search needs
@@ -43,13 +43,13 @@ returns-2 : tie.Need-returns-2
 unfolding passLine if_then_else_
 returns-2 c =
     let a = c .before .before .before .before .before .before .before .args in
-    simp (length-take-le (a .index) (linesOf (now (a .lines))) (fits (now (a .lines)) (a .index) (omega arith)), ← c .after-solve .ensures, ← c .before .solve-linear-program-along-line .ensures, c .before .before .if1 .left, ← c .before .before .before .determinant .ensures, ← c .before .before .before .before .sub .ensures, ← c .before .before .before .before .before .line-of .ensures)
+    simp (length-take-le (a .index) (linesOf (now (a .lines))) (fits (now (a .lines)) (a .index) (omega arith)), ← c .after-solve .ensures, ← c .before .solve-linear-program-along-line .ensures, c .before .before .if1 .left, ← c .before .before .before .determinant .ensures, ← c .before .before .before .before .sub .ensures, ← c .before .before .before .before .before .line-at .ensures)
 
 pub pass-line-spec : {M : Type 1} → statement M
 pass-line-spec =
     tie.close
     (tie.spec
-    line-of-requires
+    line-at-requires
     sub-requires
     determinant-requires
     add-t12

@@ -6,10 +6,10 @@ use denote.Ref.{now as held}
 use lib.ListN.{take, drop}
 use lib.Seq.{length-take-le}
 use Rattle.linear_programming.specs.Walk.{walk}
-use Rattle.linear_programming.specs.Lines.{linesOf, offLine}
+use Rattle.lines.specs.Lines.{linesOf, offLine}
 use Rattle.linear_programming.specs.Pass.{now, passLine}
 use Rattle.linear_programming.specs.Read.{objectiveOf}
-use Rattle.linear_programming.proofs.Rows.{fits}
+use Rattle.lines.proofs.Rows.{fits}
 use Rattle.linear_programming.proofs.WalkLaws.{walk-on, walk-stop, walk-done}
 use Rattle.linear_programming.proofs.Variants.{ended-stays}
 use Rattle.linear_programming.proofs.Probes.{line-most}

@@ -4,9 +4,10 @@ use mathlib.Core.Path.{_≡_, refl, _∙_}
 use native.Mathlib.Omega.{arith}
 use denote.Ref.{now}
 use lib.ListN.{length, take}
-use Rattle.linear_programming.specs.Lines.{linesOf, offLine}
-use Rattle.linear_programming.proofs.Fold.{take-next, take-set-next}
-use Rattle.linear_programming.proofs.Rows.{fits}
+use Rattle.lines.specs.Lines.{linesOf, offLine}
+use Rattle.lines.proofs.Fold.{take-next, take-set-next}
+use Rattle.lines.proofs.Rows.{fits}
+use Rattle.lines.proofs.Stored.{stored-line}
 use borrow.Author.Needs.{needs}
 use Rattle.linear_programming.proofs.solve_3d.copy_rigid.Statement.{statement}
 use Rattle.linear_programming.proofs.solve_3d.copy_rigid.Tie as tie
@@ -20,11 +21,11 @@ abbrev μ-loop : tie.MeasureT-loop
 loop-holds : tie.Need-loop-holds Inv-loop μ-loop
 loop-holds c = (search needs, search needs, refl)
 
-line-of-requires : tie.Need-line-of-requires Inv-loop μ-loop
-line-of-requires c κs = search needs
+line-at-requires : tie.Need-line-at-requires Inv-loop μ-loop
+line-at-requires c κs = search needs
 
-put-requires : tie.Need-put-requires Inv-loop μ-loop
-put-requires c κs = search needs
+put-line-requires : tie.Need-put-line-requires Inv-loop μ-loop
+put-line-requires c κs = search needs
 
 add-n : tie.Need-add-n Inv-loop μ-loop
 add-n c = search needs
@@ -39,8 +40,8 @@ loop-again c =
     let h : l .n < length (linesOf b) = omega (arith, fits b (l .n + 1) (omega arith)) in
     let k : l .n < length (linesOf (l .tight)) = omega (arith, fits (l .tight) 255 (omega arith)) in (
       omega arith,
-      c .before .before .put .ensures .0 ∙ l .inv .1,
-      rw (c .before .before .put .ensures .1, take-set-next (linesOf (l .tight)) (l .n) k (c .before .before .before .line-of .result), take-next (linesOf b) (l .n) h offLine, c .before .before .before .line-of .ensures, l .inv .2),
+      c .before .before .put-line .kept .0 ∙ l .inv .1,
+      rw (c .before .before .put-line .ensures, stored-line (l .tight) (l .n) _ (omega arith), take-set-next (linesOf (l .tight)) (l .n) k (c .before .before .before .line-at .result), take-next (linesOf b) (l .n) h offLine, c .before .before .before .line-at .ensures, l .inv .2),
     )
 
 same-length : tie.Need-same-length Inv-loop μ-loop
@@ -58,8 +59,8 @@ copy-rigid-spec =
     Inv-loop
     μ-loop
     loop-holds
-    line-of-requires
-    put-requires
+    line-at-requires
+    put-line-requires
     add-n
     loop-less
     loop-again

@@ -6,17 +6,17 @@ use denote.Ref.{now}
 use lib.ListN.{length-take}
 use lib.Seq.{length-take-le}
 use Rattle.arithmetic.specs.Binary32.{if_then_else_}
-use Rattle.linear_programming.specs.Lines.{linesOf}
+use Rattle.lines.specs.Lines.{linesOf}
 use Rattle.linear_programming.specs.Relax.{relaxLine}
 use Rattle.linear_programming.proofs.Probes.{inner-most}
-use Rattle.linear_programming.proofs.Rows.{fits}
+use Rattle.lines.proofs.Rows.{fits}
 use Rattle.linear_programming.proofs.TightLaws.{least-rigid}
 use borrow.Author.Needs.{needs}
 use Rattle.linear_programming.proofs.solve_3d.relax_line.Statement.{statement}
 use Rattle.linear_programming.proofs.solve_3d.relax_line.Tie as tie
 
-line-of-requires : tie.Need-line-of-requires
-line-of-requires c κs = search needs
+line-at-requires : tie.Need-line-at-requires
+line-at-requires c κs = search needs
 
 depth-in-requires : tie.Need-depth-in-requires
 depth-in-requires c κs = search needs
@@ -26,7 +26,7 @@ add-t14 c = search needs
 
 returns : tie.Need-returns
 unfolding relaxLine if_then_else_
-returns c = simp (c .if1 .taken, ← c .before .depth-in .ensures, ← c .before .before .line-of .ensures)
+returns c = simp (c .if1 .taken, ← c .before .depth-in .ensures, ← c .before .before .line-at .ensures)
 
 least-requires : tie.Need-least-requires
 least-requires c κs = search needs
@@ -65,14 +65,14 @@ returns-2 c =
       ← list,
       c .before .before .before .before .before .before .before .if1 .left,
       ← c .before .before .before .before .before .before .before .before .depth-in .ensures,
-      ← c .before .before .before .before .before .before .before .before .before .line-of .ensures,
+      ← c .before .before .before .before .before .before .before .before .before .line-at .ensures,
     )
 
 pub relax-line-spec : {M : Type 1} → statement M
 relax-line-spec =
     tie.close
     (tie.spec
-    line-of-requires
+    line-at-requires
     depth-in-requires
     add-t14
     returns

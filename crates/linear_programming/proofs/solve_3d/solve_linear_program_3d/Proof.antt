@@ -7,9 +7,9 @@ use denote.Ref.{now}
 use lib.ListN.{take, drop}
 use lib.Seq.{length-take-le}
 use Rattle.linear_programming.specs.Walk.{walk}
-use Rattle.linear_programming.specs.Lines.{linesOf, offLine}
+use Rattle.lines.specs.Lines.{linesOf, offLine}
 use Rattle.linear_programming.specs.Relax.{on, relaxLine}
-use Rattle.linear_programming.proofs.Rows.{fits}
+use Rattle.lines.proofs.Rows.{fits}
 use Rattle.linear_programming.proofs.WalkLaws.{walk-on, walk-stop, walk-done}
 use Rattle.linear_programming.proofs.TightLaws.{turned-stays}
 use Rattle.linear_programming.proofs.Probes.{relax-most}

@@ -7,11 +7,12 @@ use native.Mathlib.Omega.{arith}
 use denote.Ref.{now}
 use lib.ListN.{length, take, drop}
 use lib.Seq.{take-take}
-use Rattle.linear_programming.specs.Lines.{linesOf, offLine}
+use Rattle.lines.specs.Lines.{linesOf, offLine}
 use Rattle.linear_programming.specs.Relax.{tightenNext, tightened}
-use Rattle.linear_programming.proofs.Fold.{fold-on, fold-done, take-set-next}
-use Rattle.linear_programming.proofs.Rows.{fits}
+use Rattle.lines.proofs.Fold.{fold-on, fold-done, take-set-next}
+use Rattle.lines.proofs.Rows.{fits}
 use Rattle.linear_programming.proofs.TightLaws.{next-kept, next-skipped}
+use Rattle.lines.proofs.Stored.{stored-line}
 use borrow.Author.Needs.{needs}
 use Rattle.linear_programming.proofs.solve_3d.tighten_into.Statement.{statement}
 use Rattle.linear_programming.proofs.solve_3d.tighten_into.Tie as tie
@@ -37,8 +38,8 @@ loop-holds c =
       rw (take-take (a .rigid) (a .index) (linesOf (now (a .lines))) (omega arith), c .before .before .copy-rigid .ensures .1),
     )
 
-line-of-requires : tie.Need-line-of-requires Inv-loop μ-loop
-line-of-requires c κs = search needs
+line-at-requires : tie.Need-line-at-requires Inv-loop μ-loop
+line-at-requires c κs = search needs
 
 add-i : tie.Need-add-i Inv-loop μ-loop
 add-i c = search needs
@@ -49,8 +50,8 @@ tighten-requires c κs = search needs
 enum-known-line : tie.Need-enum-known-line Inv-loop μ-loop
 enum-known-line c = search needs
 
-put-requires : tie.Need-put-requires Inv-loop μ-loop
-put-requires c κs = search needs
+put-line-requires : tie.Need-put-line-requires Inv-loop μ-loop
+put-line-requires c κs = search needs
 
 add-n : tie.Need-add-n Inv-loop μ-loop
 add-n c = search needs
@@ -66,13 +67,13 @@ loop-again c =
     let few = c .before .before .before .before .before .before .before .before .before .before .before .before .before .before .before .before .before .pre .1 in
     let all = c .before .before .before .before .before .before .before .before .before .before .before .before .before .before .before .before .before .pre .2 in
     let k : l .n < length (linesOf (l .tight)) = omega (arith, fits (l .tight) 255 (omega arith)) in
-    let made = rw (c .before .before .before .before .before .line .given .1, c .before .before .before .before .before .before .before .before .line-of .ensures) at (c .before .before .before .before .before .before .before .tighten .ensures) in (
+    let made = rw (c .before .before .before .before .before .line .given .1, c .before .before .before .before .before .before .before .before .line-at .ensures) at (c .before .before .before .before .before .before .before .tighten .ensures) in (
       omega arith,
       omega arith,
-      c .before .before .put .ensures .0 ∙ l .inv .2,
+      c .before .before .put-line .kept .0 ∙ l .inv .2,
       l .inv .3
           ∙ fold-on (tightenNext (a .constraint)) (linesOf b) (a .index) (l .i) (fits b (a .index) (omega arith)) offLine (omega arith)
-          (next-kept _ _ _ _ made ∙ rw (c .before .before .put .ensures .1, take-set-next (linesOf (l .tight)) (l .n) k)),
+          (next-kept _ _ _ _ made ∙ rw (c .before .before .put-line .ensures, stored-line (l .tight) (l .n) _ (omega arith), take-set-next (linesOf (l .tight)) (l .n) k)),
     )
 
 enum-told : tie.Need-enum-told Inv-loop μ-loop
@@ -86,7 +87,7 @@ loop-again-2 c =
     let a = c .before .before .before .before .before .before .before .before .before .before .before .before .args in
     let l = c .before .before .before .before .before .loop in
     let b = now (a .lines) in
-    let made = rw (c .enum-told .given .1, c .before .before .before .line-of .ensures) at (c .before .before .tighten .ensures) in (
+    let made = rw (c .enum-told .given .1, c .before .before .before .line-at .ensures) at (c .before .before .tighten .ensures) in (
       omega arith,
       omega arith,
       l .inv .2,
@@ -111,11 +112,11 @@ tighten-into-spec =
     μ-loop
     copy-rigid-requires
     loop-holds
-    line-of-requires
+    line-at-requires
     add-i
     tighten-requires
     enum-known-line
-    put-requires
+    put-line-requires
     add-n
     loop-less
     loop-again

@@ -3,7 +3,7 @@ use denote.Ref.{now}
 use lib.Seq.{take-take}
 use borrow.Author.Tests.{lt-ltb, le-ltb}
 use Rattle.arithmetic.specs.Binary32.{if_then_else_}
-use Rattle.linear_programming.specs.Lines.{linesOf}
+use Rattle.lines.specs.Lines.{linesOf}
 use Rattle.linear_programming.specs.Whole.{afterPass}
 use borrow.Author.Needs.{needs}
 use Rattle.linear_programming.proofs.solve_list.after_pass.Statement.{statement}

@@ -3,9 +3,10 @@ use Prim.Native.Nat.{_-_, _≤_, _<_}
 use mathlib.Core.Path.{_≡_, refl, _∙_}
 use native.Mathlib.Omega.{arith}
 use lib.ListN.{length, take}
-use Rattle.linear_programming.specs.Lines.{linesOf, offLine}
-use Rattle.linear_programming.proofs.Fold.{take-next, take-set-next}
-use Rattle.linear_programming.proofs.Rows.{fits}
+use Rattle.lines.specs.Lines.{linesOf, offLine}
+use Rattle.lines.proofs.Fold.{take-next, take-set-next}
+use Rattle.lines.proofs.Rows.{fits}
+use Rattle.lines.proofs.Stored.{stored-line}
 use borrow.Author.Needs.{needs}
 use Rattle.linear_programming.proofs.solve_list.lay.Statement.{statement}
 use Rattle.linear_programming.proofs.solve_list.lay.Tie as tie
@@ -19,14 +20,14 @@ abbrev μ-loop : tie.MeasureT-loop
 loop-holds : tie.Need-loop-holds Inv-loop μ-loop
 loop-holds c = (search needs, search needs, refl)
 
-mul-put : tie.Need-mul-put Inv-loop μ-loop
-mul-put c = search needs
+mul-put-line : tie.Need-mul-put-line Inv-loop μ-loop
+mul-put-line c = search needs
 
-array-copy-out-put : tie.Need-array-copy-out-put Inv-loop μ-loop
-array-copy-out-put c = search needs
+array-copy-out-put-line : tie.Need-array-copy-out-put-line Inv-loop μ-loop
+array-copy-out-put-line c = search needs
 
-put-requires : tie.Need-put-requires Inv-loop μ-loop
-put-requires c κs = search needs
+put-line-requires : tie.Need-put-line-requires Inv-loop μ-loop
+put-line-requires c κs = search needs
 
 add-n : tie.Need-add-n Inv-loop μ-loop
 add-n c = search needs
@@ -39,8 +40,8 @@ loop-again c =
     let l = c .before .before .before .before .before .before .loop in
     let k : l .n < length (linesOf (l .numbers)) = omega (arith, fits (l .numbers) 256 (omega arith)) in (
       omega arith,
-      c .before .before .put .ensures .0 ∙ l .inv .1,
-      rw (c .before .before .put .ensures .1, take-set-next (linesOf (l .numbers)) (l .n) k, take-next (c .before .before .before .before .before .before .before .before .args .t1) (l .n) (omega arith) offLine, l .inv .2),
+      c .before .before .put-line .kept .0 ∙ l .inv .1,
+      rw (c .before .before .put-line .ensures, stored-line (l .numbers) (l .n) _ (omega arith), take-set-next (linesOf (l .numbers)) (l .n) k, take-next (c .before .before .before .before .before .before .before .before .args .t1) (l .n) (omega arith) offLine, l .inv .2),
     )
 
 same-length : tie.Need-same-length Inv-loop μ-loop
@@ -58,9 +59,9 @@ lay-spec =
     Inv-loop
     μ-loop
     loop-holds
-    mul-put
-    array-copy-out-put
-    put-requires
+    mul-put-line
+    array-copy-out-put-line
+    put-line-requires
     add-n
     loop-less
     loop-again

@@ -6,11 +6,11 @@ use native.Mathlib.Omega.{arith}
 use denote.Ref.{now}
 use lib.ListN.{length, length-append, take, drop, take-append-drop}
 use lib.Seq.{length-take-le, take-take}
-use Rattle.linear_programming.specs.declared.Line.{Line}
-use Rattle.linear_programming.specs.Lines.{linesOf}
+use Rattle.lines.specs.declared.Line.{Line}
+use Rattle.lines.specs.Lines.{linesOf}
 use Rattle.linear_programming.specs.Resume.{resumed}
 use Rattle.linear_programming.proofs.PassLaws.{pass-bounds}
-use Rattle.linear_programming.proofs.Rows.{fits}
+use Rattle.lines.proofs.Rows.{fits}
 use borrow.Author.Needs.{needs}
 use Rattle.linear_programming.proofs.solve_list.resume.Statement.{statement}
 use Rattle.linear_programming.proofs.solve_list.resume.Tie as tie

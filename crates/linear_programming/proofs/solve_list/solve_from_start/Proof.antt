@@ -3,7 +3,7 @@ use mathlib.Core.List.{[]}
 use denote.Ref.{now}
 use lib.ListN.{take}
 use Rattle.arithmetic.specs.Binary32.{if_then_else_}
-use Rattle.linear_programming.specs.Lines.{linesOf}
+use Rattle.lines.specs.Lines.{linesOf}
 use Rattle.linear_programming.specs.OneLine.{toward}
 use Rattle.linear_programming.specs.Pass.{judged, pass}
 use Rattle.linear_programming.specs.Whole.{afterPass, wholeList}

@@ -4,8 +4,8 @@ use mathlib.Core.Path.{_≡_, refl, sym, _∙_}
 use native.Mathlib.Omega.{arith}
 use denote.Ref.{now}
 use lib.ListN.{length, drop}
-use Rattle.linear_programming.specs.Lines.{linesOf, offLine}
-use Rattle.linear_programming.proofs.Rows.{count}
+use Rattle.lines.specs.Lines.{linesOf, offLine}
+use Rattle.lines.proofs.Rows.{count}
 use Rattle.obstacles.specs.Cover.{isEdgeCovered}
 use Rattle.obstacles.proofs.Covered.{covered-at, covered-on, covered-done}
 use borrow.Author.Needs.{needs}

@@ -1,17 +1,18 @@
 -- `obstacles::obstacle::add_edges` meets its contract. The invariant: the lines of the first i edges stand in the numbers, blank behind them. Assumes nothing.
-use Prim.Native.Nat.{_-_, _*_, _/_, _≤_, _<_}
+use Prim.Native.Nat.{_+_, _-_, _*_, _/_, _≤_, _<_}
 use mathlib.Core.Path.{_≡_, refl, sym, ap, _∙_}
 use native.Mathlib.Omega.{arith}
 use native.Mathlib.Nat.{sub-zero}
 use denote.Ref.{now}
 use lib.ListN.{length, take}
-use Rattle.linear_programming.specs.Lines.{linesOf}
+use Rattle.lines.specs.Lines.{linesOf}
 use Rattle.obstacles.specs.Vertices.{verticesOf}
 use Rattle.obstacles.specs.Obstacles.{lines as standing, linesUpTo, edgeCount, obstacleLines}
 use Rattle.obstacles.specs.Read.{answerAs}
 use Rattle.obstacles.proofs.EdgesInOrder.{add-kept, add-nothing, add-refused}
 use Rattle.obstacles.proofs.Filled.{Filled, blank-long, filled-none, filled-next, filled-answer}
-use Rattle.obstacles.proofs.Numbers.{stored-lines}
+use Rattle.lines.proofs.Numbers.{stored-lines}
+use Rattle.lines.proofs.Stored.{stored-sets}
 use borrow.Author.Needs.{needs}
 use Rattle.obstacles.proofs.obstacle.add_edges.Statement.{statement}
 use Rattle.obstacles.proofs.obstacle.add_edges.Tie as tie
@@ -52,8 +53,8 @@ add-i c = omega (arith, c .before .before .before .before .before .edge-count .e
 enum-known-admitted : tie.Need-enum-known-admitted Inv-loop μ-loop
 enum-known-admitted c = search needs
 
-put-requires : tie.Need-put-requires Inv-loop μ-loop
-put-requires c κs = omega (arith, c .before .before .before .before .before .before .before .before .before .edge-count .ensures .1, c .before .before .before .before .before .before .before .before .before .before .before .before .pre .0, c .before .before .before .before .before .before .before .before .loop .inv .2 .size)
+put-line-requires : tie.Need-put-line-requires Inv-loop μ-loop
+put-line-requires c κs = search needs
 
 add-count : tie.Need-add-count Inv-loop μ-loop
 add-count c = omega (arith, c .before .before .before .before .before .before .before .before .before .before .before .before .edge-count .ensures .1, c .before .before .before .before .before .before .before .before .before .before .before .before .before .before .before .pre .0)
@@ -68,11 +69,12 @@ loop-again c =
     let n = length (now (a .vertices)) / 2 in
     let few : l .count < 64 = omega (arith, c .before .before .before .before .before .before .before .before .before .before .before .before .edge-count .ensures .1, c .before .before .before .before .before .before .before .before .before .before .before .before .before .before .before .pre .0) in
     let made = rw (c .before .before .before .before .before .admitted .given .1, sub-zero) at (c .before .before .before .before .before .before .before .admitted-line .ensures) in
-    let stored = c .before .before .put .ensures in (
+    let room : 4 * l .count + 4 ≤ length (l .lines) = omega (arith, l .inv .2 .size) in
+    let stored = c .before .before .put-line .ensures ∙ stored-sets (l .lines) (l .count) _ room in (
       omega arith,
       omega arith,
       rw stored (filled-next (l .lines) (l .count) _ few (l .inv .2)),
-      rw (stored, stored-lines (l .lines) (l .count) _ (omega (arith, l .inv .2 .size))) (add-kept (a .agent) (a .kind) n (verticesOf (now (a .vertices))) (a .margin) (a .horizon) (l .i) _ _ (l .inv .3) made),
+      rw (stored, stored-lines (l .lines) (l .count) _ room) (add-kept (a .agent) (a .kind) n (verticesOf (now (a .vertices))) (a .margin) (a .horizon) (l .i) _ _ (l .inv .3) made),
     )
 
 enum-told : tie.Need-enum-told Inv-loop μ-loop
@@ -131,7 +133,7 @@ add-edges-spec =
     admitted-line-requires
     add-i
     enum-known-admitted
-    put-requires
+    put-line-requires
     add-count
     loop-less
     loop-again

@@ -5,7 +5,8 @@ use native.Mathlib.Nat.{sub-zero}
 use native.Mathlib.Omega.{arith}
 use denote.Ref.{now}
 use lib.ListN.{length}
-use Rattle.obstacles.specs.Read.{fourOf}
+use Rattle.lines.specs.Lines.{fourOf}
+use Rattle.lines.proofs.Stored.{stored-sets}
 use Rattle.scene_records.specs.Parts.{neighbour, neighbours, stored}
 use Rattle.scene_records.specs.Steps.{from}
 use Rattle.scene_records.proofs.StoredLaws.{stored-done, stored-next}
@@ -27,8 +28,8 @@ loop-holds c = (omega arith, refl, rw sub-zero)
 line-at-requires : tie.Need-line-at-requires Inv-loop μ-loop
 line-at-requires c κs = search needs
 
-put-requires : tie.Need-put-requires Inv-loop μ-loop
-put-requires c κs = omega (arith, c .before .before .before .loop .inv .1, c .before .before .before .before .before .before .pre)
+put-line-requires : tie.Need-put-line-requires Inv-loop μ-loop
+put-line-requires c κs = search needs
 
 add-i : tie.Need-add-i Inv-loop μ-loop
 add-i c = search needs
@@ -41,9 +42,9 @@ unfolding neighbours
 loop-again c =
     let l = c .before .before .before .before .before .before .loop in
     let a = c .before .before .before .before .before .before .before .before .before .args in
-    let put = c .before .before .put .ensures in (
+    let put = c .before .before .put-line .ensures ∙ stored-sets (l .lines) (l .i) _ (omega (arith, l .inv .1, c .before .before .before .before .before .before .before .before .before .pre)) in (
       omega arith,
-      omega (arith, c .before .before .put .kept .0, l .inv .1),
+      omega (arith, c .before .before .put-line .kept .0, l .inv .1),
       l .inv .2 ∙ stored-next fourOf 4 (λ v. refl) (neighbour (now (a .bytes))) _ _ _ _ _ _ _ (a .count) (l .i) (c .before .before .before .before .before .loop-test .taken) (c .before .before .before .before .line-at .ensures) put (omega arith),
     )
 
@@ -62,7 +63,7 @@ store-lines-spec =
     μ-loop
     loop-holds
     line-at-requires
-    put-requires
+    put-line-requires
     add-i
     loop-less
     loop-again

@@ -1,15 +1,14 @@
 -- Lines as numbers, four a line: there and back, and one line more behind those that stand. Assumes nothing.
-use Prim.Native.Nat.{ℕ, zero, suc, _+_, _-_, _*_, _%_, _≤_}
+use Prim.Native.Nat.{ℕ, _+_, _*_, _%_, _≤_}
 use mathlib.Core.Path.{_≡_, refl, sym, ap, _∙_}
 use mathlib.Core.List.{List, [], _∷_, _++_}
 use native.Mathlib.Omega.{arith}
-use lib.ListN.{length, take, drop, replicate, length-append}
+use lib.ListN.{length, take, drop, length-append}
 use lib.Seq.{sets, sets-eq, take-at, drop-at, drop-drop, length-take-le}
 use lib.Ieee.{Float}
-use Rattle.linear_programming.specs.declared.Line.{Line}
-use Rattle.linear_programming.specs.Lines.{linesOf}
-use Rattle.linear_programming.proofs.Rows.{lines-append}
-use Rattle.obstacles.specs.Read.{fourOf, numbersOf}
+use Rattle.lines.specs.declared.Line.{Line}
+use Rattle.lines.specs.Lines.{linesOf, fourOf, numbersOf}
+use Rattle.lines.proofs.Rows.{lines-append}
 
 pub numbers-back : (b : List Float) → length b % 4 ≡ 0 → numbersOf (linesOf b) ≡ b
 unfolding numbersOf linesOf
@@ -28,17 +27,6 @@ pub numbers-long : (ls : List Line) → length (numbersOf ls) ≡ 4 * length ls
 unfolding numbersOf
 numbers-long [] = refl
 numbers-long (l ∷ ls) = let h = numbers-long ls in omega arith
-
-pub drop-replicate : {A : Type 0} (k n : ℕ) (x : A) → drop k (replicate n x) ≡ replicate (n - k) x
-drop-replicate zero n x =
-    let e : n ≡ n - 0 = omega arith in
-    ap (λ (m : ℕ). replicate m x) e
-drop-replicate (suc k) zero x =
-    let e : 0 ≡ 0 - suc k = omega arith in
-    ap (λ (m : ℕ). replicate m x) e
-drop-replicate (suc k) (suc n) x =
-    let e : n - k ≡ suc n - suc k = omega arith in
-    drop-replicate k n x ∙ ap (λ (m : ℕ). replicate m x) e
 
 -- ---- one line stored behind the first n
 module _ (b : List Float) (n : ℕ) (l : Line) (fits : 4 * n + 4 ≤ length b) where

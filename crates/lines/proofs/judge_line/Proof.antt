@@ -1,8 +1,8 @@
--- `linear_programming::judge::judge_line` meets its contract. Assumes nothing.
-use Rattle.linear_programming.specs.Admit.{lineFault}
+-- `lines::judge_line` meets its contract. Assumes nothing.
+use Rattle.lines.specs.LineFaults.{lineFault}
 use borrow.Author.Needs.{needs}
-use Rattle.linear_programming.proofs.judge.judge_line.Statement.{statement}
-use Rattle.linear_programming.proofs.judge.judge_line.Tie as tie
+use Rattle.lines.proofs.judge_line.Statement.{statement}
+use Rattle.lines.proofs.judge_line.Tie as tie
 
 is-within-requires : tie.Need-is-within-requires
 is-within-requires c κs = search needs

@@ -8,8 +8,8 @@ use lib.ListN.{length, take, getD, set}
 use lib.Seq.{take-length}
 use lib.Ieee.{Float, nan}
 use Rattle.common.specs.Vectors.{vec}
-use Rattle.linear_programming.specs.declared.Line.{Line}
-use Rattle.linear_programming.specs.Lines.{line, offLine, linesOf}
+use Rattle.lines.specs.declared.Line.{Line}
+use Rattle.lines.specs.Lines.{line, offLine, linesOf}
 
 pub fits : (b : List Float) (n : ℕ) → 4 * n ≤ length b → n ≤ length (linesOf b)
 unfolding linesOf
