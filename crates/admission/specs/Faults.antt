@@ -22,10 +22,11 @@ abbrev pub _⊳_ : Fault → Fault → Fault
 fine ⊳ f = f
 fault r ⊳ f = fault r
 
--- "Ends are admitted"; a NaN or an infinity is not
+-- "Ends are admitted"; a NaN is not, nor an infinity where the bound is finite
 unfoldable pub within : Float → Float → Bool
 within bound x = absOf x ≤ᶠ bound
 
+-- from low to high, both admitted
 unfoldable pub inside : Float → Float → Float → Bool
 inside low high x = low ≤ᶠ x && x ≤ᶠ high
 

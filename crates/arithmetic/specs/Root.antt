@@ -7,7 +7,8 @@ use lib.Dec.{T, leb}
 use lib.Ieee.{Float, nan, inf, fin, binary32, up, down, ofBits, toBits}
 use lib.Ieee.Positive.{positive}
 
--- 01's N(y): y * 2 ^ 149, which is whole for every finite `f32`; 0 for a NaN and an infinity
+-- 01's N(y) for y not below 0: y * 2 ^ 149, which is whole for every finite `f32`. The sign is dropped, since only positive numbers are counted; 0 for a NaN
+-- and an infinity
 unfoldable pub count : Float → ℕ
 count nan = 0
 count (inf s) = 0

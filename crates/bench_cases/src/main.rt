@@ -1,4 +1,4 @@
-// Runs 01's bench cases, P1 to P12, through the code: the cases that proofs/Table.antt claims of the definitions. A case that is wrong is told by its number.
+// Runs 01's bench cases, P1 to P12 and the limits of its last row, through the code: the cases that proofs/Table.antt claims of the definitions. A case that is wrong is told by its number.
 use admission::Judged;
 use common::Vec2;
 use linear_programming::Answer;
@@ -61,7 +61,7 @@ fn is_refused(answer: Answer, number: u8) -> bool {
 
 // ---- lists
 
-// The lists' limit, and the wish of most of them.
+// A list solved with limit 2 and wish (0, 0), as 01 has them unless said.
 fn solved(numbers: &[f32], rigid: usize) -> Answer {
     linear_programming::solve_linear_program(numbers, rigid, 2.0, Vec2::ZERO)
 }
@@ -119,6 +119,7 @@ fn fill(numbers: &mut [f32])
     }
 }
 
+// 01's last row, told as 256, 257, 1024 and, for the next f32 above it, 1025.
 fn limits(t: Tally) -> Tally {
     let mut numbers = [0.0f32; 1028];
     fill(&mut numbers);

@@ -106,7 +106,8 @@ impl Vec2 {
         self.sub(b).length_squared()
     }
 
-    // The vector times 1 / length. Where the squared length is or rounds to 0 that is no unit vector: infinities or NaNs.
+    // The vector times 1 / length. Where the squared length is or rounds to 0 that is no unit vector: infinities or NaNs;
+    // where it is infinite, finite components become zeros.
     pub fn normalize(self) -> Vec2
         ensures { λ r. ⌜ r ≡ normalizeOf self ⌝ }
     {

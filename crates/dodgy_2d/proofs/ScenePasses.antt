@@ -108,7 +108,7 @@ scene-fair s velocity e = edges-fair _ (s .margin) (s .horizon) (s .vertices) (s
 few-neighbours : (s : Scene) → s .neighbours ≤ 64 → length (neighboursIn s) ≤ 64
 few-neighbours s h = rw length-take (omega arith)
 
--- "At most 192 + 64 = 256 lines", and so every total of probes fits
+-- at most 192 obstacle lines and 64 neighbour lines, 256 together, and so every total of probes fits
 solved-fits : (s : Scene) (a : Answer) → s .neighbours ≤ 64 → Fair 192 a → {ph : Phase} {f : Failed} {n : ℕ} → solvedOver (s .wish) (s .limit) (neighboursIn s) a ≡ stands ph f n → n ≤ 16777216
 solved-fits s (lines l) few (fair short all) e =
     let k = few-neighbours s few in

@@ -69,14 +69,14 @@ isKind k = eqb k 1 || eqb k 2
 unfoldable pub roomFor : ℕ → ℕ → Bool
 roomFor total count = leb count 64 && leb (total + count) 192
 
--- "neither 1 (closed) nor 2 (open)": 3; "64 vertices each, 192 together": 4; "open obstacle with no vertices": 5; then the vertices
+-- "neither 1 (closed) nor 2 (open)": 3; "64 vertices each, 192 together": 4; "open obstacle with no vertices": 5
 unfoldable pub headFault : ℕ → Head → Fault
 headFault total h =
     must (isKind (h .kind)) 3
     ⊳ must (roomFor total (h .count)) 4
     ⊳ must (not (isEmptyOpen (h .kind) (h .count))) 5
 
--- the running total of vertices stands before each obstacle
+-- each obstacle's head, behind the running total of vertices, then its own vertices, then the obstacles behind it
 unfoldable pub obstaclesFault : ℕ → List Head → List Float → Fault
 obstaclesFault total [] xs = fine
 obstaclesFault total (h ∷ hs) xs =

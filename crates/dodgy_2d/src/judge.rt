@@ -6,6 +6,7 @@ use admission::first_of;
 use admission::is_inside;
 use admission::is_within;
 use common::Vec2;
+use obstacles::ObstacleLines;
 ghost use mathlib.Core.Path.{_≡_};
 ghost use Prim.Native.Nat.{_+_, _*_, _≤_, _<_};
 ghost use lib.ListN.{length, take, drop};
@@ -66,20 +67,20 @@ fn judge_numbers(numbers: &[f32], from: usize, to: usize) -> Judged
 fn is_kind(kind: u8) -> bool
     ensures { λ r. ⌜ r ≡ isKind kind ⌝ }
 {
-    kind == 1 || kind == 2
+    kind == ObstacleLines::CLOSED || kind == ObstacleLines::OPEN
 }
 
 fn has_room(total: usize, count: usize) -> bool
     requires { ⌜ (total ≤ 192) × (count < 256) ⌝ }
     ensures { λ r. ⌜ r ≡ roomFor total count ⌝ }
 {
-    count <= 64 && total + count <= Scene::MOST_VERTICES
+    count <= ObstacleLines::MOST && total + count <= Scene::MOST_VERTICES
 }
 
 fn is_empty_open(kind: u8, count: usize) -> bool
     ensures { λ r. ⌜ r ≡ isEmptyOpen kind count ⌝ }
 {
-    kind == 2 && count == 0
+    kind == ObstacleLines::OPEN && count == 0
 }
 
 // An obstacle's kind (3), its count with the vertices before it (4), open with no vertices (5).

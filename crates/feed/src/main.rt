@@ -30,7 +30,8 @@ fn end(output: &mut [u8], have: usize) -> Carry {
     Carry::CLOSED
 }
 
-// One read, the answers to what it made whole, and one write. An output that is closed or fails ends it.
+// One read, the answers to what it made whole, and one write. An output that is closed or fails ends it; a read that
+// fails is the end of the input, too.
 fn turn(input: &mut [u8], output: &mut [u8], carry: Carry) -> Carry {
     let have = carry.have;
     if input.len() < have {
@@ -52,6 +53,7 @@ fn turn(input: &mut [u8], output: &mut [u8], carry: Carry) -> Carry {
     }
 }
 
+// Turn behind turn until one closes. The count only bounds the loop.
 fn turns(input: &mut [u8], output: &mut [u8]) {
     let mut carry = Carry::START;
     let mut left = u64::MAX;
@@ -64,7 +66,8 @@ fn turns(input: &mut [u8], output: &mut [u8]) {
     }
 }
 
-// Each read asks for 64 KiB behind a record cut short, of which at most 2,632 bytes are there. An answer has at most two bytes for each of its record.
+// Each read asks for 64 KiB behind a record cut short, of which at most 2,632 bytes are there. An answer has at most two bytes for each of its
+// record, and 18 more are room enough (RoomLaws of `records`).
 fn main() {
     let mut input = [0u8; 68168];
     let mut output = [0u8; 136354];

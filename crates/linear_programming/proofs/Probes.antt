@@ -1,5 +1,5 @@
 -- How many probes the rules count at most: in a 2D pass over n lines n(n+1)/2, in one that never fails at least n; in relaxation at most 32,896 a line.
--- So every total fits 32 bits. Assumes nothing.
+-- WholeProbes draws the totals from these. Assumes nothing.
 use Prim.Native.Nat.{ℕ, _+_, _*_, _≤_}
 use mathlib.Core.Path.{_≡_}
 use mathlib.Core.List.{List, [], _∷_, _++_}

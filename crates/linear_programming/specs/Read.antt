@@ -85,7 +85,7 @@ indexOf (lp2d.Feasible p n) = 0
 indexOf (lp2d.Infeasible f p n) = f .index
 indexOf (lp2d.Refused r) = 0
 
--- ---- and back: the enum that says a phase, a failed line, an outcome, a fault
+-- ---- and back: the enum that says a phase, a failed line, an outcome
 
 abbrev pub phaseAs : Phase → PhaseCode
 phaseAs (solving p) = phase.Solving (p .x) (p .y)

@@ -55,7 +55,8 @@ tightenNext own made prev = behind made (tighten own prev)
 unfoldable pub tightened : ℕ → Line → List Line → List Line
 tightened rigid own earlier = foldl (tightenNext own) (take rigid earlier) (drop rigid earlier)
 
--- the probes of building that list: none
+-- the probes of building that list: 01 counts none, since a probe is a comparison with the point now or an earlier line looked at in a one-line solve. One
+-- definition, so that T-05 changes one place
 abbrev pub buildProbes : ℕ → List Line → ℕ
 buildProbes rigid earlier = 0
 

@@ -76,7 +76,8 @@ pub enum Answer {
 
 // Solves a list of lines that is lent as numbers, four a line: the value nearest to the wish within the limit and the lines, the ones behind the
 // first `rigid` relaxed where they cannot all be met. Refused, in this order: numbers that are no whole lines (2), too many lines (4),
-// a wish or limit out of range (6), a line (6, 7), a starting point that is not finite (9), the solve itself (8, 9).
+// a wish or limit out of range (6), a line (6, 7), a starting point that is not finite (9), the solve itself (8, 9). The last two
+// stand in 01's order, but no admitted list meets them (proofs/Bounds/Told).
 pub fn solve_linear_program(numbers: &[f32], rigid: usize, limit: f32, wish: Vec2) -> Answer
     ensures { λ r. ⌜ outcomeOf r ≡ listCall rigid wish limit (now (numbers .entry)) ⌝ }
 {

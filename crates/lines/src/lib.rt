@@ -18,7 +18,7 @@ pub struct Line {
 }
 
 impl Line {
-    // Directions whose determinant is no greater are parallel.
+    // Two directions are parallel where the magnitude of their determinant is at most this.
     pub const EPSILON: f32 = 0.00001;
 
     // The greatest magnitude of a point's component.

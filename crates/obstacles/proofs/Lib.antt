@@ -1,4 +1,4 @@
--- The laws of `obstacles`: of vertices as numbers, of the edges in order, of what is handed over, and the bench cases.
+-- The laws of `obstacles`: of vertices as numbers, of the cover test, of an obstacle's faults, of the edges in order, of what is handed over, and of the constants.
 pub mod Corners
 pub mod Covered
 pub mod Faults

@@ -115,7 +115,7 @@ pub(crate) struct Cutoff {
 
 // The lines that an obstacle asks an agent to keep to: its kind is 1 (closed) or 2 (open), its vertices are the `count` from the vertex `offset` on
 // among the numbers, two a vertex. Refused, in this order: another kind (3), more than 64 vertices (4), open with no vertices (5), numbers that end
-// before the vertices do (2), an edge whose line is not admitted (9).
+// before the vertices do (2), an edge whose line is not admitted (9). The agent, the vertices, margin and horizon are taken as they are: a scene's are judged before.
 pub fn get_lines_for_agent_to_obstacle(
     agent: Agent,
     kind: u8,

@@ -1,4 +1,4 @@
--- The numbers of a line list's record. Definitions only. Assumes nothing.
+-- The numbers of a record: of a line list, four a line, or of an obstacle, two a vertex. Definitions only. Assumes nothing.
 use Prim.Native.Nat.{ℕ, _*_, zero, suc}
 use mathlib.Core.List.{List, [], _∷_, _++_}
 use lib.Ieee.{Float}

@@ -37,6 +37,7 @@ pub(crate) fn replay(set: Set, name: &[u8]) {
 fn tally_of(fd: i32, set: Set) -> Tally {
     let mut tally = Tally::NONE;
     let mut head: [u8; 96] = [0; 96];
+    // The longest rest: 256 lines of a cut list, 40 bytes each, and an answer.
     let mut rest: [u8; 10264] = [0; 10264];
     let mut index: u32 = 0;
     while index < u32::MAX {
@@ -83,7 +84,7 @@ fn head_length(set: Set) -> usize
     }
 }
 
-// How many bytes a head says are behind it: of a list its numbers and an answer, of a cut list an answer more for each line, of an encounter its numbers and
+// How many bytes a head says are behind it: of a list its numbers and an answer, of a cut list an answer more for each line, of an obstacle its numbers and
 // the lines that answer it.
 fn rest_length(set: Set, head: &[u8]) -> usize {
     match set {

@@ -1,4 +1,4 @@
--- A start hands a session out, and a batch hands it on: what it tells is what the single call over all lines tells. Assumes nothing.
+-- A batch hands a session on: what it tells is what the single call over all lines tells, and a refused batch leaves it as it was. Assumes nothing.
 use Prim.Native.Nat.{ℕ, _+_, _%_, _^_, _≤_}
 use mathlib.Core.Path.{_≡_, refl, sym, _∙_, ap}
 use mathlib.Core.List.{List, _++_}
