@@ -11,16 +11,15 @@ use lib.Ieee.Exact.{HasValue, round-exact}
 use lib.Ieee.Fits.{down-pos}
 use Rattle.arithmetic.specs.Binary32.{0ᶠ, finite}
 
+no-size : (m c : ℕ) (e : ℤ) → 0 < c → m * up e * c ≡ 0 * down e → m * up e ≡ 0
+no-size m c e p h = eq-of-mul-eq-mul-right c p (m * up e) 0 (h ∙ zero-mul (down e) ∙ sym (zero-mul c))
+
 zero-level : (x : Float) (s : Bool) (c : ℕ) → 0 < c → HasValue x s 0 c → eq x 0ᶠ ≡ true
 unfolding eq ofBits
 zero-level nan s c p h = absurd h
 zero-level (inf t) s c p h = absurd h
-zero-level (fin true m e) s c p h =
-    let z : m * up e ≡ 0 = eq-of-mul-eq-mul-right c p (m * up e) 0 (h .1 ∙ zero-mul (down e) ∙ sym (zero-mul c)) in
-    rw (z, zero-mul (down e))
-zero-level (fin false m e) s c p h =
-    let z : m * up e ≡ 0 = eq-of-mul-eq-mul-right c p (m * up e) 0 (h .1 ∙ zero-mul (down e) ∙ sym (zero-mul c)) in
-    rw (z, zero-mul (down e))
+zero-level (fin true m e) s c p h = rw (no-size m c e p (h .1), zero-mul (down e))
+zero-level (fin false m e) s c p h = rw (no-size m c e p (h .1), zero-mul (down e))
 
 -- 0 over c is rounded to a zero
 nothing-over : (c : ℕ) → 0 < c → eq (round binary32 false 0 c) 0ᶠ ≡ true

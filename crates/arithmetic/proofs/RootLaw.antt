@@ -14,7 +14,7 @@ use lib.Ieee.Bits.{ofBits-toBits, toBits-ofBits, ofBits-fits}
 use lib.Ieee.Positive.{positive, positive-of-value}
 use Rattle.arithmetic.specs.Root.{count, worth, rootBits, sqrtOf, before, after, IsRoot}
 use Rattle.arithmetic.proofs.Patterns.{worth-mono, bits-value, count-bits, count-under, positive-bits}
-use Rattle.arithmetic.proofs.RootBits.{mid, mid-mono, too-high, AtRoot, rootBits-at, one-root}
+use Rattle.arithmetic.proofs.RootBits.{mid, mid-mono, AtRoot, rootBits-at, one-root}
 use Rattle.arithmetic.proofs.Rounded.{mid-above}
 use Rattle.arithmetic.proofs.Steps.{odd-square}
 use Rattle.arithmetic.proofs.Roots.{of-positive, root-range, not-nan}
@@ -68,7 +68,7 @@ sqrt-law x f p =
     let n = count x in
     let r = rootBits n in
     let a = rootBits-at n (count-under x f p) in
-    let l : r < 2139095039 = root-range n r (count-under x f p) a in
+    let l : r < 2139095039 = root-range n r (count-under x f p) (a .low) in
     rw (of-positive x p) (record {
       above-zero = positive-of-value (ofBits binary32 r) (worth r) (2 ^ 149) (bits-value r (here r l)) (worth-pos r (root-above n r (count-pos x f p) a));
       low = rw (count-before r l, count-here r l) (a .low);
@@ -140,7 +140,7 @@ module _ (x r : Float) (fx : T (fits binary32 x)) (px : T (positive x)) (fr : T 
       rw (← count-bits (toBits binary32 r - 1) (omega arith), b .2) (i .low)
 
   in-range : toBits binary32 r < 2139095039
-  in-range = lt-of-not-le (λ (g : 2139095039 ≤ toBits binary32 r). lt-irrefl _ (lt-of-lt-of-le (too-high (count x) (toBits binary32 r) (count-under x fx px) g) low-is))
+  in-range = root-range (count x) (toBits binary32 r) (count-under x fx px) low-is
 
   high-is : 4 * count x * 2 ^ 149 ≤ mid (toBits binary32 r + 1) * mid (toBits binary32 r + 1)
   unfolding after

@@ -1,7 +1,7 @@
 -- `sqrtOf` case by case, as the code of `sqrt` tells the cases apart. Assumes nothing.
 use mathlib.Core.Path.{_≡_, refl, subst}
 use mathlib.Core.Bool.{true, false, not, false≢true}
-use Prim.Native.Nat.{ℕ, zero, suc, _<_, _≤_, _^_}
+use Prim.Native.Nat.{ℕ, zero, suc, _*_, _<_, _≤_, _^_}
 use native.Mathlib.Nat.{lt-irrefl, lt-of-not-le, lt-of-lt-of-le, suc-ne-zero}
 use native.Mathlib.Omega.{arith}
 use lib.Dec.{T, lt→ltb}
@@ -12,7 +12,7 @@ use lib.Ieee.Positive.{positive}
 use Rattle.arithmetic.specs.Root.{count, worth, rootBits, sqrtOf}
 use Rattle.arithmetic.proofs.Signs.{Zero, Negative, Positive}
 use Rattle.arithmetic.proofs.Patterns.{positive-bits, bits-value}
-use Rattle.arithmetic.proofs.RootBits.{AtRoot, rootBits-at, too-high}
+use Rattle.arithmetic.proofs.RootBits.{mid, rootBits-at, too-high}
 
 pub of-nan : (x : Float) → isNan x ≡ true → x ≡ sqrtOf x
 unfolding sqrtOf isNan
@@ -57,8 +57,11 @@ of-positive (fin false zero e) p = absurd p
 of-positive (fin false (suc m) e) p = refl
 
 -- the root's pattern is below the infinity's, and so is the next
-pub root-range : (n r : ℕ) → n < 2 ^ 277 → AtRoot n r → r < 2139095039
-root-range n r h a = lt-of-not-le (λ (g : 2139095039 ≤ r). lt-irrefl _ (lt-of-lt-of-le (too-high n r h g) (a .low)))
+pub root-range : (n r : ℕ) → n < 2 ^ 277 → mid r * mid r ≤ 4 * n * 2 ^ 149 → r < 2139095039
+root-range n r h low = lt-of-not-le (λ (g : 2139095039 ≤ r). lt-irrefl _ (lt-of-lt-of-le (too-high n r h g) low))
+
+pub root-finite : (n : ℕ) → n < 2 ^ 277 → rootBits n < 2139095040
+root-finite n h = omega (arith, root-range n (rootBits n) h (rootBits-at n h .low))
 
 pub not-nan : (x : Float) (n : ℕ) → HasValue x false n (2 ^ 149) → T (not (isNan x))
 unfolding isNan
@@ -67,6 +70,4 @@ not-nan (inf s) n h = absurd h
 not-nan (fin s m e) n h = tt
 
 pub root-not-nan : (n : ℕ) → n < 2 ^ 277 → T (not (nanBits binary32 (rootBits n)))
-root-not-nan n h =
-    let l : rootBits n < 2139095040 = omega (arith, root-range n (rootBits n) h (rootBits-at n h)) in
-    rw (nanBits-is binary32 (rootBits n)) (not-nan (ofBits binary32 (rootBits n)) (worth (rootBits n)) (bits-value (rootBits n) l))
+root-not-nan n h = rw (nanBits-is binary32 (rootBits n)) (not-nan (ofBits binary32 (rootBits n)) (worth (rootBits n)) (bits-value (rootBits n) (root-finite n h)))

@@ -1,8 +1,8 @@
 // The root of a positive finite f32, from its bit pattern to the root's, in whole numbers.
 ghost use mathlib.Core.Path.{_≡_};
-ghost use Prim.Native.Nat.{_+_, _-_, _*_, _%_, _^_, _≤_, _<_};
+ghost use Prim.Native.Nat.{_-_, _*_, _%_, _^_, _<_};
 ghost use Rattle.arithmetic.specs.Root.{worth, rootBits};
-ghost use Rattle.arithmetic.specs.Whole.{RootPart, RootNearest, Digits24};
+ghost use Rattle.arithmetic.specs.Whole.{RootPart, RootNearest, TakenApart};
 
 // A number of 24 binary digits, and how often it is doubled, counted from 2^-172.
 struct Parts {
@@ -43,7 +43,7 @@ fn root_nearest(w: u64) -> u64
 // A pattern without a leading digit: it is doubled until it has 24 digits.
 fn lifted(b: u32) -> Parts
     requires { ⌜ (0 < b) × (b < 8388608) ⌝ }
-    ensures { λ p. ⌜ Digits24 b (p .digits) (p .shift) ⌝ }
+    ensures { λ p. ⌜ TakenApart b (p .digits) (p .shift) ⌝ }
 {
     let mut digits = b as u64;
     let mut shift: u32 = 23;
@@ -57,7 +57,7 @@ fn lifted(b: u32) -> Parts
 // A positive finite pattern taken apart.
 fn apart(b: u32) -> Parts
     requires { ⌜ (0 < b) × (b < 2139095040) ⌝ }
-    ensures { λ p. ⌜ Digits24 (worth b) (p .digits) (p .shift) ⌝ }
+    ensures { λ p. ⌜ TakenApart (worth b) (p .digits) (p .shift) ⌝ }
 {
     if b < 0x80_0000 {
         return lifted(b);

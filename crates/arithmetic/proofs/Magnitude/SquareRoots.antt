@@ -17,7 +17,7 @@ use Rattle.arithmetic.specs.Binary32.{_<ᶠ_, 0ᶠ}
 use Rattle.arithmetic.specs.Root.{count, worth, rootBits, sqrtOf}
 use Rattle.arithmetic.proofs.Patterns.{worth-mono, worth-at, worth-small, bits-value}
 use Rattle.arithmetic.proofs.RootBits.{mid, AtRoot, rootBits-at}
-use Rattle.arithmetic.proofs.Roots.{root-range}
+use Rattle.arithmetic.proofs.Roots.{root-finite}
 use Rattle.arithmetic.proofs.Steps.{even-square}
 use Rattle.arithmetic.proofs.Magnitude.Size.{Within, Over, NonNeg, nonneg-over, zero-within, le-or-lt, within, over, plain}
 use Rattle.arithmetic.proofs.Magnitude.Rounding.{within-value, apart-value}
@@ -102,11 +102,8 @@ module _ (n r i : ℕ) (a : AtRoot n r) where
           let q : 4 * (2 ^ i * 2 ^ i) ≤ 4 * n * 2 ^ 149 = le-trans (mul-le-mul-left 4 h) (le-of-eq (sym (mul-assoc 4 n (2 ^ 149)))) in
           lt-irrefl _ (lt-of-lt-of-le (a .high) (le-trans (le-of-lt (square-lt _ _ m)) (le-trans (le-of-eq (even-square (2 ^ i))) q)))
 
-in-range : (n : ℕ) → n < 2 ^ 277 → rootBits n < 2139095040
-in-range n h = omega (arith, root-range n (rootBits n) h (rootBits-at n h))
-
 root-within : (n i : ℕ) → n < 2 ^ 277 → n * 2 ^ 149 ≤ 2 ^ i * 2 ^ i → Within i (ofBits binary32 (rootBits n))
-root-within n i l h = within-value _ false (worth (rootBits n)) i (upper-bound n (rootBits n) i (rootBits-at n l) h) (bits-value (rootBits n) (in-range n l))
+root-within n i l h = within-value _ false (worth (rootBits n)) i (upper-bound n (rootBits n) i (rootBits-at n l) h) (bits-value (rootBits n) (root-finite n l))
 
 value-nonneg : (x : Float) (n : ℕ) → HasValue x false n (2 ^ 149) → NonNeg x
 value-nonneg nan n v = absurd v
@@ -115,10 +112,10 @@ value-nonneg (fin true m e) n v = absurd (true≢false (v .0))
 value-nonneg (fin false m e) n v = plain
 
 root-nonneg : (n : ℕ) → n < 2 ^ 277 → NonNeg (ofBits binary32 (rootBits n))
-root-nonneg n l = value-nonneg _ (worth (rootBits n)) (bits-value (rootBits n) (in-range n l))
+root-nonneg n l = value-nonneg _ (worth (rootBits n)) (bits-value (rootBits n) (root-finite n l))
 
 root-over : (n i : ℕ) → n < 2 ^ 277 → 2 ^ i * 2 ^ i ≤ n * 2 ^ 149 → Over i (ofBits binary32 (rootBits n))
-root-over n i l h = nonneg-over (root-nonneg n l) (apart-value _ false (worth (rootBits n)) i (lower-bound n (rootBits n) i (rootBits-at n l) h) (bits-value (rootBits n) (in-range n l)))
+root-over n i l h = nonneg-over (root-nonneg n l) (apart-value _ false (worth (rootBits n)) i (lower-bound n (rootBits n) i (rootBits-at n l) h) (bits-value (rootBits n) (root-finite n l)))
 
 -- ---- the root of a value
 
