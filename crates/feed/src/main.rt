@@ -1,4 +1,5 @@
-// Reads scene records from standard input to its end and writes the answer to each to standard output (01, "Records (ours)").
+// Reads scene records from standard input to its end and writes the answer to each to standard output (01, "Records (ours)"). A read or a write that fails
+// is told on standard error, the one sign of it that a program can give: it has no exit status.
 use libc::STDIN_FILENO;
 use libc::STDOUT_FILENO;
 
@@ -23,28 +24,39 @@ impl Carry {
     };
 }
 
+// Whether all answers could be written.
+fn put(answers: &[u8]) -> bool {
+    if io::write_all(STDOUT_FILENO, answers) {
+        return true;
+    }
+    os::fail(b"feed: standard output");
+    false
+}
+
 // The end of the input: bytes that are left over are a record cut short.
 fn end(output: &mut [u8], have: usize) -> Carry {
     let count = records::finish(have, output);
-    io::write_all(STDOUT_FILENO, &output[0..count]);
+    put(&output[0..count]);
     Carry::CLOSED
 }
 
-// One read, the answers to what it made whole, and one write. An output that is closed or fails ends it; a read that
-// fails is the end of the input, too.
+// One read, the answers to what it made whole, and one write. An output that fails ends it, and so does an input that fails, as its end does.
 fn turn(input: &mut [u8], output: &mut [u8], carry: Carry) -> Carry {
     let have = carry.have;
     if input.len() < have {
         return Carry::CLOSED;
     }
     let got = libc::read(STDIN_FILENO, &mut input[have..]);
+    if got < 0 {
+        os::fail(b"feed: standard input");
+    }
     if got <= 0 {
         return end(output, have);
     }
     let there = have + io::count(got, &input[have..]);
     let place = records::work(&input[0..there], output, carry.skip);
-    let put = place.put;
-    let open = io::write_all(STDOUT_FILENO, &output[0..put]);
+    let count = place.put;
+    let open = put(&output[0..count]);
     let kept = records::keep(input, place.used, there);
     Carry {
         have: kept,

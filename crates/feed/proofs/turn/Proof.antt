@@ -20,6 +20,12 @@ part-read-end c = search needs
 read-requires : tie.Need-read-requires
 read-requires c κs = search needs
 
+slice-aggregate-fail : tie.Need-slice-aggregate-fail
+slice-aggregate-fail c = search needs
+
+fail-requires : tie.Need-fail-requires
+fail-requires c κs = search needs
+
 end-requires : tie.Need-end-requires
 end-requires c κs = search needs
 
@@ -59,20 +65,20 @@ part-work-end c = search needs
 work-requires : tie.Need-work-requires
 work-requires c κs = search needs
 
-sub-write-all : tie.Need-sub-write-all
-sub-write-all c = search needs
+sub-put : tie.Need-sub-put
+sub-put c = search needs
 
-part-write-all-start : tie.Need-part-write-all-start
-part-write-all-start c = search needs
+part-put-start : tie.Need-part-put-start
+part-put-start c = search needs
 
-part-write-all-end : tie.Need-part-write-all-end
-part-write-all-end c =
+part-put-end : tie.Need-part-put-end
+part-put-end c =
     let size = c .before .before .before .work .kept in
     let fits = answers-fit _ _ _ _ _ (c .before .before .before .work .ensures) (omega (arith, size)) in
     omega (arith, size)
 
-write-all-requires : tie.Need-write-all-requires
-write-all-requires c κs = search needs
+put-requires : tie.Need-put-requires
+put-requires c κs = search needs
 
 keep-requires : tie.Need-keep-requires
 keep-requires c κs = search needs
@@ -95,6 +101,8 @@ turn-spec =
     part-read-start
     part-read-end
     read-requires
+    slice-aggregate-fail
+    fail-requires
     end-requires
     same-length
     same-length-2
@@ -108,10 +116,10 @@ turn-spec =
     part-work-start
     part-work-end
     work-requires
-    sub-write-all
-    part-write-all-start
-    part-write-all-end
-    write-all-requires
+    sub-put
+    part-put-start
+    part-put-end
+    put-requires
     keep-requires
     same-length-3
     same-length-4
