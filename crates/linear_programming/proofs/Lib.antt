@@ -10,7 +10,6 @@ pub mod Steps
 pub mod WholeLaws
 pub mod WholeProbes
 pub mod ResumeLaws
-pub mod ResumePlace
 pub mod Bounds
 pub mod Agreement
 pub mod Computed

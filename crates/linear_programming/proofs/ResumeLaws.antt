@@ -1,5 +1,5 @@
 -- The rules taken up again are the rules line by line: the probes taken before are only added, so that they may be counted from 0. Assumes nothing.
-use Prim.Native.Nat.{ℕ, _+_}
+use Prim.Native.Nat.{ℕ, _+_, min}
 use mathlib.Core.Path.{_≡_, refl, sym, _∙_, ap}
 use mathlib.Core.Bool.{Bool, true, false}
 use mathlib.Core.List.{List, _++_}
@@ -10,6 +10,7 @@ use lib.Ieee.{Float}
 use Rattle.arithmetic.specs.Binary32.{0ᶠ, if_then_else_}
 use Rattle.common.specs.declared.Vec2.{Vec2}
 use Rattle.lines.specs.declared.Line.{Line}
+use Rattle.lines.proofs.Fold.{take-lesser, drop-lesser}
 use Rattle.linear_programming.specs.OneLine.{Objective, toward, along, Found, at, fails, refuses, oneLine}
 use Rattle.linear_programming.specs.Pass.{Pass, now, failed, refused, judged, solved, passLine}
 use Rattle.linear_programming.specs.Relax.{Relaxed, on, turned, buildProbes, replaced, relaxLine}
@@ -121,3 +122,11 @@ module _ (rigid : ℕ) (wish : Vec2) (limit : Float) (l m : List Line) where
   pub resumed-whole : {ph : Phase} {f : Failed} {n : ℕ} → wholeList rigid wish limit l ≡ stands ph f n → addProbes n (resumed rigid wish limit (l ++ m) (length l) ph f) ≡ wholeList rigid wish limit (l ++ m)
   resumed-whole {ph} {f} {n} e =
       sym (resumed-feed ph f n (agrees-paired (rw e at (whole-agrees rigid wish limit l)))) ∙ rw (← e) (batch rigid wish limit l m)
+
+-- a place behind the last line leaves nothing to do, as the end does
+pub resumed-lesser : (rigid : ℕ) (wish : Vec2) (limit : Float) (l : List Line) (from : ℕ) (ph : Phase) (f : Failed) {count place : ℕ} → length l ≡ count → place ≡ min from count →
+    resumed rigid wish limit l place ph f ≡ resumed rigid wish limit l from ph f
+unfolding resumed
+resumed-lesser rigid wish limit l from (solving p) f n e = rw (e, ← n, take-lesser from l, drop-lesser from l)
+resumed-lesser rigid wish limit l from (relaxing p depth) f n e = rw (e, ← n, take-lesser from l, drop-lesser from l)
+resumed-lesser rigid wish limit l from (rigidFailure k p) f n e = refl

@@ -1,14 +1,13 @@
 -- Laws of the tightened list: one line more, as the loop adds it; how long it is; a rigid count beyond the list. Assumes nothing.
-use Prim.Native.Nat.{ℕ, _+_, _≤_, _<_}
+use Prim.Native.Nat.{ℕ, _+_, _≤_, min}
 use mathlib.Core.Path.{_≡_, refl, sym, _∙_, ap}
 use mathlib.Core.List.{List, [], _∷_, _++_, foldl}
 use native.Mathlib.Omega.{arith}
-use native.Mathlib.Nat.{le-refl, eq-or-lt-of-le}
-use mathlib.Core.Logic.{_⊎_, inl, inr}
-use lib.ListN.{length, length-append, take, drop, take-append-drop, drop-of-length-le}
-use lib.Seq.{take-all, take-length}
+use native.Mathlib.Nat.{le-refl}
+use lib.ListN.{length, length-append, take, drop, take-append-drop}
 use lib.Ieee.{Float}
 use Rattle.lines.specs.declared.Line.{Line}
+use Rattle.lines.proofs.Fold.{take-lesser, drop-lesser}
 use Rattle.linear_programming.specs.Relax.{Tight, kept, skipped, tighten, behind, tightenNext, tightened, turned, relaxLine}
 
 module _ (own : Line) (made : List Line) (prev : Line) where
@@ -21,17 +20,9 @@ module _ (own : Line) (made : List Line) (prev : Line) where
   next-skipped h = rw (← h)
 
 -- a rigid count beyond the list is the list's length
-pub all-rigid : (rigid : ℕ) (own : Line) (e : List Line) → length e ≤ rigid → tightened rigid own e ≡ tightened (length e) own e
+pub lesser-rigid : (rigid : ℕ) (own : Line) (e : List Line) {index r : ℕ} → length e ≡ index → r ≡ min rigid index → tightened r own e ≡ tightened rigid own e
 unfolding tightened
-all-rigid rigid own e h = rw (take-all rigid e h, drop-of-length-le e h, take-length e, drop-of-length-le e (le-refl (length e)))
-
--- so the lesser of the rigid count and the length does
-pub least-rigid : (rigid r index : ℕ) (own : Line) (e : List Line) → length e ≡ index → (r ≤ rigid) × (r ≤ index) × (r < index → r ≡ rigid) → tightened r own e ≡ tightened rigid own e
-least-rigid rigid r index own e n h = go (eq-or-lt-of-le (h .1))
-  where
-    go : (r ≡ index) ⊎ (r < index) → tightened r own e ≡ tightened rigid own e
-    go (inl i) = ap (λ (k : ℕ). tightened k own e) (i ∙ sym n) ∙ sym (all-rigid rigid own e (omega (arith, h .0)))
-    go (inr l) = ap (λ (k : ℕ). tightened k own e) (h .2 l)
+lesser-rigid rigid own e n h = rw (h, ← n, take-lesser rigid e, drop-lesser rigid e)
 
 -- a refusal of relaxation stays
 pub turned-stays : (rigid : ℕ) (limit : Float) (r : ℕ) (e : List Line) (own : Line) → relaxLine rigid limit e own (turned r) ≡ turned r

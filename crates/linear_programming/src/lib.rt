@@ -3,6 +3,7 @@ use admission::Judged;
 use common::Vec2;
 use lines::Line;
 ghost use mathlib.Core.Path.{_≡_};
+ghost use Prim.Native.Nat.{min};
 ghost use Rattle.linear_programming.specs.Admit.{listCall};
 ghost use Rattle.linear_programming.specs.Resume.{resumedCall};
 ghost use Rattle.linear_programming.specs.Read.{phaseOf, failedOf, outcomeOf};
@@ -74,6 +75,13 @@ pub enum Answer {
     Refused(u8),
 }
 
+// The lesser of two counts.
+pub(crate) fn lesser(a: usize, b: usize) -> usize
+    ensures { λ r. ⌜ r ≡ min a b ⌝ }
+{
+    if a < b { a } else { b }
+}
+
 // Solves a list of lines that is lent as numbers, four a line: the value nearest to the wish within the limit and the lines, the ones behind the
 // first `rigid` relaxed where they cannot all be met. Refused, in this order: numbers that are no whole lines (2), too many lines (4),
 // a wish or limit out of range (6), a line (6, 7), a starting point that is not finite (9), the solve itself (8, 9). The last two
@@ -115,7 +123,7 @@ pub fn resume_linear_program(
     solve_list::resume_lines(
         lines,
         count,
-        solve_3d::least(from, count),
+        lesser(from, count),
         rigid,
         limit,
         wish,

@@ -3,6 +3,7 @@ use crate::LinearProgram2D;
 use crate::LinearProgram3D;
 use crate::OptimalValue;
 use crate::Tightened;
+use crate::lesser;
 use crate::solve_2d;
 use common::Vec2;
 use lines::Line;
@@ -156,13 +157,6 @@ fn after_inner(
     }
 }
 
-// The lesser of two counts.
-pub(crate) fn least(a: usize, b: usize) -> usize
-    ensures { λ r. ⌜ (r ≤ a) × (r ≤ b) × ((r < b) → r ≡ a) ⌝ }
-{
-    if a < b { a } else { b }
-}
-
 // The line at an index, after the lines before it left `value` and `penetration`.
 fn relax_line(
     lines: &[f32],
@@ -181,7 +175,7 @@ fn relax_line(
         return LinearProgram3D::Relaxed(value, penetration, probes + 1);
     }
     let mut tight = [0.0f32; 1020];
-    let count = tighten_into(lines, least(rigid, index), index, constraint, &mut tight);
+    let count = tighten_into(lines, lesser(rigid, index), index, constraint, &mut tight);
     let inner = solve_tightened(tight, count, radius, constraint.direction.perp());
     after_inner(constraint, value, penetration, probes + 1, inner)
 }

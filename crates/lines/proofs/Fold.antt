@@ -1,7 +1,8 @@
 -- The first n elements of a list, from the i-th on: what a loop over them has left. Assumes nothing.
-use Prim.Native.Nat.{ℕ, _+_, _≤_, _<_}
+use Prim.Native.Nat.{ℕ, zero, suc, _+_, _≤_, _<_, min}
 use mathlib.Core.Path.{_≡_, refl, _∙_, ap}
 use mathlib.Core.List.{List, [], _∷_, _++_, foldl}
+use native.Mathlib.Nat.{zero-min, min-zero, suc-min-suc}
 use native.Mathlib.Numerals.{add-one}
 use lib.ListN.{length, take, drop, getD, set, drop-of-length-le}
 use lib.Seq.{drop-cons, getD-take, length-take-le, take-suc, take-suc-set}
@@ -23,6 +24,18 @@ module _ {A : Type 0} (l : List A) (i : ℕ) (h : i < length l) where
 
   pub take-set-next : (a : A) → take (i + 1) (set l i a) ≡ take i l ++ (a ∷ [])
   take-set-next a = rw add-one (take-suc-set l i a h)
+
+-- a count beyond the end of a list is its length
+module _ {A : Type 0} where
+  pub take-lesser : (i : ℕ) (l : List A) → take (min i (length l)) l ≡ take i l
+  take-lesser zero l = rw zero-min
+  take-lesser (suc i) [] = rw min-zero
+  take-lesser (suc i) (x ∷ xs) = rw (suc-min-suc, take-lesser i xs)
+
+  pub drop-lesser : (i : ℕ) (l : List A) → drop (min i (length l)) l ≡ drop i l
+  drop-lesser zero l = rw zero-min
+  drop-lesser (suc i) [] = rw min-zero
+  drop-lesser (suc i) (x ∷ xs) = rw suc-min-suc (drop-lesser i xs)
 
 -- a state that no step changes
 pub fold-stays : {A S : Type 0} (f : S → A → S) (t : S) → ((x : A) → f t x ≡ t) → (l : List A) → foldl f t l ≡ t

@@ -10,7 +10,7 @@ use Rattle.lines.specs.Lines.{linesOf}
 use Rattle.linear_programming.specs.Relax.{relaxLine}
 use Rattle.linear_programming.proofs.Probes.{inner-most}
 use Rattle.lines.proofs.Rows.{fits}
-use Rattle.linear_programming.proofs.TightLaws.{least-rigid}
+use Rattle.linear_programming.proofs.TightLaws.{lesser-rigid}
 use borrow.Author.Needs.{needs}
 use Rattle.linear_programming.proofs.solve_3d.relax_line.Statement.{statement}
 use Rattle.linear_programming.proofs.solve_3d.relax_line.Tie as tie
@@ -28,8 +28,8 @@ returns : tie.Need-returns
 unfolding relaxLine if_then_else_
 returns c = simp (c .if1 .taken, ← c .before .depth-in .ensures, ← c .before .before .line-at .ensures)
 
-least-requires : tie.Need-least-requires
-least-requires c κs = search needs
+lesser-requires : tie.Need-lesser-requires
+lesser-requires c κs = search needs
 
 slice-aggregate-tighten-into : tie.Need-slice-aggregate-tighten-into
 slice-aggregate-tighten-into c = search needs
@@ -56,7 +56,7 @@ unfolding relaxLine if_then_else_
 returns-2 c =
     let a = c .before .before .before .before .before .before .before .before .before .before .before .args in
     let short = length-take-le (a .index) (linesOf (now (a .lines))) (fits (now (a .lines)) (a .index) (omega arith)) in
-    let list = c .before .before .before .before .tighten-into .ensures .2 ∙ least-rigid _ _ _ _ _ short (c .before .before .before .before .before .before .least .ensures) in
+    let list = c .before .before .before .before .tighten-into .ensures .2 ∙ lesser-rigid _ _ _ short (c .before .before .before .before .before .before .lesser .ensures) in
     simp (
       add-zero,
       ← c .after-inner .ensures,
@@ -76,7 +76,7 @@ relax-line-spec =
     depth-in-requires
     add-t14
     returns
-    least-requires
+    lesser-requires
     slice-aggregate-tighten-into
     tighten-into-requires
     perp-requires
