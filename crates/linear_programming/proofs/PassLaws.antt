@@ -1,9 +1,8 @@
 -- Laws of a pass from any of its lines on: what ended stays, it fails at a line of the list, and each line counts at most 256 probes. Assumes nothing.
-use Prim.Native.Nat.{ℕ, suc, _+_, _*_, _≤_, _<_}
+use Prim.Native.Nat.{ℕ, _+_, _*_, _≤_, _<_}
 use mathlib.Core.Path.{_≡_, refl}
 use mathlib.Core.List.{List, [], _∷_, _++_}
 use native.Mathlib.Omega.{arith}
-use native.Mathlib.Nat.{add-zero}
 use lib.ListN.{length, length-append}
 use lib.Ieee.{Float}
 use Rattle.arithmetic.proofs.Choice.{if-all}
@@ -16,7 +15,7 @@ use Rattle.linear_programming.specs.OneLine.{Objective, toward, along, F
 use Rattle.linear_programming.specs.Pass.{Failure, Pass, now, failed, refused, judged, solved, passLine}
 use Rattle.linear_programming.specs.Read.{passOf, probesOf, indexOf}
 use Rattle.linear_programming.proofs.Probes.{Counts, counts, counts-failed, pass-counts}
-use Rattle.linear_programming.proofs.WalkLaws.{walk-stays}
+use Rattle.linear_programming.proofs.WalkLaws.{walk-stays, walk-grows}
 
 module _ (o : Objective) (limit : Float) where
   pub pass-failed : (f : Failure) (p : Vec2) (n : ℕ) (e l : List Line) → walk (passLine o limit) e l (failed f p n) ≡ failed f p n
@@ -66,29 +65,29 @@ data Bounded (k : ℕ) : Pass → Type 0 where
   barred : {r : ℕ} → Bounded k (refused r)
 
 module _ (o : Objective) (limit : Float) where
-  line-bounded : (e : List Line) (own : Line) (s : Pass) → length e < 256 → Bounded (length e) s → Bounded (length e + 1) (passLine o limit e own s)
+  line-bounded : (e : List Line) (own : Line) (s : Pass) → (length e ≤ 256 → Bounded (length e) s) →
+      length (e ++ (own ∷ [])) ≤ 256 → Bounded (length (e ++ (own ∷ []))) (passLine o limit e own s)
   unfolding passLine
-  line-bounded e own s h (halted {f} {n = n} a b) = halted {f = f} {n = n} (omega arith) (omega arith)
-  line-bounded e own s h barred = barred
-  line-bounded e own s h (running {p} {n} a) = both (pass-fails o limit e own p n) (pass-counts o limit e own p n)
+  line-bounded e own s h short =
+      let k : length (e ++ (own ∷ [])) ≡ length e + 1 = length-append e (own ∷ []) in
+      rw k (next (h (omega arith)) (omega arith))
     where
-      both : {t : Pass} → FailsAt (length e) t → Counts (n + 1 + length e) t → Bounded (length e + 1) t
-      both still (counts {n = m} c) = running {n = m} (omega arith)
-      both (there {f} i) (counts-failed {n = m} c) = halted {f = f} {n = m} (omega arith) (omega arith)
-      both never c = barred
-
-  walk-bounded : (e l : List Line) (s : Pass) → length e + length l ≤ 256 → Bounded (length e) s → Bounded (length e + length l) (walk (passLine o limit) e l s)
-  walk-bounded e [] s h b = rw add-zero b
-  walk-bounded e (x ∷ xs) s h b =
-      let k : length (e ++ (x ∷ [])) ≡ length e + 1 = length-append e (x ∷ []) in
-      let n : length e + suc (length xs) ≡ length e + 1 + length xs = omega arith in
-      rw (n, ← k) (walk-bounded (e ++ (x ∷ [])) xs (passLine o limit e x s) (omega arith) (rw k (line-bounded e x s (omega arith) b)))
+      next : {t : Pass} → Bounded (length e) t → length e < 256 → Bounded (length e + 1) (passLine o limit e own t)
+      next (halted {f} {n = n} a b) room = halted {f = f} {n = n} (omega arith) (omega arith)
+      next barred room = barred
+      next (running {p} {n} a) room = both (pass-fails o limit e own p n) (pass-counts o limit e own p n)
+        where
+          both : {t : Pass} → FailsAt (length e) t → Counts (n + 1 + length e) t → Bounded (length e + 1) t
+          both still (counts {n = m} c) = running {n = m} (omega arith)
+          both (there {f} i) (counts-failed {n = m} c) = halted {f = f} {n = m} (omega arith) (omega arith)
+          both never c = barred
 
   -- what a pass counts, and where it fails
-  pub pass-bounds : (e l : List Line) (p : Vec2) (a : LinearProgram2D) → length e + length l ≤ 256 → passOf a ≡ walk (passLine o limit) e l (now p 0) → (probesOf a ≤ 65536) × (indexOf a ≤ length e + length l)
-  pass-bounds e l p a h eq = bounds a (rw (← eq) at (walk-bounded e l (now p 0) h (running (omega arith))))
+  pub pass-bounds : (e l : List Line) (p : Vec2) (a : LinearProgram2D) → length (e ++ l) ≤ 256 → passOf a ≡ walk (passLine o limit) e l (now p 0) → (probesOf a ≤ 65536) × (indexOf a ≤ length (e ++ l))
+  pass-bounds e l p a h eq =
+      bounds a (rw (← eq) at (walk-grows (passLine o limit) (λ i t. length i ≤ 256 → Bounded (length i) t) line-bounded e l (now p 0) (λ short. running (omega arith)) h))
     where
-      bounds : (a : LinearProgram2D) → Bounded (length e + length l) (passOf a) → (probesOf a ≤ 65536) × (indexOf a ≤ length e + length l)
+      bounds : (a : LinearProgram2D) → Bounded (length (e ++ l)) (passOf a) → (probesOf a ≤ 65536) × (indexOf a ≤ length (e ++ l))
       bounds (lp2d.Feasible p n) (running b) = (omega arith, omega arith)
       bounds (lp2d.Infeasible f p n) (halted i b) = (omega arith, omega arith)
       bounds (lp2d.Refused r) b = (omega arith, omega arith)

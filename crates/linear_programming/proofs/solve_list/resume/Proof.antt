@@ -1,10 +1,10 @@
 -- `linear_programming::solve_list::resume` meets its contract. Assumes nothing.
-use Prim.Native.Nat.{ℕ, _+_, _≤_}
+use Prim.Native.Nat.{ℕ, _≤_}
 use mathlib.Core.Path.{_≡_}
-use mathlib.Core.List.{List}
+use mathlib.Core.List.{List, _++_}
 use native.Mathlib.Omega.{arith}
 use denote.Ref.{now}
-use lib.ListN.{length, length-append, take, drop, take-append-drop}
+use lib.ListN.{length, take, drop, take-append-drop}
 use lib.Seq.{length-take-le, take-take}
 use Rattle.lines.specs.declared.Line.{Line}
 use Rattle.lines.specs.Lines.{linesOf}
@@ -16,9 +16,8 @@ use Rattle.linear_programming.proofs.solve_list.resume.Statement.{state
 use Rattle.linear_programming.proofs.solve_list.resume.Tie as tie
 
 -- the lines before `from` and those from it on are the first `count`
-parts : (l : List Line) (n i : ℕ) → n ≤ length l → i ≤ n → length (take i l) + length (drop i (take n l)) ≡ n
-parts l n i fits h =
-    rw (← take-take i n l h, ← length-append (take i (take n l)) (drop i (take n l)), take-append-drop i (take n l)) (length-take-le n l fits)
+parts : (l : List Line) (n i : ℕ) → n ≤ length l → i ≤ n → length (take i l ++ drop i (take n l)) ≡ n
+parts l n i fits h = rw (← take-take i n l h, take-append-drop i (take n l)) (length-take-le n l fits)
 
 enum-known-phase : tie.Need-enum-known-phase
 enum-known-phase c = search needs
