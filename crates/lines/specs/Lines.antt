@@ -1,6 +1,6 @@
 -- Lines, and lists of lines as numbers four by four (01, "What must change shape"). Definitions only. Assumes nothing.
 use Prim.Native.Nat.{ℕ, _+_, _*_}
-use mathlib.Core.List.{List, [], _∷_}
+use mathlib.Core.List.{List, [], _∷_, _++_}
 use lib.Dec.{leb}
 use lib.ListN.{length}
 use lib.Seq.{sets}
@@ -36,7 +36,7 @@ fourOf l = l .point .x ∷ l .point .y ∷ l .direction .x ∷ l .direction .y �
 
 unfoldable pub numbersOf : List Line → List Float
 numbersOf [] = []
-numbersOf (l ∷ ls) = l .point .x ∷ l .point .y ∷ l .direction .x ∷ l .direction .y ∷ numbersOf ls
+numbersOf (l ∷ ls) = fourOf l ++ numbersOf ls
 
 -- the line at an index is `l`; numbers without room for it stay as they are
 unfoldable pub lineStored : List Float → ℕ → Line → List Float
