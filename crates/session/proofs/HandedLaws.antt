@@ -19,7 +19,7 @@ use Rattle.linear_programming.specs.Read.{phaseOf, phaseAs, failedOf, failedAs}
 use Rattle.linear_programming.specs.Resume.{resumed, addProbes}
 use Rattle.admission.proofs.FaultLaws.{no-fault, ⊳-fine}
 use Rattle.lines.proofs.JudgeLaws.{faults-append}
-use Rattle.linear_programming.proofs.JudgeLaws.{⟫-stands}
+use Rattle.linear_programming.proofs.JudgeLaws.{⟫-assoc, ⟫-stands}
 use Rattle.lines.proofs.Rows.{count}
 use Rattle.linear_programming.proofs.ResumeLaws.{resumed-whole}
 use Rattle.linear_programming.proofs.WholeProbes.{whole-fits}
@@ -40,10 +40,6 @@ phase-there (rigidFailure k p) = refl
 pub failed-there : (f : Failed) → failedOf (failedAs f) ≡ f
 failed-there noLine = refl
 failed-there (failedLine f) = refl
-
-⟫-assoc : (f g : Fault) (o : Outcome) → ((f ⊳ g) ⟫ o) ≡ (f ⟫ (g ⟫ o))
-⟫-assoc fine g o = refl
-⟫-assoc (fault r) g o = refl
 
 by-four : (n : ℕ) (xs : List Float) → batchFault n xs ≡ fine → fours xs ≡ fine
 unfolding batchFault

@@ -37,6 +37,7 @@ epsilon-over = over (lit≤ tt)
 
 -- ---- the interval
 
+-- the ends are within 2 ^ k and in order, or the interval is gone
 pub data Good (k : ℕ) : Interval → Type 0 where
   good : {l r : Float} {n : ℕ} → Within k l → Within k r → (l ≤ᶠ r) ≡ true → Good k (between l r n)
   gone : {n : ℕ} → Good k (empty n)
@@ -47,16 +48,17 @@ crossed-good {k} {l} {r} n h g = if-case (Good k) (r <ᶠ l) (λ t. gone) (λ t.
 
 -- ---- what one line finds
 
+-- the wish is at most 65,536, or the direction at most 2
 pub data Aimed : Objective → Type 0 where
   aimed : {wish : Vec2} → Inside 165 wish → Aimed (toward wish)
   pointed : {d : Vec2} → Inside 150 d → Aimed (along d)
 
--- a point, or a failure; no refusal
+-- a point within 2 ^ k, or a failure; no refusal
 pub data Lands (k : ℕ) : Found → Type 0 where
   lands : {q : Vec2} {n : ℕ} → Inside k q → Lands k (at q n)
   misses : {n : ℕ} → Lands k (fails n)
 
--- a point, or a failure; no refusal
+-- and so of what a pass leaves
 pub data Goes (k : ℕ) : Pass → Type 0 where
   goes : {q : Vec2} {n : ℕ} → Inside k q → Goes k (now q n)
   ends : {f : Failure} {q : Vec2} {n : ℕ} → Goes k (failed f q n)
