@@ -18,7 +18,7 @@ use Rattle.lines.specs.LineFaults.{linesFault}
 use Rattle.linear_programming.specs.Admit.{reach, longest, wishFault, judgedList, listCall}
 use Rattle.linear_programming.specs.Whole.{Phase, Failed, stands, wholeList}
 use Rattle.lines.proofs.JudgeLaws.{faults-append}
-use Rattle.lines.proofs.Rows.{count}
+use Rattle.lines.proofs.Rows.{lines-long}
 use Rattle.linear_programming.proofs.WholeProbes.{whole-fits}
 use Rattle.obstacles.specs.declared.Agent.{Agent}
 use Rattle.obstacles.specs.Obstacles.{Answer, lines, refused}
@@ -139,5 +139,5 @@ pass-solved s velocity b rigid h size fits e =
     let long : length xs ≡ 4 * rigid + 4 * s .neighbours = rw (sum, take-paste b (4 * rigid) (s .lines) (4 * s .neighbours) fits (omega arith)) (length-paste-head b (4 * rigid) (s .lines) (4 * s .neighbours) fits (omega arith)) in
     let few : length (linesOf xs) ≤ 256 = rw (all, length-append) (omega (arith, fair-few sound, few-neighbours s near)) in
     let faults : linesFault (linesOf xs) ≡ fine = rw (all, faults-append own (neighboursIn s), fair-admitted sound, p .lines) in
-    let many : length own ≡ rigid = count (take (4 * rigid) b) ∙ rw (length-take-le (4 * rigid) b fits) (omega arith) in
+    let many : length own ≡ rigid = lines-long (take (4 * rigid) b) ∙ rw (length-take-le (4 * rigid) b fits) (omega arith) in
     called-whole rigid (s .wish) (s .limit) xs (rw long (omega arith)) few (p .wish) faults ∙ rw (all, ← e, many)

@@ -11,31 +11,39 @@ use Rattle.common.specs.Vectors.{vec}
 use Rattle.lines.specs.declared.Line.{Line}
 use Rattle.lines.specs.Lines.{line, offLine, linesOf}
 
-pub fits : (b : List Float) (n : ℕ) → 4 * n ≤ length b → n ≤ length (linesOf b)
+-- how many lines there are
+pub lines-long : (b : List Float) → length (linesOf b) ≡ length b / 4
 unfolding linesOf
-fits b zero h = omega arith
-fits [] (suc n) h = absurd (omega arith)
-fits (w ∷ []) (suc n) h = absurd (omega arith)
-fits (w ∷ x ∷ []) (suc n) h = absurd (omega arith)
-fits (w ∷ x ∷ y ∷ []) (suc n) h = absurd (omega arith)
-fits (w ∷ x ∷ y ∷ z ∷ r) (suc n) h = omega (arith, fits r n (omega arith))
+lines-long [] = refl
+lines-long (w ∷ []) = refl
+lines-long (w ∷ x ∷ []) = refl
+lines-long (w ∷ x ∷ y ∷ []) = refl
+lines-long (w ∷ x ∷ y ∷ z ∷ r) = let h = lines-long r in omega arith
+
+-- where there are 4 n numbers there are n lines
+pub lines-fit : (b : List Float) (n : ℕ) → 4 * n ≤ length b → n ≤ length (linesOf b)
+lines-fit b n h = rw (lines-long b) (omega arith)
+
+pub lines-take-all : (b : List Float) → take (length b / 4) (linesOf b) ≡ linesOf b
+lines-take-all b = rw (← lines-long b) (take-length (linesOf b))
 
 -- the four numbers from k on, as a line
 abbrev pub lineAt : List Float → ℕ → Line
 lineAt b k = line (vec (getD b k nan) (getD b (k + 1) nan)) (vec (getD b (k + 2) nan) (getD b (k + 3) nan))
 
-pub nth : (b : List Float) (i k : ℕ) → k ≡ 4 * i → k + 4 ≤ length b → getD (linesOf b) i offLine ≡ lineAt b k
+-- the line at an index is four numbers; four numbers stored are the line at an index
+pub four-get : (b : List Float) (i k : ℕ) → k ≡ 4 * i → k + 4 ≤ length b → getD (linesOf b) i offLine ≡ lineAt b k
 unfolding linesOf
-nth [] i k e h = absurd (omega arith)
-nth (w ∷ []) i k e h = absurd (omega arith)
-nth (w ∷ x ∷ []) i k e h = absurd (omega arith)
-nth (w ∷ x ∷ y ∷ []) i k e h = absurd (omega arith)
-nth (w ∷ x ∷ y ∷ z ∷ r) zero k e h =
+four-get [] i k e h = absurd (omega arith)
+four-get (w ∷ []) i k e h = absurd (omega arith)
+four-get (w ∷ x ∷ []) i k e h = absurd (omega arith)
+four-get (w ∷ x ∷ y ∷ []) i k e h = absurd (omega arith)
+four-get (w ∷ x ∷ y ∷ z ∷ r) zero k e h =
     let f : k ≡ 0 = omega arith in
     rw f refl
-nth (w ∷ x ∷ y ∷ z ∷ r) (suc i) k e h =
+four-get (w ∷ x ∷ y ∷ z ∷ r) (suc i) k e h =
     let f : k ≡ suc (suc (suc (suc (4 * i)))) = omega arith in
-    let ih = nth r i (4 * i) refl (omega arith) in
+    let ih = four-get r i (4 * i) refl (omega arith) in
     rw (f, add-one, add-two, add-three) (rw (add-one, add-two, add-three) at ih)
 
 pub four-set : (b : List Float) (i k : ℕ) (p q s t : Float) → k ≡ 4 * i → k + 4 ≤ length b
@@ -52,18 +60,6 @@ four-set (w ∷ x ∷ y ∷ z ∷ r) (suc i) k p q s t e h =
     let f : k ≡ suc (suc (suc (suc (4 * i)))) = omega arith in
     let ih = four-set r i (4 * i) p q s t refl (omega arith) in
     rw (f, add-one, add-two, add-three) (ap (λ ls. line (vec w x) (vec y z) ∷ ls) (rw (add-one, add-two, add-three) at ih))
-
--- how many lines there are
-pub count : (b : List Float) → length (linesOf b) ≡ length b / 4
-unfolding linesOf
-count [] = refl
-count (w ∷ []) = refl
-count (w ∷ x ∷ []) = refl
-count (w ∷ x ∷ y ∷ []) = refl
-count (w ∷ x ∷ y ∷ z ∷ r) = let h = count r in omega arith
-
-pub all-lines : (b : List Float) → take (length b / 4) (linesOf b) ≡ linesOf b
-all-lines b = rw (← count b) (take-length (linesOf b))
 
 -- numbers behind whole lines are the lines behind them
 pub lines-append : (b c : List Float) → length b % 4 ≡ 0 → linesOf (b ++ c) ≡ linesOf b ++ linesOf c

@@ -10,7 +10,7 @@ use Rattle.arithmetic.specs.Binary32.{0ᶠ}
 use Rattle.lines.specs.declared.Line.{Line}
 use Rattle.lines.specs.Lines.{linesOf, fourOf, numbersOf}
 use Rattle.admission.specs.Faults.{fine, judgedAs}
-use Rattle.lines.proofs.Rows.{count}
+use Rattle.lines.proofs.Rows.{lines-long}
 use Rattle.obstacles.specs.declared.ObstacleLines.{ObstacleLines}
 use Rattle.obstacles.specs.Obstacles.{lines}
 use Rattle.obstacles.specs.Read.{blankNumbers, answerAs}
@@ -51,7 +51,7 @@ pub filled-answer : (b : List Float) (n : ℕ) → n ≤ 64 → Filled n b → _
 unfolding blankNumbers
 filled-answer b n h f =
     let front : length (take (4 * n) b) ≡ 4 * n = length-take-le (4 * n) b (omega (arith, f .size)) in
-    let many : length (linesOf (take (4 * n) b)) ≡ n = count (take (4 * n) b) ∙ rw front (omega arith) in
+    let many : length (linesOf (take (4 * n) b)) ≡ n = lines-long (take (4 * n) b) ∙ rw front (omega arith) in
     let same : numbersOf (linesOf (take (4 * n) b)) ≡ take (4 * n) b = numbers-back (take (4 * n) b) (rw front (omega arith)) in
     let whole : take (4 * n) b ++ replicate (256 - 4 * n) 0ᶠ ≡ b = rw (← drop-replicate (4 * n) 256 0ᶠ, ← f .rest) (take-append-drop (4 * n) b) in
     rw (many, same, whole)

@@ -19,7 +19,7 @@ use Rattle.lines.specs.declared.Line.{Line}
 use Rattle.lines.specs.Lines.{linesOf}
 use Rattle.lines.specs.LineFaults.{lineReach, bandLow, bandHigh, lineFault, linesFault}
 use Rattle.linear_programming.specs.Admit.{reach, longest}
-use Rattle.lines.proofs.Rows.{count}
+use Rattle.lines.proofs.Rows.{lines-long}
 use Rattle.obstacles.specs.Obstacles.{isEmptyOpen}
 use Rattle.obstacles.specs.Vertices.{verticesOf}
 use Rattle.dodgy_2d.specs.declared.Scene.{Scene}
@@ -173,7 +173,7 @@ module _ (c : Scene) (t : Typed c) where
   obstacles-long h = with-long (headsIn c) (c .vertices) ∙ heads-long _ _ (c .obstacles) (length-take-le _ (c .kinds) (rw (t .kinds) h)) (length-take-le _ (c .counts) (rw (t .counts) h))
 
   neighbours-long : c .neighbours ≤ 64 → length (neighboursIn c) ≡ c .neighbours
-  neighbours-long h = length-take-le _ (linesOf (c .lines)) (rw (count (c .lines), t .lines) h)
+  neighbours-long h = length-take-le _ (linesOf (c .lines)) (rw (lines-long (c .lines), t .lines) h)
 
   -- the scene with zeros behind its counts
   abbrev pub tidied : Scene

@@ -16,7 +16,7 @@ use Rattle.linear_programming.specs.Admit.{fours}
 use Rattle.linear_programming.specs.Read.{phaseOf, failedOf}
 use Rattle.linear_programming.specs.Resume.{resumedCall}
 use Rattle.admission.proofs.FaultLaws.{⊳-fine, must-fine}
-use Rattle.lines.proofs.Rows.{count}
+use Rattle.lines.proofs.Rows.{lines-long}
 use Rattle.session.specs.declared.Session.{Session}
 use Rattle.session.specs.Batches.{batchFault, settledOn, settled, worked}
 
@@ -35,19 +35,19 @@ batch-fits n xs h =
     let a = ⊳-fine (must (leb n 256) 4) (sym h) in
     let b = ⊳-fine (fours xs) (a .1) in
     let c = ⊳-fine (must (leb (n + length (linesOf xs)) 256) 4) (b .1) in
-    rw (← count xs) (leb-true _ _ (must-fine (leb (n + length (linesOf xs)) 256) 4 (c .0)))
+    rw (← lines-long xs) (leb-true _ _ (must-fine (leb (n + length (linesOf xs)) 256) 4 (c .0)))
 
 module _ (s : Session) (xs : List Float) (size : length (s .lines) ≡ 256) (fits : s .count + length xs / 4 ≤ 256) where
   -- all lines, from the first new one on
   all-lines : resumedCall (s .rigid) (s .wish) (s .limit) (sets (s .lines) (s .count) (linesOf xs)) (s .count + length (linesOf xs)) (s .count) (phaseOf (s .phase)) (failedOf (s .failed)) ≡ worked s (linesOf xs)
   unfolding resumedCall worked
   all-lines =
-      let n : length (linesOf xs) ≡ length xs / 4 = count xs in
+      let n : length (linesOf xs) ≡ length xs / 4 = lines-long xs in
       rw (le-leb (s .count + length (linesOf xs)) 256 (omega arith), lines-behind (s .lines) (linesOf xs) (s .count) (omega arith))
 
   pub worked-right : (lines : List Line) (n : ℕ) (o : Outcome) → lines ≡ sets (s .lines) (s .count) (linesOf xs) → n ≡ s .count + length xs / 4 →
       o ≡ resumedCall (s .rigid) (s .wish) (s .limit) lines n (s .count) (phaseOf (s .phase)) (failedOf (s .failed)) →
       settledOn s lines n o ≡ settled s (linesOf xs) (worked s (linesOf xs))
   worked-right lines n o e k h =
-      let m : n ≡ s .count + length (linesOf xs) = k ∙ ap (λ (i : ℕ). s .count + i) (sym (count xs)) in
+      let m : n ≡ s .count + length (linesOf xs) = k ∙ ap (λ (i : ℕ). s .count + i) (sym (lines-long xs)) in
       rw (h, e, m, all-lines)

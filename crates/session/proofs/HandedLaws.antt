@@ -20,7 +20,7 @@ use Rattle.linear_programming.specs.Resume.{resumed, addProbes}
 use Rattle.admission.proofs.FaultLaws.{no-fault, ⊳-fine}
 use Rattle.lines.proofs.JudgeLaws.{faults-append}
 use Rattle.linear_programming.proofs.JudgeLaws.{⟫-assoc, ⟫-stands}
-use Rattle.lines.proofs.Rows.{count}
+use Rattle.lines.proofs.Rows.{lines-long}
 use Rattle.linear_programming.proofs.ResumeLaws.{resumed-whole}
 use Rattle.linear_programming.proofs.WholeProbes.{whole-fits}
 use Rattle.session.specs.declared.Session.{Session}
@@ -108,7 +108,7 @@ module _ (s : Session) (h : Handed s) where
     whole-told e = (rw (by-four (s .count) xs e, e) at (all-judged xs)) ∙ sym (solved-on L)
 
     has-room : batchFault (s .count) xs ≡ fine → s .count + length L ≤ 256
-    has-room e = rw (count xs) (batch-fits (s .count) xs (sym e))
+    has-room e = rw (lines-long xs) (batch-fits (s .count) xs (sym e))
 
     refused-on : (r : ℕ) → refusal r ≡ (fours xs ⟫ judgedList (s .rigid) (s .wish) (s .limit) after) → Continues s xs (settled s L (refusal r))
     refused-on r e = record { handed = h; tells = e; grows = λ z. absurd (no-fault r (sym z)); aims = (refl, refl, refl); untouched = λ k z. refl }

@@ -12,7 +12,7 @@ use Rattle.lines.specs.declared.Line.{Line}
 use Rattle.lines.specs.Lines.{linesOf}
 use Rattle.linear_programming.specs.Whole.{wholeList}
 use Rattle.linear_programming.specs.Admit.{judgedList, listCall}
-use Rattle.lines.proofs.Rows.{count, all-lines}
+use Rattle.lines.proofs.Rows.{lines-long, lines-take-all}
 use borrow.Author.Needs.{needs}
 use Rattle.linear_programming.proofs.solve_linear_program.Statement.{statement}
 use Rattle.linear_programming.proofs.solve_linear_program.Tie as tie
@@ -21,10 +21,10 @@ four : (n : ℕ) → n % 4 ≡ 0 → eqb (n % 4) 0 ≡ true
 four n h = eq-eqb (n % 4) 0 h
 
 few : (xs : List Float) → length xs / 4 ≤ 256 → leb (length (linesOf xs)) 256 ≡ true
-few xs h = rw (count xs) (le-leb (length xs / 4) 256 h)
+few xs h = rw (lines-long xs) (le-leb (length xs / 4) 256 h)
 
 too-many : (xs : List Float) → 256 < length xs / 4 → leb (length (linesOf xs)) 256 ≡ false
-too-many xs h = rw (count xs) (lt-leb (length xs / 4) 256 h)
+too-many xs h = rw (lines-long xs) (lt-leb (length xs / 4) 256 h)
 
 returns : tie.Need-returns
 unfolding listCall judgedList
@@ -73,7 +73,7 @@ unfolding listCall judgedList
 returns-4 c =
     let start = c .before .before .before .before .before .before .before .before .before in
     let xs = now (start .args .numbers) in
-    let whole = c .solve-from-start .ensures ∙ ap (λ (l : List Line). wholeList (start .args .rigid) (start .args .wish) (start .args .limit) l) (all-lines xs) in
+    let whole = c .solve-from-start .ensures ∙ ap (λ (l : List Line). wholeList (start .args .rigid) (start .args .wish) (start .args .limit) l) (lines-take-all xs) in
     simp (
       four _ (c .before .before .before .before .before .before .before .if1 .left),
       few xs (c .before .before .before .before .before .before .if2 .left),

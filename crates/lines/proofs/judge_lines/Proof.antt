@@ -6,7 +6,7 @@ use denote.Ref.{now}
 use lib.ListN.{length, take, drop}
 use Rattle.lines.specs.Lines.{linesOf, offLine}
 use Rattle.lines.specs.LineFaults.{linesFault}
-use Rattle.lines.proofs.Rows.{fits, all-lines}
+use Rattle.lines.proofs.Rows.{lines-fit, lines-take-all}
 use Rattle.lines.proofs.JudgeLaws.{judged-on, judged-stop, judged-done}
 use borrow.Author.Needs.{needs}
 use Rattle.lines.proofs.judge_lines.Statement.{statement}
@@ -19,7 +19,7 @@ abbrev μ-loop : tie.MeasureT-loop
 μ-loop numbers count i₀ i = count - i
 
 loop-holds : tie.Need-loop-holds Inv-loop μ-loop
-loop-holds c = (omega arith, ap linesFault (sym (all-lines (now (c .before .args .numbers)))))
+loop-holds c = (omega arith, ap linesFault (sym (lines-take-all (now (c .before .args .numbers)))))
 
 line-at-requires : tie.Need-line-at-requires Inv-loop μ-loop
 line-at-requires c κs = search needs
@@ -38,7 +38,7 @@ returns c =
     let b = now (c .before .before .before .before .before .before .before .args .numbers) in
     let l = c .before .before .before .before .before .loop in
     let step = rw (c .enum-told2 .given .1, c .before .before .before .line-at .ensures) at (c .before .before .judge-line .ensures) in
-    rw (c .enum-told2 .given .1) (sym (l .inv .1 ∙ judged-stop (linesOf b) (length b / 4) (l .i) (fits b (length b / 4) (omega arith)) offLine _ (omega arith) step))
+    rw (c .enum-told2 .given .1) (sym (l .inv .1 ∙ judged-stop (linesOf b) (length b / 4) (l .i) (lines-fit b (length b / 4) (omega arith)) offLine _ (omega arith) step))
 
 add-i : tie.Need-add-i Inv-loop μ-loop
 add-i c = search needs
@@ -51,13 +51,13 @@ loop-again c =
     let b = now (c .before .before .before .before .before .before .before .args .numbers) in
     let l = c .before .before .before .before .before .loop in
     let step = rw (c .enum-told .given .1, c .before .before .before .line-at .ensures) at (c .before .before .judge-line .ensures) in
-    (omega arith, l .inv .1 ∙ judged-on (linesOf b) (length b / 4) (l .i) (fits b (length b / 4) (omega arith)) offLine (omega arith) step)
+    (omega arith, l .inv .1 ∙ judged-on (linesOf b) (length b / 4) (l .i) (lines-fit b (length b / 4) (omega arith)) offLine (omega arith) step)
 
 returns-2 : tie.Need-returns-2 Inv-loop μ-loop
 returns-2 c =
     let b = now (c .before .before .before .args .numbers) in
     let l = c .before .loop in
-    sym (l .inv .1 ∙ judged-done (linesOf b) (length b / 4) (l .i) (fits b (length b / 4) (omega arith)) (omega arith))
+    sym (l .inv .1 ∙ judged-done (linesOf b) (length b / 4) (l .i) (lines-fit b (length b / 4) (omega arith)) (omega arith))
 
 pub judge-lines-spec : {M : Type 1} → statement M
 judge-lines-spec =

@@ -5,7 +5,7 @@ use denote.Ref.{now}
 use lib.ListN.{List·getD-eq-default}
 use lib.Ieee.{div, ofBits}
 use Rattle.lines.specs.Lines.{linesOf, offLine}
-use Rattle.lines.proofs.Rows.{count, nth}
+use Rattle.lines.proofs.Rows.{lines-long, four-get}
 use borrow.Author.Needs.{needs}
 use Rattle.lines.proofs.line_at.Statement.{statement}
 use Rattle.lines.proofs.line_at.Tie as tie
@@ -47,13 +47,13 @@ shared-slice-read-t23 : tie.Need-shared-slice-read-t23
 shared-slice-read-t23 c = search needs
 
 returns : tie.Need-returns
-returns c = let a = c .before .before .before .before .before .args in sym (nth (now (a .numbers)) (a .i) _ refl (omega arith))
+returns c = let a = c .before .before .before .before .before .args in sym (four-get (now (a .numbers)) (a .i) _ refl (omega arith))
 
 returns-2 : tie.Need-returns-2
 unfolding div ofBits
 returns-2 c =
     let a = c .before .args in
-    sym (List·getD-eq-default (linesOf (now (a .numbers))) offLine (rw (count (now (a .numbers))) (c .if1 .left)))
+    sym (List·getD-eq-default (linesOf (now (a .numbers))) offLine (rw (lines-long (now (a .numbers))) (c .if1 .left)))
 
 pub line-at-spec : {M : Type 1} → statement M
 line-at-spec =

@@ -10,7 +10,7 @@ use lib.ListN.{length}
 use lib.Ieee.{Float}
 use borrow.Author.Tests.{eq-eqb, ne-eqb, le-leb, lt-leb}
 use Rattle.lines.specs.Lines.{linesOf}
-use Rattle.lines.proofs.Rows.{count}
+use Rattle.lines.proofs.Rows.{lines-long}
 use Rattle.session.specs.Batches.{batchFault}
 use borrow.Author.Needs.{needs}
 use Rattle.session.proofs.judge_batch.Statement.{statement}
@@ -18,10 +18,10 @@ use Rattle.session.proofs.judge_batch.Tie as tie
 
 -- the lines of a batch fit behind those that stand, or not
 room : (n : ℕ) (xs : List Float) → n ≤ 256 → length xs / 4 ≤ 256 - n → leb (n + length (linesOf xs)) 256 ≡ true
-room n xs h k = rw (count xs) (le-leb (n + length xs / 4) 256 (omega arith))
+room n xs h k = rw (lines-long xs) (le-leb (n + length xs / 4) 256 (omega arith))
 
 no-room : (n : ℕ) (xs : List Float) → n ≤ 256 → 256 - n < length xs / 4 → leb (n + length (linesOf xs)) 256 ≡ false
-no-room n xs h k = rw (count xs) (lt-leb (n + length xs / 4) 256 (omega arith))
+no-room n xs h k = rw (lines-long xs) (lt-leb (n + length xs / 4) 256 (omega arith))
 
 returns : tie.Need-returns
 unfolding batchFault

@@ -10,7 +10,7 @@ use lib.ListN.{length, drop, getD, set, length-set, drop-of-length-le}
 use lib.Seq.{sets, drop-cons}
 use Rattle.lines.specs.declared.Line.{Line}
 use Rattle.lines.specs.Lines.{linesOf, offLine}
-use Rattle.lines.proofs.Rows.{count}
+use Rattle.lines.proofs.Rows.{lines-long}
 use borrow.Author.Needs.{needs}
 use Rattle.session.proofs.store.Statement.{statement}
 use Rattle.session.proofs.store.Tie as tie
@@ -56,13 +56,13 @@ loop-again c =
     let a = c .before .before .before .before .args in
     let l = c .before .before .loop in
     let m = linesOf (now (a .numbers)) in
-    (omega arith, simp length-set (l .inv .1), l .inv .2 ∙ store-on (l .stored) m (a .count) (l .i) offLine _ (omega (arith, count (now (a .numbers)))) (c .line-at .ensures))
+    (omega arith, simp length-set (l .inv .1), l .inv .2 ∙ store-on (l .stored) m (a .count) (l .i) offLine _ (omega (arith, lines-long (now (a .numbers)))) (c .line-at .ensures))
 
 returns : tie.Need-returns Inv-loop μ-loop
 returns c =
     let a = c .before .before .before .args in
     let l = c .before .loop in
-    sym (l .inv .2 ∙ store-done (l .stored) (linesOf (now (a .numbers))) (a .count) (l .i) (omega (arith, count (now (a .numbers)))))
+    sym (l .inv .2 ∙ store-done (l .stored) (linesOf (now (a .numbers))) (a .count) (l .i) (omega (arith, lines-long (now (a .numbers)))))
 
 pub store-spec : {M : Type 1} → statement M
 store-spec =

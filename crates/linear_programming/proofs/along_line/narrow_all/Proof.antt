@@ -9,7 +9,7 @@ use Rattle.lines.specs.Lines.{linesOf, offLine}
 use Rattle.linear_programming.specs.OneLine.{between, narrow}
 use Rattle.lines.proofs.Fold.{fold-on, fold-stop, fold-done}
 use Rattle.linear_programming.proofs.OneLineLaws.{empty-stays, looked-on}
-use Rattle.lines.proofs.Rows.{fits}
+use Rattle.lines.proofs.Rows.{lines-fit}
 use borrow.Author.Needs.{needs}
 use Rattle.linear_programming.proofs.along_line.narrow_all.Statement.{statement}
 use Rattle.linear_programming.proofs.along_line.narrow_all.Tie as tie
@@ -41,7 +41,7 @@ returns c =
     let a = c .before .before .before .before .before .before .before .args in
     let l = c .before .before .before .before .before .loop in
     let step = rw (c .enum-told .given .1, c .before .before .before .line-at .ensures) at (c .before .before .narrow-by .ensures) in
-    rw (c .enum-told .given .1) (sym (l .inv .2 ∙ fold-stop (narrow (a .line)) (linesOf (now (a .lines))) (a .count) (l .i) (fits (now (a .lines)) (a .count) (omega arith)) offLine (omega arith) (sym step) (empty-stays (a .line) _)))
+    rw (c .enum-told .given .1) (sym (l .inv .2 ∙ fold-stop (narrow (a .line)) (linesOf (now (a .lines))) (a .count) (l .i) (lines-fit (now (a .lines)) (a .count) (omega arith)) offLine (omega arith) (sym step) (empty-stays (a .line) _)))
 
 add-i : tie.Need-add-i Inv-loop μ-loop
 add-i c = search needs
@@ -56,14 +56,14 @@ loop-again c =
     let step = rw (c .before .interval .given .1, c .before .before .before .before .line-at .ensures) at (c .before .before .before .narrow-by .ensures) in (
       omega arith,
       omega (arith, looked-on _ _ _ _ _ _ _ _ step),
-      l .inv .2 ∙ fold-on (narrow (a .line)) (linesOf (now (a .lines))) (a .count) (l .i) (fits (now (a .lines)) (a .count) (omega arith)) offLine (omega arith) (sym step),
+      l .inv .2 ∙ fold-on (narrow (a .line)) (linesOf (now (a .lines))) (a .count) (l .i) (lines-fit (now (a .lines)) (a .count) (omega arith)) offLine (omega arith) (sym step),
     )
 
 returns-2 : tie.Need-returns-2 Inv-loop μ-loop
 returns-2 c =
     let a = c .before .before .before .args in
     let l = c .before .loop in
-    sym (l .inv .2 ∙ fold-done (narrow (a .line)) (linesOf (now (a .lines))) (a .count) (l .i) (fits (now (a .lines)) (a .count) (omega arith)) (omega arith))
+    sym (l .inv .2 ∙ fold-done (narrow (a .line)) (linesOf (now (a .lines))) (a .count) (l .i) (lines-fit (now (a .lines)) (a .count) (omega arith)) (omega arith))
 
 pub narrow-all-spec : {M : Type 1} → statement M
 narrow-all-spec =

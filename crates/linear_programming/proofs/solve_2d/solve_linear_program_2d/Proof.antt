@@ -9,7 +9,7 @@ use Rattle.linear_programming.specs.Walk.{walk}
 use Rattle.lines.specs.Lines.{linesOf, offLine}
 use Rattle.linear_programming.specs.Pass.{now, passLine}
 use Rattle.linear_programming.specs.Read.{objectiveOf}
-use Rattle.lines.proofs.Rows.{fits}
+use Rattle.lines.proofs.Rows.{lines-fit}
 use Rattle.linear_programming.proofs.WalkLaws.{walk-on, walk-stop, walk-done}
 use Rattle.linear_programming.proofs.Variants.{ended-stays}
 use Rattle.linear_programming.proofs.Probes.{line-most}
@@ -39,7 +39,7 @@ returns : tie.Need-returns Inv-loop μ-loop
 returns c =
     let a = c .before .before .before .before .before .args in
     let l = c .before .before .before .loop in
-    sym (l .inv .3 ∙ walk-stop (passLine (objectiveOf (a .optimal-value)) (a .radius)) (linesOf (held (a .lines))) (a .count) (l .i) (fits (held (a .lines)) (a .count) (omega arith)) offLine (omega arith) (sym (c .before .pass-line .ensures)) (ended-stays _ _ (c .before .pass-line .result) (c .match .keys2)))
+    sym (l .inv .3 ∙ walk-stop (passLine (objectiveOf (a .optimal-value)) (a .radius)) (linesOf (held (a .lines))) (a .count) (l .i) (lines-fit (held (a .lines)) (a .count) (omega arith)) offLine (omega arith) (sym (c .before .pass-line .ensures)) (ended-stays _ _ (c .before .pass-line .result) (c .match .keys2)))
 
 add-i : tie.Need-add-i Inv-loop μ-loop
 add-i c = search needs
@@ -52,18 +52,18 @@ loop-again c =
     let a = c .before .before .before .before .before .before .before .args in
     let l = c .before .before .before .before .before .loop in
     let step = rw (c .before .pass .given .1) at (c .before .before .before .pass-line .ensures) in
-    let short = length-take-le (l .i) (linesOf (held (a .lines))) (fits (held (a .lines)) (l .i) (omega arith)) in (
+    let short = length-take-le (l .i) (linesOf (held (a .lines))) (lines-fit (held (a .lines)) (l .i) (omega arith)) in (
       omega arith,
       omega arith,
       omega (arith, short, line-most _ _ _ _ _ _ _ _ step),
-      l .inv .3 ∙ walk-on (passLine (objectiveOf (a .optimal-value)) (a .radius)) (linesOf (held (a .lines))) (a .count) (l .i) (fits (held (a .lines)) (a .count) (omega arith)) offLine (omega arith) (sym step),
+      l .inv .3 ∙ walk-on (passLine (objectiveOf (a .optimal-value)) (a .radius)) (linesOf (held (a .lines))) (a .count) (l .i) (lines-fit (held (a .lines)) (a .count) (omega arith)) offLine (omega arith) (sym step),
     )
 
 returns-2 : tie.Need-returns-2 Inv-loop μ-loop
 returns-2 c =
     let a = c .before .before .before .args in
     let l = c .before .loop in
-    sym (l .inv .3 ∙ walk-done (passLine (objectiveOf (a .optimal-value)) (a .radius)) (linesOf (held (a .lines))) (a .count) (l .i) (fits (held (a .lines)) (a .count) (omega arith)) (omega arith))
+    sym (l .inv .3 ∙ walk-done (passLine (objectiveOf (a .optimal-value)) (a .radius)) (linesOf (held (a .lines))) (a .count) (l .i) (lines-fit (held (a .lines)) (a .count) (omega arith)) (omega arith))
 
 pub solve-linear-program-2d-spec : {M : Type 1} → statement M
 solve-linear-program-2d-spec =

@@ -9,7 +9,7 @@ use Rattle.arithmetic.specs.Binary32.{if_then_else_}
 use Rattle.lines.specs.Lines.{linesOf}
 use Rattle.linear_programming.specs.Relax.{relaxLine}
 use Rattle.linear_programming.proofs.Probes.{inner-most}
-use Rattle.lines.proofs.Rows.{fits}
+use Rattle.lines.proofs.Rows.{lines-fit}
 use Rattle.linear_programming.proofs.TightLaws.{lesser-rigid}
 use borrow.Author.Needs.{needs}
 use Rattle.linear_programming.proofs.solve_3d.relax_line.Statement.{statement}
@@ -55,7 +55,7 @@ returns-2 : tie.Need-returns-2
 unfolding relaxLine if_then_else_
 returns-2 c =
     let a = c .before .before .before .before .before .before .before .before .before .before .before .args in
-    let short = length-take-le (a .index) (linesOf (now (a .lines))) (fits (now (a .lines)) (a .index) (omega arith)) in
+    let short = length-take-le (a .index) (linesOf (now (a .lines))) (lines-fit (now (a .lines)) (a .index) (omega arith)) in
     let list = c .before .before .before .before .tighten-into .ensures .2 ∙ lesser-rigid _ _ _ short (c .before .before .before .before .before .before .lesser .ensures) in
     simp (
       add-zero,

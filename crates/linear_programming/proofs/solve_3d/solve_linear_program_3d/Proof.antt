@@ -9,7 +9,7 @@ use lib.Seq.{length-take-le}
 use Rattle.linear_programming.specs.Walk.{walk}
 use Rattle.lines.specs.Lines.{linesOf, offLine}
 use Rattle.linear_programming.specs.Relax.{on, relaxLine}
-use Rattle.lines.proofs.Rows.{fits}
+use Rattle.lines.proofs.Rows.{lines-fit}
 use Rattle.linear_programming.proofs.WalkLaws.{walk-on, walk-stop, walk-done}
 use Rattle.linear_programming.proofs.TightLaws.{turned-stays}
 use Rattle.linear_programming.proofs.Probes.{relax-most}
@@ -44,7 +44,7 @@ returns c =
     let l = c .before .before .before .before .loop in
     let step = rw (c .enum-told .given .1) at (c .before .before .relax-line .ensures) in
     rw (c .enum-told .given .1)
-    (sym (l .inv .3 ∙ walk-stop (relaxLine (a .rigid) (a .radius)) (linesOf (now (a .lines))) (a .count) (l .i) (fits (now (a .lines)) (a .count) (omega arith)) offLine (omega arith) (sym step) (turned-stays _ _ _)))
+    (sym (l .inv .3 ∙ walk-stop (relaxLine (a .rigid) (a .radius)) (linesOf (now (a .lines))) (a .count) (l .i) (lines-fit (now (a .lines)) (a .count) (omega arith)) offLine (omega arith) (sym step) (turned-stays _ _ _)))
 
 add-i : tie.Need-add-i Inv-loop μ-loop
 add-i c = search needs
@@ -57,18 +57,18 @@ loop-again c =
     let a = c .before .before .before .before .before .before .before .args in
     let l = c .before .before .before .before .before .loop in
     let step = rw (c .before .relaxed .given .1) at (c .before .before .before .relax-line .ensures) in
-    let short = length-take-le (l .i) (linesOf (now (a .lines))) (fits (now (a .lines)) (l .i) (omega arith)) in (
+    let short = length-take-le (l .i) (linesOf (now (a .lines))) (lines-fit (now (a .lines)) (l .i) (omega arith)) in (
       omega arith,
       omega arith,
       omega (arith, relax-most _ _ _ _ (omega (arith, short)) _ _ _ _ _ _ step),
-      l .inv .3 ∙ walk-on (relaxLine (a .rigid) (a .radius)) (linesOf (now (a .lines))) (a .count) (l .i) (fits (now (a .lines)) (a .count) (omega arith)) offLine (omega arith) (sym step),
+      l .inv .3 ∙ walk-on (relaxLine (a .rigid) (a .radius)) (linesOf (now (a .lines))) (a .count) (l .i) (lines-fit (now (a .lines)) (a .count) (omega arith)) offLine (omega arith) (sym step),
     )
 
 returns-2 : tie.Need-returns-2 Inv-loop μ-loop
 returns-2 c =
     let a = c .before .before .before .args in
     let l = c .before .loop in
-    sym (l .inv .3 ∙ walk-done (relaxLine (a .rigid) (a .radius)) (linesOf (now (a .lines))) (a .count) (l .i) (fits (now (a .lines)) (a .count) (omega arith)) (omega arith))
+    sym (l .inv .3 ∙ walk-done (relaxLine (a .rigid) (a .radius)) (linesOf (now (a .lines))) (a .count) (l .i) (lines-fit (now (a .lines)) (a .count) (omega arith)) (omega arith))
 
 pub solve-linear-program-3d-spec : {M : Type 1} → statement M
 solve-linear-program-3d-spec =

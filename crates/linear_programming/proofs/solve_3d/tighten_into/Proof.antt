@@ -10,7 +10,7 @@ use lib.Seq.{take-take}
 use Rattle.lines.specs.Lines.{linesOf, offLine}
 use Rattle.linear_programming.specs.Relax.{tightenNext, tightened}
 use Rattle.lines.proofs.Fold.{fold-on, fold-done, take-set-next}
-use Rattle.lines.proofs.Rows.{fits}
+use Rattle.lines.proofs.Rows.{lines-fit}
 use Rattle.linear_programming.proofs.TightLaws.{next-kept, next-skipped}
 use Rattle.lines.proofs.Stored.{stored-line}
 use borrow.Author.Needs.{needs}
@@ -66,13 +66,13 @@ loop-again c =
     let b = now (a .lines) in
     let few = c .before .before .before .before .before .before .before .before .before .before .before .before .before .before .before .before .before .pre .1 in
     let all = c .before .before .before .before .before .before .before .before .before .before .before .before .before .before .before .before .before .pre .2 in
-    let k : l .n < length (linesOf (l .tight)) = omega (arith, fits (l .tight) 255 (omega arith)) in
+    let k : l .n < length (linesOf (l .tight)) = omega (arith, lines-fit (l .tight) 255 (omega arith)) in
     let made = rw (c .before .before .before .before .before .line .given .1, c .before .before .before .before .before .before .before .before .line-at .ensures) at (c .before .before .before .before .before .before .before .tighten .ensures) in (
       omega arith,
       omega arith,
       c .before .before .put-line .kept .0 ∙ l .inv .2,
       l .inv .3
-          ∙ fold-on (tightenNext (a .constraint)) (linesOf b) (a .index) (l .i) (fits b (a .index) (omega arith)) offLine (omega arith)
+          ∙ fold-on (tightenNext (a .constraint)) (linesOf b) (a .index) (l .i) (lines-fit b (a .index) (omega arith)) offLine (omega arith)
           (next-kept _ _ _ _ made ∙ rw (c .before .before .put-line .ensures, stored-line (l .tight) (l .n) _ (omega arith), take-set-next (linesOf (l .tight)) (l .n) k)),
     )
 
@@ -91,7 +91,7 @@ loop-again-2 c =
       omega arith,
       omega arith,
       l .inv .2,
-      l .inv .3 ∙ fold-on (tightenNext (a .constraint)) (linesOf b) (a .index) (l .i) (fits b (a .index) (omega arith)) offLine (omega arith) (next-skipped _ _ _ made),
+      l .inv .3 ∙ fold-on (tightenNext (a .constraint)) (linesOf b) (a .index) (l .i) (lines-fit b (a .index) (omega arith)) offLine (omega arith) (next-skipped _ _ _ made),
     )
 
 same-length : tie.Need-same-length Inv-loop μ-loop
@@ -102,7 +102,7 @@ returns c =
     let a = c .before .before .before .before .before .before .before .before .args in
     let l = c .before .loop in
     let b = now (a .lines) in
-    (omega arith, l .inv .2, sym (l .inv .3 ∙ fold-done (tightenNext (a .constraint)) (linesOf b) (a .index) (l .i) (fits b (a .index) (omega arith)) (omega arith)))
+    (omega arith, l .inv .2, sym (l .inv .3 ∙ fold-done (tightenNext (a .constraint)) (linesOf b) (a .index) (l .i) (lines-fit b (a .index) (omega arith)) (omega arith)))
 
 pub tighten-into-spec : {M : Type 1} → statement M
 tighten-into-spec =

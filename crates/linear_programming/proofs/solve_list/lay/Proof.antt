@@ -5,7 +5,7 @@ use native.Mathlib.Omega.{arith}
 use lib.ListN.{length, take}
 use Rattle.lines.specs.Lines.{linesOf, offLine}
 use Rattle.lines.proofs.Fold.{take-next, take-set-next}
-use Rattle.lines.proofs.Rows.{fits}
+use Rattle.lines.proofs.Rows.{lines-fit}
 use Rattle.lines.proofs.Stored.{stored-line}
 use borrow.Author.Needs.{needs}
 use Rattle.linear_programming.proofs.solve_list.lay.Statement.{statement}
@@ -38,7 +38,7 @@ loop-less c = search needs
 loop-again : tie.Need-loop-again Inv-loop μ-loop
 loop-again c =
     let l = c .before .before .before .before .before .before .loop in
-    let k : l .n < length (linesOf (l .numbers)) = omega (arith, fits (l .numbers) 256 (omega arith)) in (
+    let k : l .n < length (linesOf (l .numbers)) = omega (arith, lines-fit (l .numbers) 256 (omega arith)) in (
       omega arith,
       c .before .before .put-line .kept .0 ∙ l .inv .1,
       rw (c .before .before .put-line .ensures, stored-line (l .numbers) (l .n) _ (omega arith), take-set-next (linesOf (l .numbers)) (l .n) k, take-next (c .before .before .before .before .before .before .before .before .args .t1) (l .n) (omega arith) offLine, l .inv .2),

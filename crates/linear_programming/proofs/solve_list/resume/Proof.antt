@@ -10,7 +10,7 @@ use Rattle.lines.specs.declared.Line.{Line}
 use Rattle.lines.specs.Lines.{linesOf}
 use Rattle.linear_programming.specs.Resume.{resumed}
 use Rattle.linear_programming.proofs.PassLaws.{pass-bounds}
-use Rattle.lines.proofs.Rows.{fits}
+use Rattle.lines.proofs.Rows.{lines-fit}
 use borrow.Author.Needs.{needs}
 use Rattle.linear_programming.proofs.solve_list.resume.Statement.{statement}
 use Rattle.linear_programming.proofs.solve_list.resume.Tie as tie
@@ -32,7 +32,7 @@ after-pass-requires : tie.Need-after-pass-requires
 after-pass-requires c κs =
     let start = c .before .before .before .before .before .before in
     let lines = linesOf (now (start .args .lines)) in
-    let size = parts lines (start .args .count) (start .args .from) (fits (now (start .args .lines)) (start .args .count) (start .pre .2)) (start .pre .0) in
+    let size = parts lines (start .args .count) (start .args .from) (lines-fit (now (start .args .lines)) (start .args .count) (start .pre .2)) (start .pre .0) in
     let few = start .pre .1 in
     let bounds = pass-bounds _ _ (take (start .args .from) lines) (drop (start .args .from) (take (start .args .count) lines)) _ (c .solve-linear-program-2d .result) (omega (arith, size)) (c .solve-linear-program-2d .ensures) in
     (few, start .pre .2, bounds .0, omega (arith, size, bounds .1))

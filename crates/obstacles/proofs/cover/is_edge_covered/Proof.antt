@@ -5,7 +5,7 @@ use native.Mathlib.Omega.{arith}
 use denote.Ref.{now}
 use lib.ListN.{length, drop}
 use Rattle.lines.specs.Lines.{linesOf, offLine}
-use Rattle.lines.proofs.Rows.{count}
+use Rattle.lines.proofs.Rows.{lines-long}
 use Rattle.obstacles.specs.Cover.{isEdgeCovered}
 use Rattle.obstacles.proofs.Covered.{covered-at, covered-on, covered-done}
 use borrow.Author.Needs.{needs}
@@ -34,7 +34,7 @@ returns c =
     let l = c .before .before .before .before .loop in
     let b = now (a .existing-lines) in
     let hit = rw (c .if1 .taken, c .before .before .line-at .ensures) at (c .before .is-covered-by .ensures) in
-    sym (l .inv .1 ∙ covered-at (a .left-vertex) (a .right-vertex) (a .horizon) (a .margin) (linesOf b) (l .i) offLine (omega (arith, count b)) hit)
+    sym (l .inv .1 ∙ covered-at (a .left-vertex) (a .right-vertex) (a .horizon) (a .margin) (linesOf b) (l .i) offLine (omega (arith, lines-long b)) hit)
 
 add-i : tie.Need-add-i Inv-loop μ-loop
 add-i c = search needs
@@ -48,14 +48,14 @@ loop-again c =
     let l = c .before .before .before .before .loop in
     let b = now (a .existing-lines) in
     let miss = rw (c .if1 .left, c .before .before .line-at .ensures) at (c .before .is-covered-by .ensures) in
-    (omega arith, l .inv .1 ∙ covered-on (a .left-vertex) (a .right-vertex) (a .horizon) (a .margin) (linesOf b) (l .i) offLine (omega (arith, count b)) miss)
+    (omega arith, l .inv .1 ∙ covered-on (a .left-vertex) (a .right-vertex) (a .horizon) (a .margin) (linesOf b) (l .i) offLine (omega (arith, lines-long b)) miss)
 
 returns-2 : tie.Need-returns-2 Inv-loop μ-loop
 returns-2 c =
     let a = c .before .before .before .args in
     let l = c .before .loop in
     let b = now (a .existing-lines) in
-    sym (l .inv .1 ∙ covered-done (a .left-vertex) (a .right-vertex) (a .horizon) (a .margin) (linesOf b) (l .i) (omega (arith, count b)))
+    sym (l .inv .1 ∙ covered-done (a .left-vertex) (a .right-vertex) (a .horizon) (a .margin) (linesOf b) (l .i) (omega (arith, lines-long b)))
 
 pub is-edge-covered-spec : {M : Type 1} → statement M
 is-edge-covered-spec =
