@@ -9,9 +9,10 @@ use lib.Dec.{eqb, leb}
 use lib.ListN.{length, getD}
 use borrow.Author.Tests.{eqb-true}
 use Rattle.arithmetic.proofs.Choice.{or-cases}
+use Rattle.words.specs.Words.{pairOf}
 use Rattle.admission.specs.Faults.{fine, must}
 use Rattle.admission.proofs.FaultLaws.{⊳-fine, must-fine}
-use Rattle.answer_records.specs.Replies.{pairOf, isLength, lengthOfCode, answerFault}
+use Rattle.answer_records.specs.Replies.{isLength, lengthOfCode, answerFault}
 
 pub two-lengths : (n : ℕ) → isLength n ≡ true → (n ≡ 16) ⊎ (n ≡ 2)
 unfolding isLength

@@ -9,14 +9,14 @@ use lib.Dec.{leb, ltb}
 use lib.ListN.{length, getD}
 use borrow.Author.Tests.{le-leb, lt-leb, lt-ltb, le-ltb, ltb-true, ltb-false}
 use Rattle.arithmetic.specs.Binary32.{if_then_else_}
-use Rattle.words.specs.Words.{wordOf}
+use Rattle.words.specs.Words.{pairOf, wordOf}
 use Rattle.fields.specs.Bytes.{be, beFrom, toBe, Small}
 use Rattle.fields.proofs.ByteLaws.{be-toBe}
 use Rattle.admission.specs.Faults.{Fault, fine, fault}
 use Rattle.answer_records.specs.declared.Answer.{Answer}
 use Rattle.answer_records.specs.declared.Reply.the-variants as reply
 use Rattle.answer_records.specs.Answers.{answerBytes, refusalBytes}
-use Rattle.answer_records.specs.Replies.{pairOf, isLength, lengthOfCode, answerFault, outcomeIn, unlessFault, answerIn}
+use Rattle.answer_records.specs.Replies.{isLength, lengthOfCode, answerFault, outcomeIn, unlessFault, answerIn}
 use Rattle.answer_records.proofs.ReplyLaws.{Sound, sound, has-code}
 
 -- ---- numbers and their bytes

@@ -1,19 +1,15 @@
 -- What reading an answer record gives (01, "Records (ours)", "The answer reader .."). Definitions only. Assumes nothing.
-use Prim.Native.Nat.{ℕ, _+_, _-_, _*_}
+use Prim.Native.Nat.{ℕ, _+_, _-_}
 use mathlib.Core.Bool.{Bool, _&&_, _||_}
 use mathlib.Core.List.{List}
 use lib.Dec.{eqb, leb, ltb}
 use lib.ListN.{length, getD}
 use Rattle.arithmetic.specs.Binary32.{if_then_else_}
-use Rattle.words.specs.Words.{wordOf}
+use Rattle.words.specs.Words.{pairOf, wordOf}
 use Rattle.admission.specs.Faults.{Fault, fine, fault, must, _⊳_}
 use Rattle.answer_records.specs.declared.Answer.{Answer}
 use Rattle.answer_records.specs.declared.Reply.{Reply}
 use Rattle.answer_records.specs.declared.Reply.the-variants as reply
-
--- the two bytes from a place on as one number, the first highest, a byte past the end counting as 0
-unfoldable pub pairOf : List ℕ → ℕ → ℕ
-pairOf s at = getD s at 0 * 256 + getD s (at + 1) 0
 
 unfoldable pub isLength : ℕ → Bool
 isLength n = eqb n 16 || eqb n 2

@@ -7,7 +7,7 @@ ghost use lib.Seq.{sets};
 ghost use Rattle.fields.specs.Bytes.{toBe};
 ghost use Rattle.admission.specs.Faults.{faultOf};
 ghost use Rattle.answer_records.specs.Answers.{answerBytes, refusalBytes, laid, writtenOf};
-ghost use Rattle.answer_records.specs.Replies.{pairOf, isLength, lengthOfCode, answerFault, outcomeIn, answerIn};
+ghost use Rattle.answer_records.specs.Replies.{isLength, lengthOfCode, answerFault, outcomeIn, answerIn};
 
 // An outcome as its record has it: the point by its bits, FFFF where no line failed.
 pub struct Answer {
@@ -81,13 +81,6 @@ pub fn read_answer(bytes: &[u8]) -> Reply
     Reply::Refusal(code - 128)
 }
 
-// The two bytes from `at` on as one number, the first byte highest. A byte past the slice's end counts as 0.
-pub fn pair_at(s: &[u8], at: usize) -> u16
-    ensures { λ r. ⌜ r ≡ pairOf (now (s .entry)) at ⌝ }
-{
-    (words::word_at(s, at) / 0x1_0000) as u16
-}
-
 // The first fault of a record.
 fn judge_answer(bytes: &[u8]) -> Judged
     ensures { λ r. ⌜ faultOf r ≡ answerFault (now (bytes .entry)) ⌝ }
@@ -95,7 +88,7 @@ fn judge_answer(bytes: &[u8]) -> Judged
     if bytes.len() < 2 {
         return Judged::Fault(2);
     }
-    let length = pair_at(bytes, 0) as usize;
+    let length = words::pair_at(bytes, 0) as usize;
     if !is_length(length) {
         return Judged::Fault(2);
     }
@@ -134,7 +127,7 @@ fn outcome_in(bytes: &[u8]) -> Answer
         code: bytes[3],
         x: words::word_at(bytes, 4),
         y: words::word_at(bytes, 8),
-        failed: pair_at(bytes, 12),
+        failed: words::pair_at(bytes, 12),
         probes: words::word_at(bytes, 14),
     }
 }

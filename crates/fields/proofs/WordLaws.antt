@@ -8,7 +8,7 @@ use mathlib.Core.List.{List}
 use lib.ListN.{length, take, drop, getD}
 use lib.Seq.{drop-cons}
 use borrow.Author.Tests.{lt-leb, le-leb}
-use Rattle.words.specs.Words.{wordOf}
+use Rattle.words.specs.Words.{pairOf, wordOf}
 use Rattle.fields.specs.Bytes.{be, beFrom}
 use Rattle.fields.specs.Got.{refused, got, word}
 
@@ -29,13 +29,13 @@ module _ (s : List ℕ) (at : ℕ) where
       let e : getD s at 0 ≡ 0 + getD s at 0 = omega arith in
       rw (le-leb (at + 1) (length s) (omega arith), drop-cons s at 0) (ap (λ (n : ℕ). got n (at + 1)) e)
 
-  pub two-some : at + 2 ≤ length s → got (getD s at 0 * 256 + getD s (at + 1) 0) (at + 2) ≡ word 2 s at
-  unfolding word be beFrom
+  -- two bytes are what `words` calls the pair, four the word
+  pub two-some : at + 2 ≤ length s → got (pairOf s at) (at + 2) ≡ word 2 s at
+  unfolding word be beFrom pairOf
   two-some h =
-      let e : getD s at 0 * 256 + getD s (at + 1) 0 ≡ be (take 2 (drop at s)) = sym (be-step 0 1 s at (omega arith) ∙ be-step _ 0 s (at + 1) (omega arith) ∙ omega arith) in
+      let e : pairOf s at ≡ be (take 2 (drop at s)) = sym (be-step 0 1 s at (omega arith) ∙ be-step _ 0 s (at + 1) (omega arith) ∙ omega arith) in
       rw (le-leb (at + 2) (length s) h) (ap (λ (n : ℕ). got n (at + 2)) e)
 
-  -- four bytes are what `words` calls the word
   pub four-some : at + 4 ≤ length s → got (wordOf s at) (at + 4) ≡ word 4 s at
   unfolding word be beFrom wordOf
   four-some h =

@@ -8,7 +8,7 @@ use lib.ListN.{length, length-append, List·getD-append}
 use borrow.Author.Tests.{ltb-true, ltb-false, eqb-true, eqb-false, lt-ltb, le-ltb, ne-eqb}
 use Rattle.arithmetic.specs.Binary32.{if_then_else_}
 use Rattle.arithmetic.proofs.Choice.{if-case}
-use Rattle.answer_records.specs.Replies.{pairOf}
+use Rattle.words.specs.Words.{pairOf}
 use Rattle.records.specs.Parts.{Part, skipped, overlong, whole, cutShort, longest, skippedOf, partIn}
 
 -- how many bytes a part of l takes; where there is none, l is shorter than the longest record

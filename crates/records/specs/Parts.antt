@@ -4,7 +4,7 @@ use mathlib.Core.List.{List}
 use lib.Dec.{eqb, ltb}
 use lib.ListN.{length}
 use Rattle.arithmetic.specs.Binary32.{if_then_else_}
-use Rattle.answer_records.specs.Replies.{pairOf}
+use Rattle.words.specs.Words.{pairOf}
 use Rattle.records.specs.declared.Part.{Part as PartCode}
 use Rattle.records.specs.declared.Part.the-variants as code
 

@@ -14,7 +14,7 @@ pub(crate) fn next_part(rest: &[u8], skip: usize) -> Part
     if rest.len() < 2 {
         return Part::Cut;
     }
-    let length = answer_records::pair_at(rest, 0) as usize;
+    let length = words::pair_at(rest, 0) as usize;
     if length > SceneRead::LONGEST {
         return Part::Overlong(length);
     }

@@ -1,12 +1,13 @@
 -- The whole record, read by a cursor: the length, the fields one behind the other, and the scene that they make. Assumes nothing.
-use Prim.Native.Nat.{ℕ, _+_, _-_, _*_, _≤_, _<_}
+use Prim.Native.Nat.{ℕ, _+_, _-_, _≤_, _<_}
 use native.Mathlib.Omega.{arith}
 use mathlib.Core.Path.{_≡_, refl, sym, ap, _∙_}
 use mathlib.Core.List.{List}
-use lib.ListN.{length, getD}
+use lib.ListN.{length}
 use lib.Seq.{sets}
 use lib.Ieee.{Float}
 use borrow.Author.Tests.{le-leb, lt-leb, eq-eqb, ne-eqb}
+use Rattle.words.specs.Words.{pairOf}
 use Rattle.lines.specs.declared.Line.{Line}
 use Rattle.lines.specs.Lines.{fourOf}
 use Rattle.obstacles.specs.Read.{blankNumbers}
@@ -30,19 +31,19 @@ module _ (s : List ℕ) where
   unfolding announced told
   length-missing h = rw (← word-none 2 s 0 h)
 
-  module _ (high low : ℕ) (there : 2 ≤ length s) (first : high ≡ getD s 0 0) (second : low ≡ getD s 1 0) where
-    field : got (high * 256 + low) 2 ≡ word 2 s 0
-    field = rw (first, second) (two-some s 0 there)
+  module _ (n : ℕ) (there : 2 ≤ length s) (names : n ≡ pairOf s 0) where
+    field : got n 2 ≡ word 2 s 0
+    field = rw names (two-some s 0 there)
 
-    pub length-over : 2631 < high * 256 + low → told (cursor.Fault 4) (tt {0}) ≡ announced s
+    pub length-over : 2631 < n → told (cursor.Fault 4) (tt {0}) ≡ announced s
     unfolding announced told
     length-over h = rw (← field, lt-leb _ _ h)
 
-    pub length-other : high * 256 + low ≤ 2631 → (high * 256 + low ≡ length s - 2 → ⊥) → told (cursor.Fault 2) (tt {0}) ≡ announced s
+    pub length-other : n ≤ 2631 → (n ≡ length s - 2 → ⊥) → told (cursor.Fault 2) (tt {0}) ≡ announced s
     unfolding announced told
     length-other h k = rw (← field, le-leb _ _ h, ne-eqb _ _ k)
 
-    pub length-right : high * 256 + low ≤ 2631 → high * 256 + low ≡ length s - 2 → told (cursor.At 2) (tt {0}) ≡ announced s
+    pub length-right : n ≤ 2631 → n ≡ length s - 2 → told (cursor.At 2) (tt {0}) ≡ announced s
     unfolding announced told
     length-right h k = rw (← field, le-leb _ _ h, eq-eqb _ _ k)
 

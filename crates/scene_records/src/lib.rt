@@ -141,7 +141,7 @@ fn length_of(bytes: &[u8]) -> Cursor
     if bytes.len() < 2 {
         return Cursor::Fault(2);
     }
-    let length = steps::wide(bytes[0]) * 256 + steps::wide(bytes[1]);
+    let length = words::pair_at(bytes, 0) as usize;
     if length > SceneRead::LONGEST {
         return Cursor::Fault(4);
     }

@@ -6,3 +6,7 @@ use lib.ListN.{getD}
 -- the four bytes from a place on as one number, the first highest, a byte past the end counting as 0
 unfoldable pub wordOf : List ℕ → ℕ → ℕ
 wordOf s at = getD s at 0 * 16777216 + getD s (at + 1) 0 * 65536 + getD s (at + 2) 0 * 256 + getD s (at + 3) 0
+
+-- the two bytes from a place on, alike
+unfoldable pub pairOf : List ℕ → ℕ → ℕ
+pairOf s at = getD s at 0 * 256 + getD s (at + 1) 0

@@ -3,7 +3,7 @@ ghost use mathlib.Core.Path.{_≡_};
 ghost use Prim.Native.Nat.{_+_, _<_};
 ghost use lib.ListN.{getD};
 ghost use lib.Ieee.{binary32, ofBits, nanBits};
-ghost use Rattle.words.specs.Words.{wordOf};
+ghost use Rattle.words.specs.Words.{pairOf, wordOf};
 ghost use Rattle.words.specs.Patterns.{hasPattern};
 
 // The four bytes from `at` on as one number, the first byte highest. A byte past the slice's end counts as 0.
@@ -14,6 +14,13 @@ pub fn word_at(s: &[u8], at: usize) -> u32
         + byte_at(s, at, 1) * 0x1_0000
         + byte_at(s, at, 2) * 0x100
         + byte_at(s, at, 3)
+}
+
+// The two bytes from `at` on as one number, the first byte highest. A byte past the slice's end counts as 0.
+pub fn pair_at(s: &[u8], at: usize) -> u16
+    ensures { λ r. ⌜ r ≡ pairOf (now (s .entry)) at ⌝ }
+{
+    (byte_at(s, at, 0) * 0x100 + byte_at(s, at, 1)) as u16
 }
 
 // The binary32 number with the pattern. Every NaN pattern gives the NaN, whose own bits are not promised.
