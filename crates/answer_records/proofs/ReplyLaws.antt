@@ -12,11 +12,12 @@ use Rattle.arithmetic.proofs.Choice.{or-cases}
 use Rattle.words.specs.Words.{pairOf}
 use Rattle.admission.specs.Faults.{fine, must}
 use Rattle.admission.proofs.FaultLaws.{⊳-fine, must-fine}
+use Rattle.answer_records.specs.Answers.{outcomeLength, refusalLength, answerVersion}
 use Rattle.answer_records.specs.Replies.{isLength, lengthOfCode, answerFault}
 
-pub two-lengths : (n : ℕ) → isLength n ≡ true → (n ≡ 16) ⊎ (n ≡ 2)
+pub two-lengths : (n : ℕ) → isLength n ≡ true → (n ≡ outcomeLength) ⊎ (n ≡ refusalLength)
 unfolding isLength
-two-lengths n h = ⊎-elim (λ e. inl (eqb-true n 16 e)) (λ e. inr (eqb-true n 2 e)) (or-cases (eqb n 16) (eqb n 2) h)
+two-lengths n h = ⊎-elim (λ e. inl (eqb-true _ _ e)) (λ e. inr (eqb-true _ _ e)) (or-cases (eqb n outcomeLength) (eqb n refusalLength) h)
 
 pub has-code : (n : ℕ) → isLength n ≡ true → 2 ≤ n
 has-code n h = ⊎-elim (λ e. omega arith) (λ e. omega arith) (two-lengths n h)
@@ -25,7 +26,7 @@ has-code n h = ⊎-elim (λ e. omega arith) (λ e. omega arith) (two-lengths n h
 pub record Sound (s : List ℕ) : Type 0 where
   pub named : isLength (pairOf s 0) ≡ true
   pub matched : length s ≡ 2 + pairOf s 0
-  pub version : getD s 2 0 ≡ 1
+  pub version : getD s 2 0 ≡ answerVersion
   pub coded : lengthOfCode (getD s 3 0) ≡ pairOf s 0
 
 pub sound : (s : List ℕ) → answerFault s ≡ fine → Sound s
@@ -34,7 +35,7 @@ sound s e =
     let length-there = ⊳-fine (must (leb 2 (length s)) 2) e in
     let length-known = ⊳-fine (must (isLength (pairOf s 0)) 2) (length-there .1) in
     let bytes-match = ⊳-fine (must (eqb (length s) (2 + pairOf s 0)) 2) (length-known .1) in
-    let version-one = ⊳-fine (must (eqb (getD s 2 0) 1) 1) (bytes-match .1) in
+    let version-one = ⊳-fine (must (eqb (getD s 2 0) answerVersion) 1) (bytes-match .1) in
     record {
       named = must-fine _ 2 (length-known .0);
       matched = eqb-true _ _ (must-fine _ 2 (bytes-match .0));

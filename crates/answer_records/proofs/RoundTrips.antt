@@ -15,7 +15,7 @@ use Rattle.fields.proofs.ByteLaws.{be-toBe}
 use Rattle.admission.specs.Faults.{Fault, fine, fault}
 use Rattle.answer_records.specs.declared.Answer.{Answer}
 use Rattle.answer_records.specs.declared.Reply.the-variants as reply
-use Rattle.answer_records.specs.Answers.{answerBytes, refusalBytes}
+use Rattle.answer_records.specs.Answers.{outcomeLength, refusalLength, answerBytes, refusalBytes}
 use Rattle.answer_records.specs.Replies.{isLength, lengthOfCode, answerFault, outcomeIn, unlessFault, answerIn}
 use Rattle.answer_records.proofs.ReplyLaws.{Sound, sound, has-code}
 
@@ -124,11 +124,11 @@ unfolding if_then_else_
 only w true h = refl
 only w false h = absurd (omega arith)
 
-code-below : (k : ℕ) → k < 128 → lengthOfCode k ≡ (if leb 1 k && leb k 5 then 16 else 0)
+code-below : (k : ℕ) → k < 128 → lengthOfCode k ≡ (if leb 1 k && leb k 5 then outcomeLength else 0)
 unfolding lengthOfCode if_then_else_
 code-below k h = rw (lt-leb 129 k (omega arith))
 
-code-above : (k : ℕ) → 128 ≤ k → lengthOfCode k ≡ (if leb 129 k && leb k 138 then 2 else 0)
+code-above : (k : ℕ) → 128 ≤ k → lengthOfCode k ≡ (if leb 129 k && leb k 138 then refusalLength else 0)
 unfolding lengthOfCode if_then_else_
 code-above k h = rw (le-leb 1 k (omega arith), lt-leb k 5 (omega arith))
 
@@ -151,8 +151,8 @@ module _ (s : List ℕ) (small : Small s) where
   outcome-written-again a e =
       read-outcome (answerFault s) (ltb (getD s 3 0) 128) (outcomeIn s) _ a e λ f b o.
       let fair = sound s f in
-      let n : pairOf s 0 ≡ 16 = named-length s 16 _ fair (code-below (getD s 3 0) (ltb-true _ _ b)) in
-      its-bytes s 16 fair n ∙ rw (← o, length-bytes 16 n, word-bytes s 4 small, word-bytes s 8 small, pair-bytes s 12 small, word-bytes s 14 small, fair .version)
+      let n : pairOf s 0 ≡ outcomeLength = named-length s outcomeLength _ fair (code-below (getD s 3 0) (ltb-true _ _ b)) in
+      its-bytes s outcomeLength fair n ∙ rw (← o, length-bytes outcomeLength n, word-bytes s 4 small, word-bytes s 8 small, pair-bytes s 12 small, word-bytes s 14 small, fair .version)
 
   pub refusal-written-again : (n : ℕ) → answerIn s ≡ reply.Refusal n → s ≡ refusalBytes n
   unfolding answerIn refusalBytes upTo
@@ -160,6 +160,6 @@ module _ (s : List ℕ) (small : Small s) where
       read-refusal (answerFault s) (ltb (getD s 3 0) 128) (outcomeIn s) _ m e λ f b o.
       let fair = sound s f in
       let high : 128 ≤ getD s 3 0 = ltb-false _ _ b in
-      let n : pairOf s 0 ≡ 2 = named-length s 2 _ fair (code-above (getD s 3 0) high) in
+      let n : pairOf s 0 ≡ refusalLength = named-length s refusalLength _ fair (code-above (getD s 3 0) high) in
       let code : (128 + m) % 256 ≡ getD s 3 0 = omega (arith, small 3) in
-      its-bytes s 2 fair n ∙ rw (length-bytes 2 n, code, fair .version)
+      its-bytes s refusalLength fair n ∙ rw (length-bytes refusalLength n, code, fair .version)

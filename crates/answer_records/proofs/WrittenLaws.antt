@@ -10,7 +10,7 @@ use Rattle.arithmetic.specs.Binary32.{if_then_else_}
 use Rattle.admission.specs.Faults.{fine, fault}
 use Rattle.fields.specs.Bytes.{toBe}
 use Rattle.answer_records.specs.declared.Answer.{Answer}
-use Rattle.answer_records.specs.Answers.{answerBytes, refusalBytes, written, laid}
+use Rattle.answer_records.specs.Answers.{outcomeLength, refusalLength, answerVersion, answerBytes, refusalBytes, written, laid}
 
 module _ (bytes l : List ℕ) where
   too-short : length l < length bytes → written (fault 10) l ≡ laid bytes l
@@ -26,7 +26,7 @@ module _ (a : Answer) (l : List ℕ) where
   unfolding answerBytes toBe
   no-room = too-short (answerBytes a) l
 
-  pub stored : (named placed-x placed-y placed-line whole : List ℕ) → 18 ≤ length l → named ≡ sets l 0 (toBe 2 16) → placed-x ≡ sets (set (set named 2 1) 3 (a .code)) 4 (toBe 4 (a .x))
+  pub stored : (named placed-x placed-y placed-line whole : List ℕ) → 18 ≤ length l → named ≡ sets l 0 (toBe 2 outcomeLength) → placed-x ≡ sets (set (set named 2 answerVersion) 3 (a .code)) 4 (toBe 4 (a .x))
       → placed-y ≡ sets placed-x 8 (toBe 4 (a .y)) → placed-line ≡ sets placed-y 12 (toBe 2 (a .failed)) → whole ≡ sets placed-line 14 (toBe 4 (a .probes)) → written fine whole ≡ laid (answerBytes a) l
   unfolding answerBytes toBe
   stored named placed-x placed-y placed-line whole h by-length by-x by-y by-line by-probes = rw (by-probes, by-line, by-y, by-x, by-length) (room (answerBytes a) l h)
@@ -36,6 +36,6 @@ module _ (n : ℕ) (l : List ℕ) where
   unfolding refusalBytes toBe
   no-room-for-refusal = too-short (refusalBytes n) l
 
-  pub stored-refusal : (named : List ℕ) (code : ℕ) → 4 ≤ length l → named ≡ sets l 0 (toBe 2 2) → code ≡ (128 + n) % 256 → written fine (set (set named 2 1) 3 code) ≡ laid (refusalBytes n) l
+  pub stored-refusal : (named : List ℕ) (code : ℕ) → 4 ≤ length l → named ≡ sets l 0 (toBe 2 refusalLength) → code ≡ (128 + n) % 256 → written fine (set (set named 2 answerVersion) 3 code) ≡ laid (refusalBytes n) l
   unfolding refusalBytes toBe
   stored-refusal named code h e c = rw (e, c) (room (refusalBytes n) l h)

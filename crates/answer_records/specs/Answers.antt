@@ -9,13 +9,23 @@ use Rattle.admission.specs.declared.Judged.{Judged}
 use Rattle.admission.specs.Faults.{Fault, fine, fault, faultOf}
 use Rattle.answer_records.specs.declared.Answer.{Answer}
 
+-- the lengths that the two records name, and the version that both have
+abbrev pub outcomeLength : ℕ
+outcomeLength = 16
+
+abbrev pub refusalLength : ℕ
+refusalLength = 2
+
+abbrev pub answerVersion : ℕ
+answerVersion = 1
+
 -- "Answer: length 16, version 1, outcome, x, y, failed line (2 bytes, FFFF for none), probes (4 bytes)"
 unfoldable pub answerBytes : Answer → List ℕ
-answerBytes a = toBe 2 16 ++ 1 ∷ a .code ∷ toBe 4 (a .x) ++ toBe 4 (a .y) ++ toBe 2 (a .failed) ++ toBe 4 (a .probes)
+answerBytes a = toBe 2 outcomeLength ++ answerVersion ∷ a .code ∷ toBe 4 (a .x) ++ toBe 4 (a .y) ++ toBe 2 (a .failed) ++ toBe 4 (a .probes)
 
 -- "a refused scene as 00 02 01 and 128 + number". A code is a byte: numbers go up to 10, and one over 127 is never read as a refusal's
 unfoldable pub refusalBytes : ℕ → List ℕ
-refusalBytes n = toBe 2 2 ++ 1 ∷ (128 + n) % 256 ∷ []
+refusalBytes n = toBe 2 refusalLength ++ answerVersion ∷ (128 + n) % 256 ∷ []
 
 -- what a writer tells, and what the buffer holds then
 pub record Written : Type 0 where

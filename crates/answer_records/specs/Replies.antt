@@ -10,13 +10,14 @@ use Rattle.admission.specs.Faults.{Fault, fine, fault, must, _⊳_}
 use Rattle.answer_records.specs.declared.Answer.{Answer}
 use Rattle.answer_records.specs.declared.Reply.{Reply}
 use Rattle.answer_records.specs.declared.Reply.the-variants as reply
+use Rattle.answer_records.specs.Answers.{outcomeLength, refusalLength, answerVersion}
 
 unfoldable pub isLength : ℕ → Bool
-isLength n = eqb n 16 || eqb n 2
+isLength n = eqb n outcomeLength || eqb n refusalLength
 
 -- "codes 1 to 5 and 129 to 138 only, the first with length 16, the second with length 2"; 0 is the length of no record
 unfoldable pub lengthOfCode : ℕ → ℕ
-lengthOfCode code = if leb 1 code && leb code 5 then 16 else (if leb 129 code && leb code 138 then 2 else 0)
+lengthOfCode code = if leb 1 code && leb code 5 then outcomeLength else (if leb 129 code && leb code 138 then refusalLength else 0)
 
 -- "fewer than two bytes, a length that is neither, or bytes that do not match it, 2; another version, 1; a code not of its length, 2"
 unfoldable pub answerFault : List ℕ → Fault
@@ -24,7 +25,7 @@ answerFault s =
     must (leb 2 (length s)) 2
     ⊳ must (isLength (pairOf s 0)) 2
     ⊳ must (eqb (length s) (2 + pairOf s 0)) 2
-    ⊳ must (eqb (getD s 2 0) 1) 1
+    ⊳ must (eqb (getD s 2 0) answerVersion) 1
     ⊳ must (eqb (lengthOfCode (getD s 3 0)) (pairOf s 0)) 2
 
 -- "Point, failed line and probes are taken as they stand."

@@ -20,9 +20,16 @@ pub struct Answer {
 
 impl Answer {
     // The bytes of an outcome's record, and of a refusal's.
-    pub const LENGTH: usize = 18;
+    pub const BYTES: usize = 18;
 
-    pub const REFUSAL_LENGTH: usize = 4;
+    pub const REFUSAL_BYTES: usize = 4;
+
+    // What the length field of each says: the bytes behind it.
+    pub const LENGTH: u16 = 16;
+
+    pub const REFUSAL_LENGTH: u16 = 2;
+
+    pub const VERSION: u8 = 1;
 
     pub const NO_LINE: u16 = 0xffff;
 }
@@ -38,11 +45,11 @@ pub enum Reply {
 pub fn write_answer(buffer: &mut [u8], answer: Answer) -> Judged
     ensures { λ r. ⌜ writtenOf r (now (buffer .exit)) ≡ laid (answerBytes answer) (now (buffer .entry)) ⌝ }
 {
-    if buffer.len() < Answer::LENGTH {
+    if buffer.len() < Answer::BYTES {
         return Judged::Fault(10);
     }
-    put_pair(buffer, 0, 16);
-    buffer[2] = 1;
+    put_pair(buffer, 0, Answer::LENGTH);
+    buffer[2] = Answer::VERSION;
     buffer[3] = answer.code;
     put_word(buffer, 4, answer.x);
     put_word(buffer, 8, answer.y);
@@ -56,11 +63,11 @@ pub fn write_answer(buffer: &mut [u8], answer: Answer) -> Judged
 pub fn write_refusal(buffer: &mut [u8], number: u8) -> Judged
     ensures { λ r. ⌜ writtenOf r (now (buffer .exit)) ≡ laid (refusalBytes number) (now (buffer .entry)) ⌝ }
 {
-    if buffer.len() < Answer::REFUSAL_LENGTH {
+    if buffer.len() < Answer::REFUSAL_BYTES {
         return Judged::Fault(10);
     }
-    put_pair(buffer, 0, 2);
-    buffer[2] = 1;
+    put_pair(buffer, 0, Answer::REFUSAL_LENGTH);
+    buffer[2] = Answer::VERSION;
     buffer[3] = std::num::wrapping_add_u8(128, number);
     Judged::Fine
 }
@@ -88,32 +95,32 @@ fn judge_answer(bytes: &[u8]) -> Judged
     if bytes.len() < 2 {
         return Judged::Fault(2);
     }
-    let length = words::pair_at(bytes, 0) as usize;
+    let length = words::pair_at(bytes, 0);
     if !is_length(length) {
         return Judged::Fault(2);
     }
-    if bytes.len() != 2 + length {
+    if bytes.len() != 2 + length as usize {
         return Judged::Fault(2);
     }
-    let version = admission::fault_unless(bytes[2] == 1, 1);
+    let version = admission::fault_unless(bytes[2] == Answer::VERSION, 1);
     let code = admission::fault_unless(length_of_code(bytes[3]) == length, 2);
     admission::first_of(version, code)
 }
 
 // The lengths that a record may name: an outcome's and a refusal's.
-fn is_length(length: usize) -> bool
+fn is_length(length: u16) -> bool
     ensures { λ r. ⌜ r ≡ isLength length ⌝ }
 {
-    length == 16 || length == 2
+    length == Answer::LENGTH || length == Answer::REFUSAL_LENGTH
 }
 
 // The length that goes with a code. No record names 0, so every other code is refused.
-fn length_of_code(code: u8) -> usize
+fn length_of_code(code: u8) -> u16
     ensures { λ r. ⌜ r ≡ lengthOfCode code ⌝ }
 {
     match code {
-        1..=5 => 16,
-        129..=138 => 2,
+        1..=5 => Answer::LENGTH,
+        129..=138 => Answer::REFUSAL_LENGTH,
         _ => 0,
     }
 }

@@ -40,7 +40,7 @@ pub(crate) enum Step {
 pub fn answer_record(bytes: &[u8], buffer: &mut [u8]) -> Judged
     ensures { λ r. ⌜ writtenOf r (now (buffer .exit)) ≡ answerTo (now (bytes .entry)) (now (buffer .entry)) ⌝ }
 {
-    if buffer.len() < Answer::LENGTH {
+    if buffer.len() < Answer::BYTES {
         return Judged::Fault(10);
     }
     let read = scene_records::read_scene(bytes);
@@ -81,7 +81,7 @@ pub fn finish(left: usize, output: &mut [u8]) -> usize
     }
     let judged = answer_records::write_refusal(output, 2);
     match judged {
-        Judged::Fine => Answer::REFUSAL_LENGTH,
+        Judged::Fine => Answer::REFUSAL_BYTES,
         Judged::Fault(_) => 0,
     }
 }

@@ -20,7 +20,7 @@ pub(crate) fn step(input: &[u8], output: &mut [u8], place: Place) -> Step
     let used = place.used;
     let put = place.put;
     let skip = place.skip;
-    if output.len() - put < Answer::LENGTH {
+    if output.len() - put < Answer::BYTES {
         return Step::Stop;
     }
     let part = next_part(&input[used..], skip);
@@ -35,7 +35,7 @@ pub(crate) fn step(input: &[u8], output: &mut [u8], place: Place) -> Step
             answer_records::write_refusal(&mut output[put..], 4);
             Step::More(Place {
                 used: used + 2,
-                put: put + Answer::REFUSAL_LENGTH,
+                put: put + Answer::REFUSAL_BYTES,
                 skip: length,
             })
         }
@@ -58,10 +58,10 @@ fn reply(bytes: &[u8], output: &mut [u8]) -> usize
 {
     let judged = answer_record(bytes, output);
     match judged {
-        Judged::Fine => Answer::LENGTH,
+        Judged::Fine => Answer::BYTES,
         Judged::Fault(number) => {
             answer_records::write_refusal(output, number);
-            Answer::REFUSAL_LENGTH
+            Answer::REFUSAL_BYTES
         }
     }
 }

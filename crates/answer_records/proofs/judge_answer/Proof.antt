@@ -15,15 +15,15 @@ returns c = simp (lt-leb 2 _ (c .if1 .taken))
 pair-at-requires : tie.Need-pair-at-requires
 pair-at-requires c κs = search needs
 
-cast-length : tie.Need-cast-length
-cast-length c = search needs
-
 is-length-requires : tie.Need-is-length-requires
 is-length-requires c κs = search needs
 
 returns-2 : tie.Need-returns-2
 unfolding answerFault
 returns-2 c = simp (le-leb 2 _ (c .before .before .before .if1 .left), ← c .before .before .pair-at .ensures, sym (c .before .is-length .ensures) ∙ not-true _ (c .if2 .taken))
+
+cast-if3 : tie.Need-cast-if3
+cast-if3 c = search needs
 
 add-if3 : tie.Need-add-if3
 add-if3 c = search needs
@@ -63,9 +63,9 @@ judge-answer-spec =
     (tie.spec
     returns
     pair-at-requires
-    cast-length
     is-length-requires
     returns-2
+    cast-if3
     add-if3
     returns-3
     shared-slice-read-fault-unless
