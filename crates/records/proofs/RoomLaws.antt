@@ -19,7 +19,7 @@ use Rattle.fields.specs.Got.{Got, refused, got, word}
 use Rattle.fields.proofs.ChainLaws.{got-same, then-got, guard-got}
 use Rattle.scene_records.specs.Steps.{version, number, vector}
 use Rattle.scene_records.specs.Parts.{cart}
-use Rattle.scene_records.specs.Records.{announced, fieldsIn, sceneIn}
+use Rattle.scene_records.specs.Records.{longestRest, announced, fieldsIn, sceneIn}
 use Rattle.answer_records.specs.Answers.{refusalBytes}
 use Rattle.records.specs.Answered.{ofOutcome, ofReading, answered, replyBytes, replyTo}
 use Rattle.records.specs.Parts.{Part, skipped, overlong, whole, cutShort, partIn}
@@ -49,7 +49,7 @@ module _ (s : List ℕ) where
   accepted-long c m e =
       then-got (announced s) _ e λ u a p rest.
       then-got (word 2 s 0) _ p λ n a′ p′ named.
-      guard-got (leb n 2631) 4 _ named λ near named′.
+      guard-got (leb n longestRest) 4 _ named λ near named′.
       guard-got (eqb n (length s - 2)) 2 _ named′ λ match ahead.
       then-got (version s a) _ rest λ v b q fields.
       then-got (word 1 s a) _ q λ x b′ q′ told.

@@ -15,7 +15,7 @@ pub(crate) fn next_part(rest: &[u8], skip: usize) -> Part
         return Part::Cut;
     }
     let length = words::pair_at(rest, 0) as usize;
-    if length > SceneRead::LONGEST {
+    if length > SceneRead::LONGEST_REST {
         return Part::Overlong(length);
     }
     if rest.len() < 2 + length {

@@ -28,7 +28,7 @@ use Rattle.fields.proofs.Backs.{Back, taking, word-back, Every, many-back}
 use Rattle.scene_records.specs.declared.Cart.{Cart}
 use Rattle.scene_records.specs.Steps.{number, vector, version, count, ended}
 use Rattle.scene_records.specs.Parts.{cart, head, verticesAt, Obstacle, sizeOf, obstacle, obstacles, neighbour, neighbours}
-use Rattle.scene_records.specs.Records.{sceneOf, fieldsIn, announced, sceneIn}
+use Rattle.scene_records.specs.Records.{sceneOf, fieldsIn, longestRest, announced, sceneIn}
 use Rattle.scene_records.specs.SceneBytes.{numberBytes, vectorBytes, cartBytes, obstacleBytes, lineBytes, bodyBytes, recordBytes}
 use Rattle.scene_records.proofs.WallLaws.{room-within}
 
@@ -181,7 +181,7 @@ length-obstacles total (o ∷ os) h ok =
     omega arith
 
 module _ (x : Cart) (os : List Obstacle) (ls : List Line) (ok : GoodParts x os ls) where
-  pub length-body : length (bodyBytes x os ls) ≤ 2631
+  pub length-body : length (bodyBytes x os ls) ≤ longestRest
   unfolding bodyBytes
   length-body =
       let r = length-obstacles 0 os (omega arith) (ok .obstacles) in
@@ -190,8 +190,8 @@ module _ (x : Cart) (os : List Obstacle) (ls : List Line) (ok : GoodParts x os l
   pub parts-read : sceneIn (recordBytes x os ls) ≡ got (sceneOf x (length os) os (length ls) ls) (length (recordBytes x os ls))
   unfolding sceneIn announced recordBytes
   parts-read =
-      let n : length (bodyBytes x os ls) ≤ 2631 = length-body in
+      let n : length (bodyBytes x os ls) ≤ longestRest = length-body in
       let s : List ℕ = toBe 2 (length (bodyBytes x os ls)) ++ bodyBytes x os ls in
       let e : length (bodyBytes x os ls) ≡ length s - 2 = (let k = length-append (toBe 2 (length (bodyBytes x os ls))) (bodyBytes x os ls) in let j = length-toBe 2 (length (bodyBytes x os ls)) in omega arith) in
       taking (word-back s 2 0 (length (bodyBytes x os ls)) (bodyBytes x os ls) (lit< tt) (omega arith) refl) λ a g i d.
-      rw (g, le-leb _ 2631 n, eq-eqb _ _ e) (fields-back s x os ls ok a d)
+      rw (g, le-leb _ longestRest n, eq-eqb _ _ e) (fields-back s x os ls ok a d)

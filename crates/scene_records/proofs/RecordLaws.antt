@@ -20,7 +20,7 @@ use Rattle.scene_records.specs.declared.Cart.{Cart}
 use Rattle.scene_records.specs.declared.CountRead.{CountRead}
 use Rattle.scene_records.specs.Steps.{from, told, version, count, countAs, ended}
 use Rattle.scene_records.specs.Parts.{cart, Obstacle, obstacles, neighbours, stored, Walls, wallsWith, storedWalls}
-use Rattle.scene_records.specs.Records.{noWalls, sceneWith, fieldsIn, announced, sceneIn, readAs}
+use Rattle.scene_records.specs.Records.{noWalls, sceneWith, fieldsIn, longestRest, announced, sceneIn, readAs}
 use Rattle.scene_records.proofs.Taken.{count-taken}
 use Rattle.scene_records.proofs.Cursors.{then-told, then-from, linked, told-from}
 
@@ -35,15 +35,15 @@ module _ (s : List ℕ) where
     field : got n 2 ≡ word 2 s 0
     field = rw names (two-some s 0 there)
 
-    pub length-over : 2631 < n → told (cursor.Fault 4) (tt {0}) ≡ announced s
+    pub length-over : longestRest < n → told (cursor.Fault 4) (tt {0}) ≡ announced s
     unfolding announced told
     length-over h = rw (← field, lt-leb _ _ h)
 
-    pub length-other : n ≤ 2631 → (n ≡ length s - 2 → ⊥) → told (cursor.Fault 2) (tt {0}) ≡ announced s
+    pub length-other : n ≤ longestRest → (n ≡ length s - 2 → ⊥) → told (cursor.Fault 2) (tt {0}) ≡ announced s
     unfolding announced told
     length-other h k = rw (← field, le-leb _ _ h, ne-eqb _ _ k)
 
-    pub length-right : n ≤ 2631 → n ≡ length s - 2 → told (cursor.At 2) (tt {0}) ≡ announced s
+    pub length-right : n ≤ longestRest → n ≡ length s - 2 → told (cursor.At 2) (tt {0}) ≡ announced s
     unfolding announced told
     length-right h k = rw (← field, le-leb _ _ h, eq-eqb _ _ k)
 

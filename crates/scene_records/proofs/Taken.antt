@@ -23,7 +23,7 @@ use Rattle.fields.proofs.Spans.{word-place}
 use Rattle.scene_records.specs.declared.Cart.{Cart}
 use Rattle.scene_records.specs.Steps.{number, vector, version, count, ended}
 use Rattle.scene_records.specs.Parts.{cartOf, cart, head, verticesAt, Obstacle, obstacle, obstacles, neighbour, neighbours}
-use Rattle.scene_records.specs.Records.{sceneOf, fieldsIn, announced, sceneIn}
+use Rattle.scene_records.specs.Records.{sceneOf, fieldsIn, longestRest, announced, sceneIn}
 
 module _ {C : Type 0} (s : List ℕ) where
   pub number-taken : (passes : Float → Bool) (at : ℕ) (x : Float) (m : ℕ) → number passes s at ≡ got x m
@@ -127,13 +127,13 @@ module _ {C : Type 0} (s : List ℕ) where
       next a b d e f x os ls (read-v ∙ rw (version-one, got-same last-v .1)) read-cart (rw size at word-n) (rw size at few) (rw size at read-os)
       (rw count at word-k) (rw count at fewer) (rw (count, place) at read-ls) (sym place ∙ eqb-true g (length s) is-end) (sym (got-same last .0) ∙ rw (size, count))
 
-  pub scene-taken : (c : Scene) (m : ℕ) → sceneIn s ≡ got c m → ((n : ℕ) → word 2 s 0 ≡ got n 2 → n ≤ 2631 → n ≡ length s - 2 → fieldsIn s 2 ≡ got c m → C) → C
+  pub scene-taken : (c : Scene) (m : ℕ) → sceneIn s ≡ got c m → ((n : ℕ) → word 2 s 0 ≡ got n 2 → n ≤ longestRest → n ≡ length s - 2 → fieldsIn s 2 ≡ got c m → C) → C
   unfolding sceneIn announced
   scene-taken c m e next =
       then-got (announced s) _ e λ u a p r.
       then-got (word 2 s 0) _ p λ n b read-n t.
-      guard-got (leb n 2631) 4 _ t λ few w.
+      guard-got (leb n longestRest) 4 _ t λ few w.
       guard-got (eqb n (length s - 2)) 2 _ w λ right last.
       let place : b ≡ 2 = word-place s 2 0 n b read-n in
       let start : a ≡ 2 = sym (got-same last .1) ∙ place in
-      next n (rw place at read-n) (leb-true n 2631 few) (eqb-true n (length s - 2) right) (rw start at r)
+      next n (rw place at read-n) (leb-true n longestRest few) (eqb-true n (length s - 2) right) (rw start at r)

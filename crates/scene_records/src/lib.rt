@@ -23,7 +23,7 @@ pub struct SceneRead {
 
 impl SceneRead {
     // The longest rest that a record's length may announce.
-    pub const LONGEST: usize = 2631;
+    pub const LONGEST_REST: usize = 2631;
 
     pub const VERSION: u8 = 1;
 }
@@ -142,7 +142,7 @@ fn length_of(bytes: &[u8]) -> Cursor
         return Cursor::Fault(2);
     }
     let length = words::pair_at(bytes, 0) as usize;
-    if length > SceneRead::LONGEST {
+    if length > SceneRead::LONGEST_REST {
         return Cursor::Fault(4);
     }
     if length != bytes.len() - 2 {
