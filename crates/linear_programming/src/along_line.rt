@@ -26,7 +26,7 @@ fn circle_interval(line: Line, radius: f32) -> Interval
     Interval::Between(-line_dot_product - root, -line_dot_product + root, 0)
 }
 
-// One more line looked at, the ends as it left them.
+// The ends as one more line left them: the interval is empty where they have crossed.
 fn unless_crossed(left: f32, right: f32, looked: u32) -> Interval
     requires { ⌜ looked < 256 ⌝ }
     ensures { λ r. ⌜ intervalOf r ≡ crossed left right looked ⌝ }
@@ -37,7 +37,7 @@ fn unless_crossed(left: f32, right: f32, looked: u32) -> Interval
     Interval::Between(left, right, looked + 1)
 }
 
-// A line that is nearly parallel leaves the interval, or empties it where `line` lies on its wrong side.
+// An earlier line that is nearly parallel leaves the interval as it is, or empties it where `line` lies on its wrong side.
 fn unless_outside(left: f32, right: f32, looked: u32, numerator: f32) -> Interval
     requires { ⌜ looked < 256 ⌝ }
     ensures { λ r. ⌜ intervalOf r ≡ beside left right looked numerator ⌝ }
@@ -48,7 +48,7 @@ fn unless_outside(left: f32, right: f32, looked: u32, numerator: f32) -> Interva
     Interval::Between(left, right, looked + 1)
 }
 
-// The time of intersection caps the right end or raises the left one, by the side that the constraint leaves.
+// The crossing with an earlier line, at `t` along `line`, caps the right end or raises the left one, by the side that the earlier line leaves.
 fn cut_at(left: f32, right: f32, looked: u32, direction_determinant: f32, t: f32) -> Interval
     requires { ⌜ looked < 256 ⌝ }
     ensures { λ r. ⌜ intervalOf r ≡ cut left right looked «direction_determinant» t ⌝ }
