@@ -35,17 +35,17 @@ pub data FailsAt (k : ℕ) : Pass → Type 0 where
 
 -- a judged point never fails
 pub data Unfailed : Pass → Type 0 where
-  going : {p : Vec2} {n : ℕ} → Unfailed (now p n)
-  turned : {r : ℕ} → Unfailed (refused r)
+  unfailed-now : {p : Vec2} {n : ℕ} → Unfailed (now p n)
+  unfailed-refused : {r : ℕ} → Unfailed (refused r)
 
 pub judged-unfailed : (o : Objective) (p : Vec2) (n : ℕ) → Unfailed (judged o p n)
 unfolding judged
-judged-unfailed (toward w) p n = if-all Unfailed _ going turned
-judged-unfailed (along d) p n = going
+judged-unfailed (toward w) p n = if-all Unfailed _ unfailed-now unfailed-refused
+judged-unfailed (along d) p n = unfailed-now
 
 unfailed : (k : ℕ) {q : Pass} → Unfailed q → FailsAt k q
-unfailed k going = still
-unfailed k turned = never
+unfailed k unfailed-now = still
+unfailed k unfailed-refused = never
 
 solved-fails : (o : Objective) (k : ℕ) (p : Vec2) (n : ℕ) (q : Found) → FailsAt k (solved o k p n q)
 unfolding solved

@@ -12,7 +12,7 @@ use Rattle.common.specs.declared.Vec2.{Vec2}
 use Rattle.lines.specs.declared.Line.{Line}
 use Rattle.linear_programming.specs.OneLine.{Objective, toward, along, Found, at}
 use Rattle.linear_programming.specs.Pass.{Failure, Pass, now, failed, refused, judged, solved, passLine, pass}
-use Rattle.linear_programming.specs.Relax.{buildProbes, tightened, Relaxed, on, turned, replaced, relaxLine}
+use Rattle.linear_programming.specs.Relax.{buildProbes, tightened, Relaxed, relaxed, relaxRefused, replaced, relaxLine}
 use Rattle.linear_programming.specs.declared.LinearProgram2D.{LinearProgram2D}
 use Rattle.linear_programming.specs.declared.LinearProgram2D.the-variants as lp2d
 use Rattle.linear_programming.specs.Read.{passOf, probesOf}
@@ -51,47 +51,47 @@ line-most o limit e own p q n m h = counted (rw (← h) at (pass-counts o limit 
 
 -- ---- a whole pass
 
--- after k lines
-pub data Within (k : ℕ) : Pass → Type 0 where
-  within : {p : Vec2} {n : ℕ} → k ≤ n → 2 * n ≤ k * (k + 1) → Within k (now p n)
-  beside : {f : Failure} {p : Vec2} {n : ℕ} → 2 * n ≤ k * (k + 1) → Within k (failed f p n)
-  outside : {r : ℕ} → Within k (refused r)
+-- a pass over k lines took at most k(k+1)/2, and at least k where it has not failed
+pub data Takes (k : ℕ) : Pass → Type 0 where
+  takes : {p : Vec2} {n : ℕ} → k ≤ n → 2 * n ≤ k * (k + 1) → Takes k (now p n)
+  takes-failed : {f : Failure} {p : Vec2} {n : ℕ} → 2 * n ≤ k * (k + 1) → Takes k (failed f p n)
+  takes-none : {r : ℕ} → Takes k (refused r)
 
-judged-within : (o : Objective) (k : ℕ) (p : Vec2) (n : ℕ) → k ≤ n → 2 * n ≤ k * (k + 1) → Within k (judged o p n)
+judged-takes : (o : Objective) (k : ℕ) (p : Vec2) (n : ℕ) → k ≤ n → 2 * n ≤ k * (k + 1) → Takes k (judged o p n)
 unfolding judged
-judged-within (toward w) k p n a b = if-all (Within k) _ (within a b) outside
-judged-within (along d) k p n a b = within a b
+judged-takes (toward w) k p n a b = if-all (Takes k) _ (takes a b) takes-none
+judged-takes (along d) k p n a b = takes a b
 
 -- (k + 1)(k + 2) = k (k + 1) + 2 (k + 1)
 next-square : (k : ℕ) → (k + 1) * (k + 1 + 1) ≡ k * (k + 1) + 2 * (k + 1)
 next-square k = omega (arith, mul-add (k + 1) (k + 1) 1, add-mul k 1 (k + 1))
 
-solved-within : (o : Objective) (j k : ℕ) (p : Vec2) (n : ℕ) → k ≤ n → 2 * n ≤ k * (k + 1) → {q : Found} → Solves (0 + k) q → Within (k + 1) (solved o j p (n + 1) q)
+solved-takes : (o : Objective) (j k : ℕ) (p : Vec2) (n : ℕ) → k ≤ n → 2 * n ≤ k * (k + 1) → {q : Found} → Solves (0 + k) q → Takes (k + 1) (solved o j p (n + 1) q)
 unfolding solved
-solved-within o j k p n a b solves = judged-within o (k + 1) _ (n + 1 + (0 + k)) (omega arith) (omega (arith, next-square k))
-solved-within o j k p n a b (stops {n = m} h) = beside {n = n + 1 + m} (omega (arith, next-square k))
-solved-within o j k p n a b turns = outside
+solved-takes o j k p n a b solves = judged-takes o (k + 1) _ (n + 1 + (0 + k)) (omega arith) (omega (arith, next-square k))
+solved-takes o j k p n a b (stops {n = m} h) = takes-failed {n = n + 1 + m} (omega (arith, next-square k))
+solved-takes o j k p n a b turns = takes-none
 
-line-within : (o : Objective) (limit : Float) (e : List Line) (own : Line) (s : Pass) → Within (length e) s → Within (length (e ++ (own ∷ []))) (passLine o limit e own s)
+line-takes : (o : Objective) (limit : Float) (e : List Line) (own : Line) (s : Pass) → Takes (length e) s → Takes (length (e ++ (own ∷ []))) (passLine o limit e own s)
 unfolding passLine
-line-within o limit e own s h = rw (length-append e (own ∷ [])) (go h)
+line-takes o limit e own s h = rw (length-append e (own ∷ [])) (go h)
   where
-    go : {t : Pass} → Within (length e) t → Within (length e + 1) (passLine o limit e own t)
-    go (within {p} {n} a b) =
-        if-all (Within (length e + 1)) _ (within (omega arith) (omega (arith, next-square (length e)))) (solved-within o (length e) (length e) p n a b (line-solves o limit own e))
-    go (beside {n = n} b) = beside {n = n} (omega (arith, next-square (length e)))
-    go outside = outside
+    go : {t : Pass} → Takes (length e) t → Takes (length e + 1) (passLine o limit e own t)
+    go (takes {p} {n} a b) =
+        if-all (Takes (length e + 1)) _ (takes (omega arith) (omega (arith, next-square (length e)))) (solved-takes o (length e) (length e) p n a b (line-solves o limit own e))
+    go (takes-failed {n = n} b) = takes-failed {n = n} (omega (arith, next-square (length e)))
+    go takes-none = takes-none
 
-pub pass-within : (o : Objective) (limit : Float) (lines : List Line) → Within (length lines) (pass o limit lines)
+pub pass-takes : (o : Objective) (limit : Float) (lines : List Line) → Takes (length lines) (pass o limit lines)
 unfolding pass
-pass-within o limit lines = walk-grows (passLine o limit) (λ l s. Within (length l) s) (line-within o limit) [] lines _ (judged-within o 0 _ 0 (omega arith) (omega arith))
+pass-takes o limit lines = walk-grows (passLine o limit) (λ l s. Takes (length l) s) (line-takes o limit) [] lines _ (judged-takes o 0 _ 0 (omega arith) (omega arith))
 
 -- 01: "A list of n lines that never fails takes n to n(n+1)/2 probes."
 pub pass-probes : (o : Objective) (limit : Float) (lines : List Line) {p : Vec2} {n : ℕ} → pass o limit lines ≡ now p n → (length lines ≤ n) × (2 * n ≤ length lines * (length lines + 1))
-pass-probes o limit lines e = bounds (rw e at (pass-within o limit lines))
+pass-probes o limit lines e = bounds (rw e at (pass-takes o limit lines))
   where
-    bounds : {k : ℕ} {p : Vec2} {n : ℕ} → Within k (now p n) → (k ≤ n) × (2 * n ≤ k * (k + 1))
-    bounds (within a b) = (a, b)
+    bounds : {k : ℕ} {p : Vec2} {n : ℕ} → Takes k (now p n) → (k ≤ n) × (2 * n ≤ k * (k + 1))
+    bounds (takes a b) = (a, b)
 
 -- the bound for more lines
 pub bound-grows : (t k n : ℕ) → k ≤ t → 2 * n ≤ k * (k + 1) → 2 * n ≤ t * (t + 1)
@@ -102,12 +102,12 @@ bound-grows t k n h b =
 
 -- an inner solve, over at most 255 lines, takes at most 32,640
 inner-counts : (o : Objective) (limit : Float) (l : List Line) → length l ≤ 255 → Counts 32640 (pass o limit l)
-inner-counts o limit l h = go (pass-within o limit l)
+inner-counts o limit l h = go (pass-takes o limit l)
   where
-    go : {q : Pass} → Within (length l) q → Counts 32640 q
-    go (within {n = n} a b) = counts {n = n} (omega (arith, bound-grows 255 (length l) n h b))
-    go (beside {n = n} b) = counts-failed {n = n} (omega (arith, bound-grows 255 (length l) n h b))
-    go outside = counts-none
+    go : {q : Pass} → Takes (length l) q → Counts 32640 q
+    go (takes {n = n} a b) = counts {n = n} (omega (arith, bound-grows 255 (length l) n h b))
+    go (takes-failed {n = n} b) = counts-failed {n = n} (omega (arith, bound-grows 255 (length l) n h b))
+    go takes-none = counts-none
 
 pub inner-most : (o : Objective) (limit : Float) (l : List Line) (a : LinearProgram2D) → length l ≤ 255 → passOf a ≡ pass o limit l → probesOf a ≤ 32640
 inner-most o limit l a h e = most a (rw (← e) at (inner-counts o limit l h))
@@ -119,34 +119,35 @@ inner-most o limit l a h e = most a (rw (← e) at (inner-counts o limit l h))
 
 -- ---- one line of relaxation
 
-pub data Deepens (b : ℕ) : Relaxed → Type 0 where
-  deepens : {p : Vec2} {depth : Float} {n : ℕ} → n ≤ b → Deepens b (on p depth n)
-  deepens-none : {r : ℕ} → Deepens b (turned r)
+-- relaxation, however it stands, has counted at most b
+pub data CountsRelaxed (b : ℕ) : Relaxed → Type 0 where
+  counts-relaxed : {p : Vec2} {depth : Float} {n : ℕ} → n ≤ b → CountsRelaxed b (relaxed p depth n)
+  counts-relaxed-none : {r : ℕ} → CountsRelaxed b (relaxRefused r)
 
-replaced-deepens : (own : Line) (p : Vec2) (depth : Float) (n b : ℕ) {q : Pass} → Counts b q → Deepens (n + b) (replaced own p depth n q)
+replaced-counts : (own : Line) (p : Vec2) (depth : Float) (n b : ℕ) {q : Pass} → Counts b q → CountsRelaxed (n + b) (replaced own p depth n q)
 unfolding replaced
-replaced-deepens own p depth n b (counts {n = m} h) = if-all (Deepens (n + b)) _ (deepens (omega arith)) deepens-none
-replaced-deepens own p depth n b (counts-failed {n = m} h) = deepens {n = n + m} (omega arith)
-replaced-deepens own p depth n b counts-none = deepens-none
+replaced-counts own p depth n b (counts {n = m} h) = if-all (CountsRelaxed (n + b)) _ (counts-relaxed (omega arith)) counts-relaxed-none
+replaced-counts own p depth n b (counts-failed {n = m} h) = counts-relaxed {n = n + m} (omega arith)
+replaced-counts own p depth n b counts-none = counts-relaxed-none
 
 build-most : (rigid : ℕ) (e : List Line) → buildProbes rigid e ≤ length e
 build-most rigid e = omega arith
 
-pub looser : {a b : ℕ} → a ≤ b → {s : Relaxed} → Deepens a s → Deepens b s
-looser h (deepens {n = n} k) = deepens {n = n} (omega arith)
-looser h deepens-none = deepens-none
+pub looser : {a b : ℕ} → a ≤ b → {s : Relaxed} → CountsRelaxed a s → CountsRelaxed b s
+looser h (counts-relaxed {n = n} k) = counts-relaxed {n = n} (omega arith)
+looser h counts-relaxed-none = counts-relaxed-none
 
 module _ (rigid : ℕ) (limit : Float) (e : List Line) (own : Line) (short : length e ≤ 255) (p : Vec2) (depth : Float) (n : ℕ) where
-  pub relax-deepens : Deepens (n + 32896) (relaxLine rigid limit e own (on p depth n))
+  pub relax-counts : CountsRelaxed (n + 32896) (relaxLine rigid limit e own (relaxed p depth n))
   unfolding relaxLine
-  relax-deepens =
+  relax-counts =
       let t = tightened-long rigid own e in
       let b = build-most rigid e in
-      if-all (Deepens (n + 32896)) _ (deepens (omega arith))
-      (looser {a = n + 1 + buildProbes rigid e + 32640} (omega arith) (replaced-deepens own p depth _ 32640 (inner-counts _ limit (tightened rigid own e) (omega arith))))
+      if-all (CountsRelaxed (n + 32896)) _ (counts-relaxed (omega arith))
+      (looser {a = n + 1 + buildProbes rigid e + 32640} (omega arith) (replaced-counts own p depth _ 32640 (inner-counts _ limit (tightened rigid own e) (omega arith))))
 
-  pub relax-most : (q : Vec2) (d : Float) (m : ℕ) → on q d m ≡ relaxLine rigid limit e own (on p depth n) → m ≤ n + 32896
-  relax-most q d m h = counted (rw (← h) at relax-deepens)
+  pub relax-most : (q : Vec2) (d : Float) (m : ℕ) → relaxed q d m ≡ relaxLine rigid limit e own (relaxed p depth n) → m ≤ n + 32896
+  relax-most q d m h = counted (rw (← h) at relax-counts)
     where
-      counted : {b : ℕ} → Deepens b (on q d m) → m ≤ b
-      counted (deepens k) = k
+      counted : {b : ℕ} → CountsRelaxed b (relaxed q d m) → m ≤ b
+      counted (counts-relaxed k) = k

@@ -13,7 +13,7 @@ use Rattle.lines.specs.declared.Line.{Line}
 use Rattle.lines.proofs.Fold.{take-lesser, drop-lesser}
 use Rattle.linear_programming.specs.OneLine.{Objective, toward, along, Found, at, fails, refuses, oneLine}
 use Rattle.linear_programming.specs.Pass.{Pass, now, failed, refused, judged, solved, passLine}
-use Rattle.linear_programming.specs.Relax.{Relaxed, on, turned, buildProbes, replaced, relaxLine}
+use Rattle.linear_programming.specs.Relax.{Relaxed, relaxed, relaxRefused, buildProbes, replaced, relaxLine}
 use Rattle.linear_programming.specs.Whole.{Phase, solving, relaxing, rigidFailure, Failed, noLine, failedLine, Outcome, stands, refusal, relaxedOutcome, wholeList}
 use Rattle.linear_programming.specs.Resume.{addProbes, resumed}
 use Rattle.linear_programming.proofs.WalkLaws.{walk-through}
@@ -34,8 +34,8 @@ passAfter n (failed f p m) = failed f p (n + m)
 passAfter n (refused r) = refused r
 
 abbrev relaxedAfter : ℕ → Relaxed → Relaxed
-relaxedAfter n (on p depth m) = on p depth (n + m)
-relaxedAfter n (turned r) = turned r
+relaxedAfter n (relaxed p depth m) = relaxed p depth (n + m)
+relaxedAfter n (relaxRefused r) = relaxRefused r
 
 judged-after : (o : Objective) (p : Vec2) (n m : ℕ) → judged o p (n + m) ≡ passAfter n (judged o p m)
 unfolding judged
@@ -62,20 +62,20 @@ replaced-after own p depth n m (refused r) = refl
 
 relax-after : (rigid : ℕ) (limit : Float) (n : ℕ) (e : List Line) (own : Line) (s : Relaxed) → relaxLine rigid limit e own (relaxedAfter n s) ≡ relaxedAfter n (relaxLine rigid limit e own s)
 unfolding relaxLine
-relax-after rigid limit n e own (on p depth m) =
+relax-after rigid limit n e own (relaxed p depth m) =
     if-through (relaxedAfter n) _ (rw add-assoc refl) (rw (add-assoc n m 1, add-assoc n (m + 1) (buildProbes rigid e)) (replaced-after own p depth n (m + 1 + buildProbes rigid e) _))
-relax-after rigid limit n e own (turned r) = refl
+relax-after rigid limit n e own (relaxRefused r) = refl
 
 relaxed-after : (n : ℕ) (f : Failed) (s : Relaxed) → relaxedOutcome f (relaxedAfter n s) ≡ addProbes n (relaxedOutcome f s)
-relaxed-after n f (on p depth m) = refl
-relaxed-after n f (turned r) = refl
+relaxed-after n f (relaxed p depth m) = refl
+relaxed-after n f (relaxRefused r) = refl
 
 -- ---- and of the rules line by line
 
 module _ (rigid : ℕ) (wish : Vec2) (limit : Float) (n : ℕ) where
   relaxing-after : (f : Failed) (e : List Line) (own : Line) (p : Vec2) (depth : Float) (m : ℕ) →
-      relaxedOutcome f (relaxLine rigid limit e own (on p depth (n + m))) ≡ addProbes n (relaxedOutcome f (relaxLine rigid limit e own (on p depth m)))
-  relaxing-after f e own p depth m = ap (relaxedOutcome f) (relax-after rigid limit n e own (on p depth m)) ∙ relaxed-after n f (relaxLine rigid limit e own (on p depth m))
+      relaxedOutcome f (relaxLine rigid limit e own (relaxed p depth (n + m))) ≡ addProbes n (relaxedOutcome f (relaxLine rigid limit e own (relaxed p depth m)))
+  relaxing-after f e own p depth m = ap (relaxedOutcome f) (relax-after rigid limit n e own (relaxed p depth m)) ∙ relaxed-after n f (relaxLine rigid limit e own (relaxed p depth m))
 
   entered-after : (e : List Line) (own : Line) (q : Pass) → entered rigid limit e own (passAfter n q) ≡ addProbes n (entered rigid limit e own q)
   unfolding entered
@@ -111,7 +111,7 @@ module _ (rigid : ℕ) (wish : Vec2) (limit : Float) (l m : List Line) where
   from-zero : {ph : Phase} {f : Failed} → Paired ph f → feed rigid wish limit l m (stands ph f 0) ≡ resumed rigid wish limit (l ++ m) (length l) ph f
   unfolding resumed
   from-zero (paired-solving {p}) = rw (take-at l m (length l) refl, drop-at l m (length l) refl) (sym (pass-feed rigid wish limit l m p 0))
-  from-zero (paired-relaxing {p} {depth} {f}) = rw (take-at l m (length l) refl, drop-at l m (length l) refl) (feed-relaxed rigid wish limit f l m (on p depth 0))
+  from-zero (paired-relaxing {p} {depth} {f}) = rw (take-at l m (length l) refl, drop-at l m (length l) refl) (feed-relaxed rigid wish limit f l m (relaxed p depth 0))
   from-zero (paired-rigid {k} {p} {f}) = feed-rigid rigid wish limit k p f 0 l m
 
   pub resumed-feed : (ph : Phase) (f : Failed) (n : ℕ) → Paired ph f → feed rigid wish limit l m (stands ph f n) ≡ addProbes n (resumed rigid wish limit (l ++ m) (length l) ph f)

@@ -14,10 +14,10 @@ use Rattle.lines.specs.declared.Line.{Line}
 use Rattle.linear_programming.specs.Walk.{walk}
 use Rattle.linear_programming.specs.OneLine.{toward}
 use Rattle.linear_programming.specs.Pass.{Pass, now, failed, refused, start, passLine, pass}
-use Rattle.linear_programming.specs.Relax.{Relaxed, on, turned as turned-back, relaxLine}
+use Rattle.linear_programming.specs.Relax.{Relaxed, relaxed, relaxRefused, relaxLine}
 use Rattle.linear_programming.specs.Whole.{solving, relaxing, rigidFailure, Failed, noLine, failedLine, Outcome, stands, refusal, relaxedOutcome, afterPass, wholeList}
 use Rattle.linear_programming.proofs.WalkLaws.{walk-append, walk-stays, walk-through}
-use Rattle.linear_programming.proofs.PassLaws.{pass-failed, pass-refused, FailsAt, still, there, never, Unfailed, going, turned, judged-unfailed, pass-fails}
+use Rattle.linear_programming.proofs.PassLaws.{pass-failed, pass-refused, FailsAt, still, there, never, Unfailed, unfailed-now, unfailed-refused, judged-unfailed, pass-fails}
 
 -- ---- one line
 
@@ -26,13 +26,13 @@ unfoldable pub entered : ℕ → Float → List Line → Line → Pass → Outco
 entered rigid limit earlier own (now p n) = stands (solving p) noLine n
 entered rigid limit earlier own (failed f p n) =
     if ltb (f .index) rigid then stands (rigidFailure (f .index) p) (failedLine f) n
-    else relaxedOutcome (failedLine f) (relaxLine rigid limit earlier own (on p 0ᶠ n))
+    else relaxedOutcome (failedLine f) (relaxLine rigid limit earlier own (relaxed p 0ᶠ n))
 entered rigid limit earlier own (refused r) = refusal r
 
 -- one line, by the phase that the earlier ones left
 unfoldable pub advance : ℕ → Vec2 → Float → List Line → Line → Outcome → Outcome
 advance rigid wish limit earlier own (stands (solving p) f n) = entered rigid limit earlier own (passLine (toward wish) limit earlier own (now p n))
-advance rigid wish limit earlier own (stands (relaxing p depth) f n) = relaxedOutcome f (relaxLine rigid limit earlier own (on p depth n))
+advance rigid wish limit earlier own (stands (relaxing p depth) f n) = relaxedOutcome f (relaxLine rigid limit earlier own (relaxed p depth n))
 advance rigid wish limit earlier own (stands (rigidFailure k p) f n) = stands (rigidFailure k p) f n
 advance rigid wish limit earlier own (refusal r) = refusal r
 
@@ -53,8 +53,8 @@ module _ (rigid : ℕ) (wish : Vec2) (limit : Float) where
 
   advance-relaxed : (f : Failed) (e : List Line) (own : Line) (s : Relaxed) → advance rigid wish limit e own (relaxedOutcome f s) ≡ relaxedOutcome f (relaxLine rigid limit e own s)
   unfolding advance relaxLine
-  advance-relaxed f e own (on p depth n) = refl
-  advance-relaxed f e own (turned-back r) = refl
+  advance-relaxed f e own (relaxed p depth n) = refl
+  advance-relaxed f e own (relaxRefused r) = refl
 
   pub feed-relaxed : (f : Failed) (e l : List Line) (s : Relaxed) → feed rigid wish limit e l (relaxedOutcome f s) ≡ relaxedOutcome f (walk (relaxLine rigid limit) e l s)
   unfolding feed
@@ -64,11 +64,11 @@ module _ (rigid : ℕ) (wish : Vec2) (limit : Float) where
 
   -- line x has failed, be it rigid (b) or not
   from-failed : (b : Bool) (k : ℕ) (f : Failed) (p : Vec2) (n : ℕ) (e : List Line) (x : Line) (xs : List Line) →
-      (if b then stands (rigidFailure k p) f n else relaxedOutcome f (walk (relaxLine rigid limit) e (x ∷ xs) (on p 0ᶠ n)))
-      ≡ feed rigid wish limit (e ++ (x ∷ [])) xs (if b then stands (rigidFailure k p) f n else relaxedOutcome f (relaxLine rigid limit e x (on p 0ᶠ n)))
+      (if b then stands (rigidFailure k p) f n else relaxedOutcome f (walk (relaxLine rigid limit) e (x ∷ xs) (relaxed p 0ᶠ n)))
+      ≡ feed rigid wish limit (e ++ (x ∷ [])) xs (if b then stands (rigidFailure k p) f n else relaxedOutcome f (relaxLine rigid limit e x (relaxed p 0ᶠ n)))
   unfolding if_then_else_
   from-failed true k f p n e x xs = sym (feed-rigid k p f n (e ++ (x ∷ [])) xs)
-  from-failed false k f p n e x xs = sym (feed-relaxed f (e ++ (x ∷ [])) xs (relaxLine rigid limit e x (on p 0ᶠ n)))
+  from-failed false k f p n e x xs = sym (feed-relaxed f (e ++ (x ∷ [])) xs (relaxLine rigid limit e x (relaxed p 0ᶠ n)))
 
   -- from what line x left, q, both go on alike
   from-line : (e : List Line) (x : Line) (xs : List Line) →
@@ -94,8 +94,8 @@ module _ (rigid : ℕ) (wish : Vec2) (limit : Float) where
   start-feed : (l : List Line) {q : Pass} → Unfailed q →
       afterPass rigid limit l (walk (passLine (toward wish) limit) [] l q) ≡ feed rigid wish limit [] l (afterPass rigid limit [] q)
   unfolding afterPass
-  start-feed l (going {p} {n}) = pass-feed [] l p n
-  start-feed l (turned {r}) = rw (pass-refused (toward wish) limit r [] l, feed-refusal r [] l) refl
+  start-feed l (unfailed-now {p} {n}) = pass-feed [] l p n
+  start-feed l (unfailed-refused {r}) = rw (pass-refused (toward wish) limit r [] l, feed-refusal r [] l) refl
 
   -- the whole list, line by line
   pub whole-feed : (l : List Line) → wholeList rigid wish limit l ≡ feed rigid wish limit [] l (wholeList rigid wish limit [])

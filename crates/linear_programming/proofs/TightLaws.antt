@@ -8,7 +8,7 @@ use lib.ListN.{length, length-append, take, drop, take-append-drop}
 use lib.Ieee.{Float}
 use Rattle.lines.specs.declared.Line.{Line}
 use Rattle.lines.proofs.Fold.{take-lesser, drop-lesser}
-use Rattle.linear_programming.specs.Relax.{Tight, kept, skipped, tighten, behind, tightenNext, tightened, turned, relaxLine}
+use Rattle.linear_programming.specs.Relax.{Tight, kept, skipped, tighten, behind, tightenNext, tightened, relaxRefused, relaxLine}
 
 module _ (own : Line) (made : List Line) (prev : Line) where
   pub next-kept : (l : Line) → kept l ≡ tighten own prev → tightenNext own made prev ≡ made ++ (l ∷ [])
@@ -25,9 +25,9 @@ unfolding tightened
 lesser-rigid rigid own e n h = rw (h, ← n, take-lesser rigid e, drop-lesser rigid e)
 
 -- a refusal of relaxation stays
-pub turned-stays : (rigid : ℕ) (limit : Float) (r : ℕ) (e : List Line) (own : Line) → relaxLine rigid limit e own (turned r) ≡ turned r
+pub relax-refused-stays : (rigid : ℕ) (limit : Float) (r : ℕ) (e : List Line) (own : Line) → relaxLine rigid limit e own (relaxRefused r) ≡ relaxRefused r
 unfolding relaxLine
-turned-stays rigid limit r e own = refl
+relax-refused-stays rigid limit r e own = refl
 
 -- ---- it is no longer than the list before
 

@@ -17,7 +17,7 @@ use Rattle.linear_programming.specs.declared.LinearProgram2D.the-variant
 use Rattle.linear_programming.proofs.LinearProgram2D.{the-type as pass-type}
 use Rattle.linear_programming.specs.OneLine.{Objective, oneLine}
 use Rattle.linear_programming.specs.Pass.{passLine}
-use Rattle.linear_programming.specs.Read.{foundOf, passOf, probesIn}
+use Rattle.linear_programming.specs.Read.{foundOf, passOf, lookedOf}
 use Rattle.linear_programming.proofs.OneLineLaws.{Solves, solves, stops, line-solves}
 
 -- neither a point nor a failure
@@ -27,10 +27,10 @@ refuses-left (along-line.Fails n) h k = absurd (⊎-elim (λ (e : _≡_ {A = ℕ
 refuses-left along-line.Refuses h k = refl
 
 -- a one-line solve looks at no more lines than there are
-pub looked-most : (o : Objective) (limit : Float) (own : Line) (e : List Line) (a : AlongLine) → foundOf a ≡ oneLine o limit own e → probesIn a ≤ length e
+pub looked-most : (o : Objective) (limit : Float) (own : Line) (e : List Line) (a : AlongLine) → foundOf a ≡ oneLine o limit own e → lookedOf a ≤ length e
 looked-most o limit own e a h = most a (rw (← h) at (line-solves o limit own e))
   where
-    most : (a : AlongLine) → Solves (0 + length e) (foundOf a) → probesIn a ≤ length e
+    most : (a : AlongLine) → Solves (0 + length e) (foundOf a) → lookedOf a ≤ length e
     most (along-line.At p n) solves = omega arith
     most (along-line.Fails n) (stops l) = omega arith
     most along-line.Refuses s = omega arith

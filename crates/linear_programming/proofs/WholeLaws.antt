@@ -10,10 +10,10 @@ use Rattle.common.specs.declared.Vec2.{Vec2}
 use Rattle.lines.specs.declared.Line.{Line}
 use Rattle.linear_programming.specs.OneLine.{toward}
 use Rattle.linear_programming.specs.Pass.{Failure, Pass, now, failed, refused, pass}
-use Rattle.linear_programming.specs.Relax.{Relaxed, on, turned as turned-back, relaxLine}
+use Rattle.linear_programming.specs.Relax.{Relaxed, relaxed, relaxRefused, relaxLine}
 use Rattle.linear_programming.specs.Whole.{Phase, solving, relaxing, rigidFailure, Failed, noLine, failedLine, Outcome, stands, refusal, relaxedOutcome, afterPass, wholeList}
 use Rattle.linear_programming.proofs.WalkLaws.{walk-keeps}
-use Rattle.linear_programming.proofs.PassLaws.{Unfailed, going, turned, judged-unfailed}
+use Rattle.linear_programming.proofs.PassLaws.{Unfailed, unfailed-now, unfailed-refused, judged-unfailed}
 use Rattle.linear_programming.proofs.Steps.{entered, advance, feed, feed-refusal, whole-feed, batch}
 
 -- the failed line is f, or nothing stands
@@ -44,35 +44,35 @@ the-failed at-rigid = refl
 
 -- relaxation keeps the failed line
 relaxed-failed : (f : Failure) (s : Relaxed) → FailedAt f (relaxedOutcome (failedLine f) s)
-relaxed-failed f (on p depth n) = at-relaxing
-relaxed-failed f (turned-back r) = at-refusal
+relaxed-failed f (relaxed p depth n) = at-relaxing
+relaxed-failed f (relaxRefused r) = at-refusal
 
 module _ (rigid : ℕ) (wish : Vec2) (limit : Float) where
   -- ---- one line
 
   advance-failed : (f : Failure) (e : List Line) (own : Line) (s : Outcome) → FailedAt f s → FailedAt f (advance rigid wish limit e own s)
   unfolding advance
-  advance-failed f e own s (at-relaxing {p} {depth} {n}) = relaxed-failed f (relaxLine rigid limit e own (on p depth n))
+  advance-failed f e own s (at-relaxing {p} {depth} {n}) = relaxed-failed f (relaxLine rigid limit e own (relaxed p depth n))
   advance-failed f e own s at-rigid = at-rigid
   advance-failed f e own s at-refusal = at-refusal
 
   entered-agrees : (e : List Line) (own : Line) (q : Pass) → Agrees (entered rigid limit e own q)
   unfolding entered
   entered-agrees e own (now p n) = agree-solving
-  entered-agrees e own (failed f p n) = if-all Agrees _ agree-rigid (failed-agrees (relaxed-failed f (relaxLine rigid limit e own (on p 0ᶠ n))))
+  entered-agrees e own (failed f p n) = if-all Agrees _ agree-rigid (failed-agrees (relaxed-failed f (relaxLine rigid limit e own (relaxed p 0ᶠ n))))
   entered-agrees e own (refused r) = agree-refusal
 
   advance-agrees : (e : List Line) (own : Line) (s : Outcome) → Agrees s → Agrees (advance rigid wish limit e own s)
   unfolding advance
   advance-agrees e own s agree-solving = entered-agrees e own _
-  advance-agrees e own s (agree-relaxing {p} {depth} {f} {n}) = failed-agrees (relaxed-failed f (relaxLine rigid limit e own (on p depth n)))
+  advance-agrees e own s (agree-relaxing {p} {depth} {f} {n}) = failed-agrees (relaxed-failed f (relaxLine rigid limit e own (relaxed p depth n)))
   advance-agrees e own s agree-rigid = agree-rigid
   advance-agrees e own s agree-refusal = agree-refusal
 
   start-agrees : {q : Pass} → Unfailed q → Agrees (afterPass rigid limit [] q)
   unfolding afterPass
-  start-agrees going = agree-solving
-  start-agrees turned = agree-refusal
+  start-agrees unfailed-now = agree-solving
+  start-agrees unfailed-refused = agree-refusal
 
   -- ---- whole lists
 

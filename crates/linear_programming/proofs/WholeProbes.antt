@@ -12,10 +12,10 @@ use Rattle.lines.specs.declared.Line.{Line}
 use Rattle.linear_programming.specs.Walk.{walk}
 use Rattle.linear_programming.specs.OneLine.{toward}
 use Rattle.linear_programming.specs.Pass.{Pass, now, failed, refused, pass}
-use Rattle.linear_programming.specs.Relax.{Relaxed, on, turned, relaxLine}
+use Rattle.linear_programming.specs.Relax.{Relaxed, relaxed, relaxRefused, relaxLine}
 use Rattle.linear_programming.specs.Whole.{Phase, solving, relaxing, rigidFailure, Failed, failedLine, Outcome, stands, refusal, relaxedOutcome, afterPass, wholeList}
 use Rattle.linear_programming.proofs.WalkLaws.{walk-grows}
-use Rattle.linear_programming.proofs.Probes.{Within, within, beside, outside, pass-within, pass-probes, bound-grows, Deepens, deepens, deepens-none, looser, relax-deepens}
+use Rattle.linear_programming.proofs.Probes.{Takes, takes, takes-failed, takes-none, pass-takes, pass-probes, bound-grows, CountsRelaxed, counts-relaxed, counts-relaxed-none, looser, relax-counts}
 
 -- ---- a list that never fails
 
@@ -27,14 +27,14 @@ data Solving (k : ℕ) : Outcome → Type 0 where
   in-refusal : {r : ℕ} → Solving k (refusal r)
 
 relaxed-solving : (k : ℕ) (f : Failed) (s : Relaxed) → Solving k (relaxedOutcome f s)
-relaxed-solving k f (on p depth n) = in-relaxing
-relaxed-solving k f (turned r) = in-refusal
+relaxed-solving k f (relaxed p depth n) = in-relaxing
+relaxed-solving k f (relaxRefused r) = in-refusal
 
 module _ (rigid : ℕ) (wish : Vec2) (limit : Float) (lines : List Line) where
   after-solving : (q : Pass) → pass (toward wish) limit lines ≡ q → Solving (length lines) (afterPass rigid limit lines q)
   unfolding afterPass
   after-solving (now p n) e = in-solving (pass-probes (toward wish) limit lines e)
-  after-solving (failed f p n) e = if-all (Solving (length lines)) _ in-rigid (relaxed-solving (length lines) (failedLine f) (walk (relaxLine rigid limit) (take (f .index) lines) (drop (f .index) lines) (on p 0ᶠ n)))
+  after-solving (failed f p n) e = if-all (Solving (length lines)) _ in-rigid (relaxed-solving (length lines) (failedLine f) (walk (relaxLine rigid limit) (take (f .index) lines) (drop (f .index) lines) (relaxed p 0ᶠ n)))
   after-solving (refused r) e = in-refusal
 
   -- 01: "A list of n lines that never fails takes n to n(n+1)/2 probes."
@@ -52,42 +52,42 @@ data Totals (b : ℕ) : Outcome → Type 0 where
   totals : {ph : Phase} {f : Failed} {n : ℕ} → n ≤ b → Totals b (stands ph f n)
   totals-none : {r : ℕ} → Totals b (refusal r)
 
-relaxed-totals : {b : ℕ} (f : Failed) {s : Relaxed} → Deepens b s → Totals b (relaxedOutcome f s)
-relaxed-totals f (deepens h) = totals h
-relaxed-totals f deepens-none = totals-none
+relaxed-totals : {b : ℕ} (f : Failed) {s : Relaxed} → CountsRelaxed b s → Totals b (relaxedOutcome f s)
+relaxed-totals f (counts-relaxed h) = totals h
+relaxed-totals f counts-relaxed-none = totals-none
 
 module _ (rigid : ℕ) (limit : Float) where
-  line-deepens : (b : ℕ) (e : List Line) (own : Line) (s : Relaxed) → (length e ≤ 256 → Deepens (b + 32896 * length e) s) →
-      length (e ++ (own ∷ [])) ≤ 256 → Deepens (b + 32896 * length (e ++ (own ∷ []))) (relaxLine rigid limit e own s)
+  line-counts : (b : ℕ) (e : List Line) (own : Line) (s : Relaxed) → (length e ≤ 256 → CountsRelaxed (b + 32896 * length e) s) →
+      length (e ++ (own ∷ [])) ≤ 256 → CountsRelaxed (b + 32896 * length (e ++ (own ∷ []))) (relaxLine rigid limit e own s)
   unfolding relaxLine
-  line-deepens b e own s h short =
+  line-counts b e own s h short =
       let k : length (e ++ (own ∷ [])) ≡ length e + 1 = length-append e (own ∷ []) in
-      rw k (deeper (h (omega arith)) (omega arith))
+      rw k (counted-on (h (omega arith)) (omega arith))
     where
-      deeper : {t : Relaxed} → Deepens (b + 32896 * length e) t → length e ≤ 255 → Deepens (b + 32896 * (length e + 1)) (relaxLine rigid limit e own t)
-      deeper (deepens {p} {depth} {n} d) room = looser {a = n + 32896} (omega arith) (relax-deepens rigid limit e own room p depth n)
-      deeper deepens-none room = deepens-none
+      counted-on : {t : Relaxed} → CountsRelaxed (b + 32896 * length e) t → length e ≤ 255 → CountsRelaxed (b + 32896 * (length e + 1)) (relaxLine rigid limit e own t)
+      counted-on (counts-relaxed {p} {depth} {n} d) room = looser {a = n + 32896} (omega arith) (relax-counts rigid limit e own room p depth n)
+      counted-on counts-relaxed-none room = counts-relaxed-none
 
   -- relaxation over l behind e, of a pass that took b
-  walk-deepens : (b : ℕ) (e l : List Line) (s : Relaxed) → length (e ++ l) ≤ 256 → Deepens b s → Deepens (b + 32896 * length (e ++ l)) (walk (relaxLine rigid limit) e l s)
-  walk-deepens b e l s short d =
-      walk-grows (relaxLine rigid limit) (λ i t. length i ≤ 256 → Deepens (b + 32896 * length i) t) (line-deepens b) e l s (λ room. looser (omega arith) d) short
+  walk-counts : (b : ℕ) (e l : List Line) (s : Relaxed) → length (e ++ l) ≤ 256 → CountsRelaxed b s → CountsRelaxed (b + 32896 * length (e ++ l)) (walk (relaxLine rigid limit) e l s)
+  walk-counts b e l s short d =
+      walk-grows (relaxLine rigid limit) (λ i t. length i ≤ 256 → CountsRelaxed (b + 32896 * length i) t) (line-counts b) e l s (λ room. looser (omega arith) d) short
 
-  after-totals : (lines : List Line) → length lines ≤ 256 → {q : Pass} → Within (length lines) q → Totals 16777216 (afterPass rigid limit lines q)
+  after-totals : (lines : List Line) → length lines ≤ 256 → {q : Pass} → Takes (length lines) q → Totals 16777216 (afterPass rigid limit lines q)
   unfolding afterPass
-  after-totals lines short (within {n = n} a b) = totals {n = n} (omega (arith, bound-grows 256 (length lines) n short b))
-  after-totals lines short (beside {f} {p} {n} b) =
+  after-totals lines short (takes {n = n} a b) = totals {n = n} (omega (arith, bound-grows 256 (length lines) n short b))
+  after-totals lines short (takes-failed {f} {p} {n} b) =
       let most : n ≤ 32896 = omega (arith, bound-grows 256 (length lines) n short b) in
       let whole = take-append-drop (f .index) lines in
       if-all (Totals 16777216) _ (totals (omega arith))
       (relaxed-totals (failedLine f) (looser {a = 32896 + 32896 * length lines} (omega arith)
-      (rw whole at (walk-deepens 32896 (take (f .index) lines) (drop (f .index) lines) (on p 0ᶠ n) (rw whole short) (deepens most)))))
-  after-totals lines short outside = totals-none
+      (rw whole at (walk-counts 32896 (take (f .index) lines) (drop (f .index) lines) (relaxed p 0ᶠ n) (rw whole short) (counts-relaxed most)))))
+  after-totals lines short takes-none = totals-none
 
 -- at most 2 ^ 24, so no total comes near 2 ^ 32
 pub whole-fits : (rigid : ℕ) (wish : Vec2) (limit : Float) (lines : List Line) {ph : Phase} {f : Failed} {n : ℕ} → length lines ≤ 256 → wholeList rigid wish limit lines ≡ stands ph f n → n ≤ 16777216
 unfolding wholeList
-whole-fits rigid wish limit lines short e = counted (rw e at (after-totals rigid limit lines short (pass-within (toward wish) limit lines)))
+whole-fits rigid wish limit lines short e = counted (rw e at (after-totals rigid limit lines short (pass-takes (toward wish) limit lines)))
   where
     counted : {b : ℕ} {ph : Phase} {f : Failed} {n : ℕ} → Totals b (stands ph f n) → n ≤ b
     counted (totals h) = h

@@ -22,7 +22,7 @@ use Rattle.linear_programming.specs.declared.Answer.{Answer}
 use Rattle.linear_programming.specs.declared.Answer.the-variants as answer
 use Rattle.linear_programming.specs.OneLine.{Objective, toward, along, Interval, between, empty, Found, at, fails, refuses}
 use Rattle.linear_programming.specs.Pass.{Pass, now, failed, refused}
-use Rattle.linear_programming.specs.Relax.{Tight, kept, skipped, Relaxed, on, turned}
+use Rattle.linear_programming.specs.Relax.{Tight, kept, skipped, Relaxed, relaxed, relaxRefused}
 use Rattle.linear_programming.specs.Whole.{Phase, solving, relaxing, rigidFailure, Failed, noLine, failedLine, Outcome, stands, refusal}
 
 abbrev pub objectiveOf : OptimalValue → Objective
@@ -48,8 +48,8 @@ tightOf (tightened.Kept l) = kept l
 tightOf tightened.Skipped = skipped
 
 abbrev pub relaxedOf : LinearProgram3D → Relaxed
-relaxedOf (lp3d.Relaxed p depth n) = on p depth n
-relaxedOf (lp3d.Refused r) = turned r
+relaxedOf (lp3d.Relaxed p depth n) = relaxed p depth n
+relaxedOf (lp3d.Refused r) = relaxRefused r
 
 abbrev pub phaseOf : PhaseCode → Phase
 phaseOf (phase.Solving x y) = solving (vec x y)
@@ -67,13 +67,13 @@ abbrev pub outcomeOf : Answer → Outcome
 outcomeOf (answer.Stands p f n) = stands (phaseOf p) (failedOf f) n
 outcomeOf (answer.Refused r) = refusal r
 
--- the probes that a one-line solve counts
-abbrev pub probesIn : AlongLine → ℕ
-probesIn (along-line.At p n) = n
-probesIn (along-line.Fails n) = n
-probesIn along-line.Refuses = 0
+-- the earlier lines that a one-line solve looked at
+abbrev pub lookedOf : AlongLine → ℕ
+lookedOf (along-line.At p n) = n
+lookedOf (along-line.Fails n) = n
+lookedOf along-line.Refuses = 0
 
--- and those that a pass counts
+-- the probes that a pass counts
 abbrev pub probesOf : LinearProgram2D → ℕ
 probesOf (lp2d.Feasible p n) = n
 probesOf (lp2d.Infeasible f p n) = n

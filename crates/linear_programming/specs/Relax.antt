@@ -64,8 +64,8 @@ buildProbes rigid earlier = 0
 
 -- relaxation so far: the point, the penetration, the probes; or a refusal
 pub data Relaxed : Type 0 where
-  on : Vec2 → Float → ℕ → Relaxed
-  turned : ℕ → Relaxed
+  relaxed : Vec2 → Float → ℕ → Relaxed
+  relaxRefused : ℕ → Relaxed
 
 -- how deep a point lies on the wrong side of a line
 unfoldable pub depthIn : Line → Vec2 → Float
@@ -73,13 +73,13 @@ depthIn own p = determinantOf (own .direction) (subOf (own .point) p)
 
 -- "Success replaces the point and recomputes penetration; failure keeps both." Refusal 9: the new point or penetration is not finite
 unfoldable pub replaced : Line → Vec2 → Float → ℕ → Pass → Relaxed
-replaced own p depth n (now q m) = if finitePoint q && finite (depthIn own q) then on q (depthIn own q) (n + m) else turned 9
-replaced own p depth n (failed f q m) = on p depth (n + m)
-replaced own p depth n (refused r) = turned r
+replaced own p depth n (now q m) = if finitePoint q && finite (depthIn own q) then relaxed q (depthIn own q) (n + m) else relaxRefused 9
+replaced own p depth n (failed f q m) = relaxed p depth (n + m)
+replaced own p depth n (refused r) = relaxRefused r
 
 -- "determinant(direction, line point − point now) ≤ penetration passes. Otherwise build a fresh list .. Solve it along perp(own direction)."
 unfoldable pub relaxLine : ℕ → Float → List Line → Line → Relaxed → Relaxed
-relaxLine rigid limit earlier own (on p depth n) =
-    if depthIn own p ≤ᶠ depth then on p depth (n + 1)
+relaxLine rigid limit earlier own (relaxed p depth n) =
+    if depthIn own p ≤ᶠ depth then relaxed p depth (n + 1)
     else replaced own p depth (n + 1 + buildProbes rigid earlier) (pass (along (perpOf (own .direction))) limit (tightened rigid own earlier))
-relaxLine rigid limit earlier own (turned r) = turned r
+relaxLine rigid limit earlier own (relaxRefused r) = relaxRefused r

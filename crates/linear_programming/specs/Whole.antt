@@ -11,7 +11,7 @@ use Rattle.lines.specs.declared.Line.{Line}
 use Rattle.linear_programming.specs.Walk.{walk}
 use Rattle.linear_programming.specs.OneLine.{toward}
 use Rattle.linear_programming.specs.Pass.{Failure, Pass, now, failed, refused, pass}
-use Rattle.linear_programming.specs.Relax.{Relaxed, on, turned, relaxLine}
+use Rattle.linear_programming.specs.Relax.{Relaxed, relaxed, relaxRefused, relaxLine}
 
 -- "solving with its point, relaxing with point and penetration, rigid failure with index and point"
 pub data Phase : Type 0 where
@@ -29,8 +29,8 @@ pub data Outcome : Type 0 where
   refusal : ℕ → Outcome
 
 abbrev pub relaxedOutcome : Failed → Relaxed → Outcome
-relaxedOutcome f (on p depth n) = stands (relaxing p depth) f n
-relaxedOutcome f (turned r) = refusal r
+relaxedOutcome f (relaxed p depth n) = stands (relaxing p depth) f n
+relaxedOutcome f (relaxRefused r) = refusal r
 
 -- "Failure at index k, k < rigid count: rigid failure; the point before k stands and later lines are not looked at.
 -- k ≥ rigid count: relaxation begins at line k itself with penetration 0."
@@ -39,7 +39,7 @@ afterPass rigid limit lines (now p n) = stands (solving p) noLine n
 afterPass rigid limit lines (failed f p n) =
     let k = f .index in
     if ltb k rigid then stands (rigidFailure k p) (failedLine f) n
-    else relaxedOutcome (failedLine f) (walk (relaxLine rigid limit) (take k lines) (drop k lines) (on p 0ᶠ n))
+    else relaxedOutcome (failedLine f) (walk (relaxLine rigid limit) (take k lines) (drop k lines) (relaxed p 0ᶠ n))
 afterPass rigid limit lines (refused r) = refusal r
 
 unfoldable pub wholeList : ℕ → Vec2 → Float → List Line → Outcome

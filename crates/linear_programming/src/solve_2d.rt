@@ -11,7 +11,7 @@ ghost use lib.ListN.{getD, length, take, drop};
 ghost use Rattle.linear_programming.specs.Walk.{walk};
 ghost use Rattle.lines.specs.Lines.{linesOf, offLine};
 ghost use Rattle.linear_programming.specs.Pass.{now as standing, start, finitePoint, judged, solved, passLine};
-ghost use Rattle.linear_programming.specs.Read.{objectiveOf, foundOf, passOf, probesIn};
+ghost use Rattle.linear_programming.specs.Read.{objectiveOf, foundOf, passOf, lookedOf};
 
 // The best value with no line looked at.
 pub(crate) fn start_value(radius: f32, optimal_value: OptimalValue) -> Vec2
@@ -58,7 +58,7 @@ fn after_solve(
     probes: u32,
     along: AlongLine,
 ) -> LinearProgram2D
-    requires { ⌜ (probes ≤ 65536) × (probesIn along ≤ 256) ⌝ }
+    requires { ⌜ (probes ≤ 65536) × (lookedOf along ≤ 256) ⌝ }
     ensures { λ r. ⌜ passOf r ≡ solved (objectiveOf «optimal_value») index point probes (foundOf along) ⌝ }
 {
     let AlongLine::At(best_value, looked) = along else {

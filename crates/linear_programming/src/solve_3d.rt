@@ -16,7 +16,7 @@ ghost use Rattle.linear_programming.specs.Walk.{walk};
 ghost use Rattle.lines.specs.Lines.{linesOf, offLine};
 ghost use Rattle.linear_programming.specs.OneLine.{along};
 ghost use Rattle.linear_programming.specs.Pass.{finitePoint, pass};
-ghost use Rattle.linear_programming.specs.Relax.{tightAt, midpoint, intersection, tighten as tightenedBy, tightened, on, depthIn, replaced, relaxLine};
+ghost use Rattle.linear_programming.specs.Relax.{tightAt, midpoint, intersection, tighten as tightenedBy, tightened, relaxed, depthIn, replaced, relaxLine};
 ghost use Rattle.linear_programming.specs.Read.{passOf, tightOf, relaxedOf, probesOf};
 
 // The constraint that a previous line becomes, through a point where both are violated alike.
@@ -168,7 +168,7 @@ fn relax_line(
     probes: u32,
 ) -> LinearProgram3D
     requires { ⌜ (4 * index + 4 ≤ length (now lines)) × (index < 256) × (probes < 16777216) ⌝ }
-    ensures { λ r. ⌜ relaxedOf r ≡ relaxLine rigid radius (take index (linesOf (now (lines .entry)))) (getD (linesOf (now (lines .entry))) index offLine) (on value penetration probes) ⌝ }
+    ensures { λ r. ⌜ relaxedOf r ≡ relaxLine rigid radius (take index (linesOf (now (lines .entry)))) (getD (linesOf (now (lines .entry))) index offLine) (relaxed value penetration probes) ⌝ }
 {
     let constraint = lines::line_at(lines, index);
     if depth_in(constraint, value) <= penetration {
@@ -192,7 +192,7 @@ pub(crate) fn solve_linear_program_3d(
     probes: u32,
 ) -> LinearProgram3D
     requires { ⌜ (from ≤ count) × (count ≤ 256) × (4 * count ≤ length (now lines)) × (probes ≤ 65536) ⌝ }
-    ensures { λ r. ⌜ relaxedOf r ≡ walk (relaxLine rigid radius) (take from (linesOf (now (lines .entry)))) (drop from (take count (linesOf (now (lines .entry))))) (on value penetration probes) ⌝ }
+    ensures { λ r. ⌜ relaxedOf r ≡ walk (relaxLine rigid radius) (take from (linesOf (now (lines .entry)))) (drop from (take count (linesOf (now (lines .entry))))) (relaxed value penetration probes) ⌝ }
 {
     let mut best_value = value;
     let mut depth = penetration;

@@ -23,7 +23,7 @@ use Rattle.lines.specs.LineFaults.{linesFault}
 use Rattle.linear_programming.specs.Walk.{walk}
 use Rattle.linear_programming.specs.OneLine.{toward, along}
 use Rattle.linear_programming.specs.Pass.{Pass, finitePoint, pass}
-use Rattle.linear_programming.specs.Relax.{halfᶠ, Tight, kept, skipped, tightAt, midpoint, intersection, tighten, behind, tightenNext, tightened, Relaxed, on, depthIn, replaced, relaxLine}
+use Rattle.linear_programming.specs.Relax.{halfᶠ, Tight, kept, skipped, tightAt, midpoint, intersection, tighten, behind, tightenNext, tightened, Relaxed, relaxed, depthIn, replaced, relaxLine}
 use Rattle.linear_programming.specs.Whole.{Phase, Failed, Outcome, stands, relaxedOutcome, afterPass, wholeList}
 use Rattle.admission.specs.Faults.{fine}
 use Rattle.linear_programming.specs.Admit.{wishFault}
@@ -84,7 +84,7 @@ tightened-in rigid own O E = fold-in own O (all-map farther (all-take rigid E)) 
 
 -- it goes on
 data Relaxes : Relaxed → Type 0 where
-  relaxes : {p : Vec2} {depth : Float} {n : ℕ} → Relaxes (on p depth n)
+  relaxes : {p : Vec2} {depth : Float} {n : ℕ} → Relaxes (relaxed p depth n)
 
 replaced-relaxes : (own : Line) (p : Vec2) (depth : Float) (n : ℕ) → Admitted own → {s : Pass} → Goes 221 s → Relaxes (replaced own p depth n s)
 unfolding replaced finitePoint depthIn if_then_else_

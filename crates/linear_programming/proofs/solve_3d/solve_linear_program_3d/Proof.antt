@@ -8,10 +8,10 @@ use lib.ListN.{take, drop}
 use lib.Seq.{length-take-le}
 use Rattle.linear_programming.specs.Walk.{walk}
 use Rattle.lines.specs.Lines.{linesOf, offLine}
-use Rattle.linear_programming.specs.Relax.{on, relaxLine}
+use Rattle.linear_programming.specs.Relax.{relaxed, relaxLine}
 use Rattle.lines.proofs.Rows.{lines-fit}
 use Rattle.linear_programming.proofs.WalkLaws.{walk-on, walk-stop, walk-done}
-use Rattle.linear_programming.proofs.TightLaws.{turned-stays}
+use Rattle.linear_programming.proofs.TightLaws.{relax-refused-stays}
 use Rattle.linear_programming.proofs.Probes.{relax-most}
 use borrow.Author.Needs.{needs}
 use Rattle.linear_programming.proofs.solve_3d.solve_linear_program_3d.Statement.{statement}
@@ -20,8 +20,8 @@ use Rattle.linear_programming.proofs.solve_3d.solve_linear_program_3d.T
 abbrev Inv-loop : tie.InvT-loop
 Inv-loop lines rigid from count radius penetration probes best-value₀ depth₀ counted₀ i₀ best-value depth counted i =
     (from ≤ i) × (i ≤ count) × (counted ≤ 65536 + 32896 * i)
-    × (walk (relaxLine rigid radius) (take from (linesOf lines)) (drop from (take count (linesOf lines))) (on best-value₀ depth₀ counted₀)
-    ≡ walk (relaxLine rigid radius) (take i (linesOf lines)) (drop i (take count (linesOf lines))) (on best-value depth counted))
+    × (walk (relaxLine rigid radius) (take from (linesOf lines)) (drop from (take count (linesOf lines))) (relaxed best-value₀ depth₀ counted₀)
+    ≡ walk (relaxLine rigid radius) (take i (linesOf lines)) (drop i (take count (linesOf lines))) (relaxed best-value depth counted))
 
 abbrev μ-loop : tie.MeasureT-loop
 μ-loop lines rigid from count radius penetration probes best-value₀ depth₀ counted₀ i₀ best-value depth counted i = count - i
@@ -44,7 +44,7 @@ returns c =
     let l = c .before .before .before .before .loop in
     let step = rw (c .enum-told .given .1) at (c .before .before .relax-line .ensures) in
     rw (c .enum-told .given .1)
-    (sym (l .inv .3 ∙ walk-stop (relaxLine (a .rigid) (a .radius)) (linesOf (now (a .lines))) (a .count) (l .i) (lines-fit (now (a .lines)) (a .count) (omega arith)) offLine (omega arith) (sym step) (turned-stays _ _ _)))
+    (sym (l .inv .3 ∙ walk-stop (relaxLine (a .rigid) (a .radius)) (linesOf (now (a .lines))) (a .count) (l .i) (lines-fit (now (a .lines)) (a .count) (omega arith)) offLine (omega arith) (sym step) (relax-refused-stays _ _ _)))
 
 add-i : tie.Need-add-i Inv-loop μ-loop
 add-i c = search needs
