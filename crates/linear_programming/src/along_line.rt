@@ -5,7 +5,7 @@ use crate::OptimalValue;
 use common::Vec2;
 use lines::Line;
 ghost use mathlib.Core.Path.{_≡_};
-ghost use Prim.Native.Nat.{_+_, _*_, _≤_, _<_};
+ghost use Prim.Native.Nat.{_*_, _≤_, _<_};
 ghost use mathlib.Core.List.{foldl};
 ghost use lib.ListN.{length, take};
 ghost use Rattle.lines.specs.Lines.{linesOf};

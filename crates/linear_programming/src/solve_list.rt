@@ -10,7 +10,7 @@ use crate::solve_3d;
 use common::Vec2;
 use lines::Line;
 ghost use mathlib.Core.Path.{_≡_};
-ghost use Prim.Native.Nat.{_*_, _≤_, _<_};
+ghost use Prim.Native.Nat.{_*_, _≤_};
 ghost use lib.ListN.{length, take};
 ghost use Rattle.lines.specs.Lines.{linesOf};
 ghost use Rattle.linear_programming.specs.Whole.{relaxedOutcome, afterPass, wholeList};
