@@ -91,7 +91,8 @@ fn store(lines: [Line; 256], count: usize, numbers: &[f32]) -> [Line; 256]
 }
 
 impl Session {
-    // A session with no lines yet. Refused: a wish or limit out of range (6), a starting point that is not finite (9).
+    // A session with no lines yet. Refused: a wish or limit out of range (6), a starting point that is not finite (9). The last stands in 01's
+    // order, but no admitted wish and limit meet it (law `never-refused`).
     pub fn start(wish: Vec2, limit: f32, rigid: usize) -> Fed
         ensures { λ r. ⌜ r ≡ startedAs wish limit rigid ⌝ }
         ensures { λ r. ⌜ Begins wish limit rigid r ⌝ }
@@ -121,7 +122,8 @@ impl Session {
 
     // The session with a batch of lines, four numbers each, behind its own, and how all of them stand. Only the new lines are worked.
     // A refused batch leaves the session as it was: refused are a session of more than 256 lines (4), numbers that are no whole lines (2),
-    // too many lines (4), a line (6, 7), the solve (8, 9).
+    // too many lines (4), a line (6, 7), the solve (8, 9). The last two stand in 01's order, but no session that a start and later batches
+    // handed out meets them (law `never-refused`).
     pub fn batch(self, numbers: &[f32]) -> Fed
         ensures { λ r. ⌜ r ≡ fedAs self (now (numbers .entry)) ⌝ }
         ensures { λ r. ⌜ (Handed self → Continues self (now (numbers .entry)) r) ⌝ }
