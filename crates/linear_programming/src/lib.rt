@@ -120,8 +120,10 @@ pub fn resume_linear_program(
     if count > Line::MOST {
         return Answer::Refused(4);
     }
-    solve_list::resume_lines(
-        lines,
+    let mut numbers = [0.0f32; 1024];
+    solve_list::lay(lines, count, &mut numbers);
+    solve_list::resume(
+        &numbers,
         count,
         lesser(from, count),
         rigid,

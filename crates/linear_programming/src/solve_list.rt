@@ -66,7 +66,7 @@ fn after_pass(
 }
 
 // The lines from `from` up to `count`, after those before them left the phase and the failed line.
-fn resume(
+pub(crate) fn resume(
     lines: &[f32],
     count: usize,
     from: usize,
@@ -140,7 +140,7 @@ pub(crate) fn solve_from_start(
 }
 
 // The first `count` lines laid out as numbers.
-fn lay(lines: [Line; 256], count: usize, numbers: &mut [f32])
+pub(crate) fn lay(lines: [Line; 256], count: usize, numbers: &mut [f32])
     requires { ⌜ (count ≤ 256) × (length (now numbers) ≡ 1024) ⌝ }
     ensures { λ _. ⌜ (length (now (numbers .exit)) ≡ 1024) × (take count (linesOf (now (numbers .exit))) ≡ take count lines) ⌝ }
 {
@@ -149,23 +149,4 @@ fn lay(lines: [Line; 256], count: usize, numbers: &mut [f32])
         lines::put_line(numbers, n, lines[n]);
         n += 1;
     }
-}
-
-// The rules taken up again over lines by value.
-pub(crate) fn resume_lines(
-    lines: [Line; 256],
-    count: usize,
-    from: usize,
-    rigid: usize,
-    limit: f32,
-    wish: Vec2,
-    phase: Phase,
-    failed: FailedLine,
-) -> Answer
-    requires { ⌜ (from ≤ count) × (count ≤ 256) ⌝ }
-    ensures { λ r. ⌜ outcomeOf r ≡ resumed rigid wish limit (take count lines) from (phaseOf phase) (failedOf failed) ⌝ }
-{
-    let mut numbers = [0.0f32; 1024];
-    lay(lines, count, &mut numbers);
-    resume(&numbers, count, from, rigid, limit, wish, phase, failed)
 }

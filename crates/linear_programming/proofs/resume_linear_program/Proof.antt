@@ -13,18 +13,37 @@ returns : tie.Need-returns
 unfolding resumedCall
 returns c = simp (lt-leb _ _ (c .if1 .taken))
 
+slice-aggregate-lay : tie.Need-slice-aggregate-lay
+slice-aggregate-lay c = search needs
+
+lay-requires : tie.Need-lay-requires
+lay-requires c κs = search needs
+
+slice-aggregate-resume : tie.Need-slice-aggregate-resume
+slice-aggregate-resume c = search needs
+
 lesser-requires : tie.Need-lesser-requires
 lesser-requires c κs = search needs
 
-resume-lines-requires : tie.Need-resume-lines-requires
-resume-lines-requires c κs = search needs
+resume-requires : tie.Need-resume-requires
+resume-requires c κs = search needs
 
 returns-2 : tie.Need-returns-2
 unfolding resumedCall
 returns-2 c =
-    let size = length-take-le (c .before .before .before .args .count) (c .before .before .before .args .lines) (omega arith) in
-    simp (le-leb _ _ (c .before .before .if1 .left)) (c .resume-lines .ensures ∙ resumed-lesser _ _ _ _ _ _ _ size (c .before .lesser .ensures))
+    let start = c .before .before .before .before .before .before in
+    let size = length-take-le (start .before .args .count) (start .before .args .lines) (omega arith) in
+    let stands = rw (c .before .before .before .before .lay .ensures .1) at (c .resume .ensures) in
+    simp (le-leb _ _ (start .if1 .left)) (stands ∙ resumed-lesser _ _ _ _ _ _ _ size (c .before .lesser .ensures))
 
 pub resume-linear-program-spec : {M : Type 1} → statement M
 resume-linear-program-spec =
-    tie.close (tie.spec returns lesser-requires resume-lines-requires returns-2)
+    tie.close
+    (tie.spec
+    returns
+    slice-aggregate-lay
+    lay-requires
+    slice-aggregate-resume
+    lesser-requires
+    resume-requires
+    returns-2)
