@@ -7,7 +7,7 @@ use lib.IntN.{pos}
 use lib.Ieee.{Float, binary32, ofInt, round, neg}
 use Rattle.arithmetic.specs.Binary32.{0ᶠ, 1ᶠ}
 use Rattle.lines.proofs.Computed.{computed as numbers}
-use Rattle.linear_programming.specs.OneLine.{chord, crossed, cut, beside, narrow, pointOn, choose, oneLine}
+use Rattle.linear_programming.specs.OneLine.{chord, unlessFails, cut, narrow, pointOn, choose, oneLine}
 use Rattle.linear_programming.specs.Pass.{start, finitePoint, judged, solved, passLine, pass}
 use Rattle.linear_programming.specs.Relax.{halfᶠ, tightAt, midpoint, intersection, tighten, tightenNext, tightened, depthIn, replaced, relaxLine}
 use Rattle.linear_programming.specs.Whole.{afterPass, wholeList}
@@ -16,7 +16,7 @@ use Rattle.linear_programming.specs.Admit.{reach, longest}
 -- what computing by the rules opens
 unfoldable pub computed : Unit {0}
 unfolding numbers
-    chord crossed cut beside narrow pointOn choose oneLine start finitePoint judged solved passLine pass
+    chord unlessFails cut narrow pointOn choose oneLine start finitePoint judged solved passLine pass
     tightAt midpoint intersection tighten tightenNext tightened depthIn replaced relaxLine afterPass wholeList
 computed = tt
 

@@ -1,6 +1,7 @@
 -- Laws of the one-line solve: each earlier line is looked at once, and an empty interval stays empty. Assumes nothing.
 use Prim.Native.Nat.{ℕ, suc, _+_, _≤_}
 use mathlib.Core.Path.{_≡_, refl}
+use mathlib.Core.Bool.{Bool}
 use mathlib.Core.List.{List, [], _∷_, foldl}
 use native.Mathlib.Omega.{arith}
 use native.Mathlib.Nat.{le-refl, add-zero}
@@ -10,7 +11,7 @@ use Rattle.arithmetic.proofs.Choice.{if-all}
 use Rattle.common.specs.declared.Vec2.{Vec2}
 use Rattle.lines.specs.declared.Line.{Line}
 use Rattle.lines.proofs.Fold.{fold-stays}
-use Rattle.linear_programming.specs.OneLine.{Objective, toward, along, Interval, between, empty, chord, crossed, cut, beside, narrow, Found, at, fails, refuses, choose, oneLine}
+use Rattle.linear_programming.specs.OneLine.{Objective, toward, along, Interval, between, empty, chord, unlessFails, cut, narrow, Found, at, fails, refuses, choose, oneLine}
 
 pub empty-stays : (own : Line) (n : ℕ) (it : Line) → narrow own (empty n) it ≡ empty n
 unfolding narrow
@@ -25,14 +26,13 @@ pub data Opens (i : ℕ) : Interval → Type 0 where
 pub open-count : {i n : ℕ} {l r : Float} → Opens i (between l r n) → n ≡ i
 open-count opens = refl
 
-crossed-opens : (left right : Float) (n : ℕ) → Opens (n + 1) (crossed left right n)
-unfolding crossed
-crossed-opens left right n = if-all (Opens (n + 1)) _ (shuts (le-refl _)) opens
+unless-opens : (b : Bool) (left right : Float) (n : ℕ) → Opens (n + 1) (unlessFails b left right n)
+unfolding unlessFails
+unless-opens b left right n = if-all (Opens (n + 1)) _ (shuts (le-refl _)) opens
 
 pub narrow-opens : (own it : Line) (i : ℕ) {s : Interval} → Opens i s → Opens (i + 1) (narrow own s it)
-unfolding narrow beside cut
-narrow-opens own it i opens =
-    if-all (Opens (i + 1)) _ (if-all (Opens (i + 1)) _ (shuts (le-refl _)) opens) (if-all (Opens (i + 1)) _ (crossed-opens _ _ i) (crossed-opens _ _ i))
+unfolding narrow cut
+narrow-opens own it i opens = if-all (Opens (i + 1)) _ (unless-opens _ _ _ i) (if-all (Opens (i + 1)) _ (unless-opens _ _ _ i) (unless-opens _ _ _ i))
 narrow-opens own it i (shuts {n} h) = shuts {n = n} (omega arith)
 
 -- one line more

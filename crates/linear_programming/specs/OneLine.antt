@@ -1,5 +1,6 @@
 -- 01, "One-line solve" and "The objective is either a point or a direction". Definitions only. Assumes nothing.
 use Prim.Native.Nat.{ℕ, _+_}
+use mathlib.Core.Bool.{Bool}
 use mathlib.Core.List.{List, foldl}
 use lib.Ieee.{Float, neg}
 use Rattle.arithmetic.specs.Binary32.{_⊕_, _⊖_, _⊗_, _⊘_, _<ᶠ_, _≤ᶠ_, 0ᶠ, if_then_else_}
@@ -27,25 +28,24 @@ chord limit own =
     let root = sqrtOf disc in
     if disc <ᶠ 0ᶠ then empty 0 else between (neg a ⊖ root) (neg a ⊕ root) 0
 
--- one more line looked at, the ends as it left them: "left > right fails"
-unfoldable pub crossed : Float → Float → ℕ → Interval
-crossed left right n = if right <ᶠ left then empty (n + 1) else between left right (n + 1)
+-- one more line looked at: it fails there, or the ends are as the line left them
+unfoldable pub unlessFails : Bool → Float → Float → ℕ → Interval
+unlessFails b left right n = if b then empty (n + 1) else between left right (n + 1)
 
--- "t = num / det caps the right end if det ≥ 0, raises the left end if not"
+-- "t = num / det caps the right end if det ≥ 0, raises the left end if not; left > right fails"
 unfoldable pub cut : Float → Float → ℕ → Float → Float → Interval
-cut left right n det t = if 0ᶠ ≤ᶠ det then crossed left (minOf right t) n else crossed (maxOf left t) right n
+cut left right n det t =
+    let capped = minOf right t in
+    let raised = maxOf left t in
+    if 0ᶠ ≤ᶠ det then unlessFails (capped <ᶠ left) left capped n else unlessFails (right <ᶠ raised) raised right n
 
--- "|det| ≤ 0.00001: fails if num < 0, else skipped"
-unfoldable pub beside : Float → Float → ℕ → Float → Interval
-beside left right n num = if num <ᶠ 0ᶠ then empty (n + 1) else between left right (n + 1)
-
--- one earlier line narrows the interval on `own`
+-- one earlier line narrows the interval on `own`. "|det| ≤ 0.00001: fails if num < 0, else skipped"
 unfoldable pub narrow : Line → Interval → Line → Interval
 narrow own (empty n) it = empty n
 narrow own (between left right n) it =
     let det = determinantOf (own .direction) (it .direction) in
     let num = determinantOf (it .direction) (subOf (own .point) (it .point)) in
-    if absOf det ≤ᶠ epsilon then beside left right n num else cut left right n det (num ⊘ det)
+    if absOf det ≤ᶠ epsilon then unlessFails (num <ᶠ 0ᶠ) left right n else cut left right n det (num ⊘ det)
 
 -- what a solve of one line finds, with its probes: a point, a failure, or refusal 8
 pub data Found : Type 0 where

@@ -9,7 +9,7 @@ ghost use Prim.Native.Nat.{_*_, _≤_, _<_};
 ghost use mathlib.Core.List.{foldl};
 ghost use lib.ListN.{length, take};
 ghost use Rattle.lines.specs.Lines.{linesOf};
-ghost use Rattle.linear_programming.specs.OneLine.{between, chord, crossed, cut, beside, narrow, pointOn, choose, oneLine};
+ghost use Rattle.linear_programming.specs.OneLine.{between, chord, unlessFails, cut, narrow, pointOn, choose, oneLine};
 ghost use Rattle.linear_programming.specs.Read.{objectiveOf, intervalOf, foundOf};
 
 // Where the line lies within the circle.
@@ -26,23 +26,12 @@ fn circle_interval(line: Line, radius: f32) -> Interval
     Interval::Between(-line_dot_product - root, -line_dot_product + root, 0)
 }
 
-// The ends as one more line left them: the interval is empty where they have crossed.
-fn unless_crossed(left: f32, right: f32, looked: u32) -> Interval
+// One more line looked at: the interval is empty where that fails, else its ends are as the line left them.
+fn unless_fails(fails: bool, left: f32, right: f32, looked: u32) -> Interval
     requires { ⌜ looked < 256 ⌝ }
-    ensures { λ r. ⌜ intervalOf r ≡ crossed left right looked ⌝ }
+    ensures { λ r. ⌜ intervalOf r ≡ unlessFails fails left right looked ⌝ }
 {
-    if left > right {
-        return Interval::Empty(looked + 1);
-    }
-    Interval::Between(left, right, looked + 1)
-}
-
-// An earlier line that is nearly parallel leaves the interval as it is, or empties it where `line` lies on its wrong side.
-fn unless_outside(left: f32, right: f32, looked: u32, numerator: f32) -> Interval
-    requires { ⌜ looked < 256 ⌝ }
-    ensures { λ r. ⌜ intervalOf r ≡ beside left right looked numerator ⌝ }
-{
-    if numerator < 0.0 {
+    if fails {
         return Interval::Empty(looked + 1);
     }
     Interval::Between(left, right, looked + 1)
@@ -54,12 +43,14 @@ fn cut_at(left: f32, right: f32, looked: u32, direction_determinant: f32, t: f32
     ensures { λ r. ⌜ intervalOf r ≡ cut left right looked «direction_determinant» t ⌝ }
 {
     if direction_determinant >= 0.0 {
-        return unless_crossed(left, arithmetic::min(right, t), looked);
+        let capped = arithmetic::min(right, t);
+        return unless_fails(left > capped, left, capped, looked);
     }
-    unless_crossed(arithmetic::max(left, t), right, looked)
+    let raised = arithmetic::max(left, t);
+    unless_fails(raised > right, raised, right, looked)
 }
 
-// One earlier line narrows the interval.
+// One earlier line narrows the interval; one that is nearly parallel leaves it as it is, or fails where `line` lies on its wrong side.
 fn narrow_by(line: Line, left: f32, right: f32, looked: u32, constraint: Line) -> Interval
     requires { ⌜ looked < 256 ⌝ }
     ensures { λ r. ⌜ intervalOf r ≡ narrow line (between left right looked) constraint ⌝ }
@@ -67,7 +58,7 @@ fn narrow_by(line: Line, left: f32, right: f32, looked: u32, constraint: Line) -
     let direction_determinant = common::determinant(line.direction, constraint.direction);
     let numerator = common::determinant(constraint.direction, line.point.sub(constraint.point));
     if arithmetic::abs(direction_determinant) <= Line::EPSILON {
-        return unless_outside(left, right, looked, numerator);
+        return unless_fails(numerator < 0.0, left, right, looked);
     }
     cut_at(
         left,

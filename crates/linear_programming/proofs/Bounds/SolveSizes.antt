@@ -24,7 +24,7 @@ use Rattle.common.proofs.NormalizedSize.{inverse-within}
 use Rattle.lines.specs.declared.Line.{Line}
 use Rattle.lines.specs.Lines.{epsilon}
 use Rattle.linear_programming.specs.Walk.{walk}
-use Rattle.linear_programming.specs.OneLine.{Objective, toward, along, Interval, between, empty, chord, crossed, cut, beside, narrow, Found, at, fails, pointOn, choose, oneLine}
+use Rattle.linear_programming.specs.OneLine.{Objective, toward, along, Interval, between, empty, chord, unlessFails, cut, narrow, Found, at, fails, pointOn, choose, oneLine}
 use Rattle.linear_programming.specs.Pass.{start, Failure, Pass, now, failed, finitePoint, judged, solved, passLine, pass}
 
 pub record LineIn (p : ℕ) (l : Line) : Type 0 where
@@ -42,8 +42,8 @@ pub data Good (k : ℕ) : Interval → Type 0 where
   good : {l r : Float} {n : ℕ} → Within k l → Within k r → (l ≤ᶠ r) ≡ true → Good k (between l r n)
   gone : {n : ℕ} → Good k (empty n)
 
-crossed-good : {k : ℕ} {l r : Float} (n : ℕ) → Within k l → Within k r → Good k (crossed l r n)
-unfolding crossed
+crossed-good : {k : ℕ} {l r : Float} (n : ℕ) → Within k l → Within k r → Good k (unlessFails (r <ᶠ l) l r n)
+unfolding unlessFails
 crossed-good {k} {l} {r} n h g = if-case (Good k) (r <ᶠ l) (λ t. gone) (λ t. good h g (not-lt-le h g t))
 
 -- ---- what one line finds
@@ -91,7 +91,7 @@ solved-goes o i q n l misses = ends
 
 module _ (p : ℕ) (P : (177 ≤ p) × (p ≤ 199)) where
   narrow-good : (own it : Line) → LineIn p own → LineIn p it → {i : Interval} → Good (p + 20) i → Good (p + 20) (narrow own i it)
-  unfolding narrow beside cut
+  unfolding narrow cut unlessFails
   narrow-good own it O I gone = gone
   narrow-good own it O I (good {l} {r} {n} h g t) =
       let d : Within 152 (determinantOf (own .direction) (it .direction)) = determinant-within 152 (O .direction-in) (I .direction-in) (omega arith) in

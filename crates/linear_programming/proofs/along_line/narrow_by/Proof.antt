@@ -17,12 +17,12 @@ determinant-requires-2 c κs = search needs
 abs-requires : tie.Need-abs-requires
 abs-requires c κs = search needs
 
-unless-outside-requires : tie.Need-unless-outside-requires
-unless-outside-requires c κs = search needs
+unless-fails-requires : tie.Need-unless-fails-requires
+unless-fails-requires c κs = search needs
 
 returns : tie.Need-returns
 unfolding narrow if_then_else_
-returns c = simp (← c .unless-outside .ensures, c .before .if1 .taken, ← c .before .before .abs .ensures, ← c .before .before .before .determinant2 .ensures, ← c .before .before .before .before .sub .ensures, ← c .before .before .before .before .before .determinant .ensures)
+returns c = simp (← c .unless-fails .ensures, c .before .if1 .taken, ← c .before .before .abs .ensures, ← c .before .before .before .determinant2 .ensures, ← c .before .before .before .before .sub .ensures, ← c .before .before .before .before .before .determinant .ensures)
 
 cut-at-requires : tie.Need-cut-at-requires
 cut-at-requires c κs = search needs
@@ -39,7 +39,7 @@ narrow-by-spec =
     sub-requires
     determinant-requires-2
     abs-requires
-    unless-outside-requires
+    unless-fails-requires
     returns
     cut-at-requires
     returns-2)
