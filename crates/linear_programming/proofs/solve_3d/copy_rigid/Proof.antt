@@ -5,9 +5,9 @@ use native.Mathlib.Omega.{arith}
 use denote.Ref.{now}
 use lib.ListN.{length, take}
 use Rattle.lines.specs.Lines.{linesOf, offLine}
-use Rattle.lines.proofs.Fold.{take-next, take-set-next}
+use Rattle.lines.proofs.Fold.{take-next}
 use Rattle.lines.proofs.Rows.{lines-fit}
-use Rattle.lines.proofs.Stored.{stored-line}
+use Rattle.lines.proofs.Stored.{stored-next}
 use borrow.Author.Needs.{needs}
 use Rattle.linear_programming.proofs.solve_3d.copy_rigid.Statement.{statement}
 use Rattle.linear_programming.proofs.solve_3d.copy_rigid.Tie as tie
@@ -37,11 +37,10 @@ loop-again : tie.Need-loop-again Inv-loop μ-loop
 loop-again c =
     let b = now (c .before .before .before .before .before .before .before .before .before .args .lines) in
     let l = c .before .before .before .before .before .before .loop in
-    let h : l .n < length (linesOf b) = omega (arith, lines-fit b (l .n + 1) (omega arith)) in
-    let k : l .n < length (linesOf (l .tight)) = omega (arith, lines-fit (l .tight) 255 (omega arith)) in (
+    let h : l .n < length (linesOf b) = omega (arith, lines-fit b (l .n + 1) (omega arith)) in (
       omega arith,
       c .before .before .put-line .kept .0 ∙ l .inv .1,
-      rw (c .before .before .put-line .ensures, stored-line (l .tight) (l .n) _ (omega arith), take-set-next (linesOf (l .tight)) (l .n) k (c .before .before .before .line-at .result), take-next (linesOf b) (l .n) h offLine, c .before .before .before .line-at .ensures, l .inv .2),
+      rw (c .before .before .put-line .ensures, stored-next (l .tight) (l .n) (c .before .before .before .line-at .result) (omega arith), take-next (linesOf b) (l .n) h offLine, c .before .before .before .line-at .ensures, l .inv .2),
     )
 
 same-length : tie.Need-same-length Inv-loop μ-loop

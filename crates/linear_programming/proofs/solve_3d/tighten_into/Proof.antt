@@ -1,6 +1,6 @@
 -- `linear_programming::solve_3d::tighten_into` meets its contract. The invariant: the lines from i on, tightened behind the first n that are made, give the same list.
 -- Assumes nothing.
-use Prim.Native.Nat.{_-_, _≤_, _<_}
+use Prim.Native.Nat.{_-_, _≤_}
 use mathlib.Core.Path.{_≡_, sym, _∙_}
 use mathlib.Core.List.{foldl}
 use native.Mathlib.Omega.{arith}
@@ -9,10 +9,10 @@ use lib.ListN.{length, take, drop}
 use lib.Seq.{take-take}
 use Rattle.lines.specs.Lines.{linesOf, offLine}
 use Rattle.linear_programming.specs.Relax.{tightenNext, tightened}
-use Rattle.lines.proofs.Fold.{fold-on, fold-done, take-set-next}
+use Rattle.lines.proofs.Fold.{fold-on, fold-done}
 use Rattle.lines.proofs.Rows.{lines-fit}
 use Rattle.linear_programming.proofs.TightLaws.{next-kept, next-skipped}
-use Rattle.lines.proofs.Stored.{stored-line}
+use Rattle.lines.proofs.Stored.{stored-next}
 use borrow.Author.Needs.{needs}
 use Rattle.linear_programming.proofs.solve_3d.tighten_into.Statement.{statement}
 use Rattle.linear_programming.proofs.solve_3d.tighten_into.Tie as tie
@@ -66,14 +66,13 @@ loop-again c =
     let b = now (a .lines) in
     let few = c .before .before .before .before .before .before .before .before .before .before .before .before .before .before .before .before .before .pre .1 in
     let all = c .before .before .before .before .before .before .before .before .before .before .before .before .before .before .before .before .before .pre .2 in
-    let k : l .n < length (linesOf (l .tight)) = omega (arith, lines-fit (l .tight) 255 (omega arith)) in
     let made = rw (c .before .before .before .before .before .line .given .1, c .before .before .before .before .before .before .before .before .line-at .ensures) at (c .before .before .before .before .before .before .before .tighten .ensures) in (
       omega arith,
       omega arith,
       c .before .before .put-line .kept .0 ∙ l .inv .2,
       l .inv .3
           ∙ fold-on (tightenNext (a .constraint)) (linesOf b) (a .index) (l .i) (lines-fit b (a .index) (omega arith)) offLine (omega arith)
-          (next-kept _ _ _ _ made ∙ rw (c .before .before .put-line .ensures, stored-line (l .tight) (l .n) _ (omega arith), take-set-next (linesOf (l .tight)) (l .n) k)),
+          (next-kept _ _ _ _ made ∙ rw (c .before .before .put-line .ensures, stored-next (l .tight) (l .n) _ (omega arith))),
     )
 
 enum-told : tie.Need-enum-told Inv-loop μ-loop

@@ -1,12 +1,11 @@
 -- `linear_programming::solve_list::lay` meets its contract. The invariant: the first n lines are laid out. Assumes nothing.
-use Prim.Native.Nat.{_-_, _≤_, _<_}
+use Prim.Native.Nat.{_-_, _≤_}
 use mathlib.Core.Path.{_≡_, refl, _∙_}
 use native.Mathlib.Omega.{arith}
 use lib.ListN.{length, take}
 use Rattle.lines.specs.Lines.{linesOf, offLine}
-use Rattle.lines.proofs.Fold.{take-next, take-set-next}
-use Rattle.lines.proofs.Rows.{lines-fit}
-use Rattle.lines.proofs.Stored.{stored-line}
+use Rattle.lines.proofs.Fold.{take-next}
+use Rattle.lines.proofs.Stored.{stored-next}
 use borrow.Author.Needs.{needs}
 use Rattle.linear_programming.proofs.solve_list.lay.Statement.{statement}
 use Rattle.linear_programming.proofs.solve_list.lay.Tie as tie
@@ -37,11 +36,10 @@ loop-less c = search needs
 
 loop-again : tie.Need-loop-again Inv-loop μ-loop
 loop-again c =
-    let l = c .before .before .before .before .before .before .loop in
-    let k : l .n < length (linesOf (l .numbers)) = omega (arith, lines-fit (l .numbers) 256 (omega arith)) in (
+    let l = c .before .before .before .before .before .before .loop in (
       omega arith,
       c .before .before .put-line .kept .0 ∙ l .inv .1,
-      rw (c .before .before .put-line .ensures, stored-line (l .numbers) (l .n) _ (omega arith), take-set-next (linesOf (l .numbers)) (l .n) k, take-next (c .before .before .before .before .before .before .before .before .args .t1) (l .n) (omega arith) offLine, l .inv .2),
+      rw (c .before .before .put-line .ensures, stored-next (l .numbers) (l .n) _ (omega arith), take-next (c .before .before .before .before .before .before .before .before .args .t1) (l .n) (omega arith) offLine, l .inv .2),
     )
 
 same-length : tie.Need-same-length Inv-loop μ-loop
