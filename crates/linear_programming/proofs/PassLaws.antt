@@ -12,7 +12,7 @@ use Rattle.linear_programming.specs.declared.LinearProgram2D.{LinearProg
 use Rattle.linear_programming.specs.declared.LinearProgram2D.the-variants as lp2d
 use Rattle.linear_programming.specs.Walk.{walk}
 use Rattle.linear_programming.specs.OneLine.{Objective, toward, along, Found, at, fails, refuses, oneLine}
-use Rattle.linear_programming.specs.Pass.{Failure, Pass, now, failed, refused, judged, solved, passLine}
+use Rattle.linear_programming.specs.Pass.{Failure, Pass, feasible, failed, refused, judged, solved, passLine}
 use Rattle.linear_programming.specs.Read.{passOf, probesOf, indexOf}
 use Rattle.linear_programming.proofs.Probes.{Counts, counts, counts-failed, pass-counts}
 use Rattle.linear_programming.proofs.WalkLaws.{walk-stays, walk-grows}
@@ -29,22 +29,22 @@ module _ (o : Objective) (limit : Float) where
 -- ---- it fails at its own line
 
 pub data FailsAt (k : ℕ) : Pass → Type 0 where
-  still : {p : Vec2} {n : ℕ} → FailsAt k (now p n)
+  still : {p : Vec2} {n : ℕ} → FailsAt k (feasible p n)
   there : {f : Failure} {p : Vec2} {n : ℕ} → f .index ≡ k → FailsAt k (failed f p n)
   never : {r : ℕ} → FailsAt k (refused r)
 
 -- a judged point never fails
 pub data Unfailed : Pass → Type 0 where
-  unfailed-now : {p : Vec2} {n : ℕ} → Unfailed (now p n)
+  unfailed-feasible : {p : Vec2} {n : ℕ} → Unfailed (feasible p n)
   unfailed-refused : {r : ℕ} → Unfailed (refused r)
 
 pub judged-unfailed : (o : Objective) (p : Vec2) (n : ℕ) → Unfailed (judged o p n)
 unfolding judged
-judged-unfailed (toward w) p n = if-all Unfailed _ unfailed-now unfailed-refused
-judged-unfailed (along d) p n = unfailed-now
+judged-unfailed (toward w) p n = if-all Unfailed _ unfailed-feasible unfailed-refused
+judged-unfailed (along d) p n = unfailed-feasible
 
 unfailed : (k : ℕ) {q : Pass} → Unfailed q → FailsAt k q
-unfailed k unfailed-now = still
+unfailed k unfailed-feasible = still
 unfailed k unfailed-refused = never
 
 solved-fails : (o : Objective) (k : ℕ) (p : Vec2) (n : ℕ) (q : Found) → FailsAt k (solved o k p n q)
@@ -53,14 +53,14 @@ solved-fails o k p n (at q m) = unfailed k (judged-unfailed o q (n + m))
 solved-fails o k p n (fails m) = there refl
 solved-fails o k p n refuses = never
 
-pub pass-fails : (o : Objective) (limit : Float) (e : List Line) (own : Line) (p : Vec2) (n : ℕ) → FailsAt (length e) (passLine o limit e own (now p n))
+pub pass-fails : (o : Objective) (limit : Float) (e : List Line) (own : Line) (p : Vec2) (n : ℕ) → FailsAt (length e) (passLine o limit e own (feasible p n))
 unfolding passLine
 pass-fails o limit e own p n = if-all (FailsAt (length e)) _ still (solved-fails o (length e) p (n + 1) (oneLine o limit own e))
 
 -- ---- how it stands after the first k lines of at most 256
 
 data Bounded (k : ℕ) : Pass → Type 0 where
-  running : {p : Vec2} {n : ℕ} → n ≤ 256 * k → Bounded k (now p n)
+  running : {p : Vec2} {n : ℕ} → n ≤ 256 * k → Bounded k (feasible p n)
   halted : {f : Failure} {p : Vec2} {n : ℕ} → f .index < k → n ≤ 256 * k → Bounded k (failed f p n)
   barred : {r : ℕ} → Bounded k (refused r)
 
@@ -83,9 +83,9 @@ module _ (o : Objective) (limit : Float) where
           both never c = barred
 
   -- what a pass counts, and where it fails
-  pub pass-bounds : (e l : List Line) (p : Vec2) (a : LinearProgram2D) → length (e ++ l) ≤ 256 → passOf a ≡ walk (passLine o limit) e l (now p 0) → (probesOf a ≤ 65536) × (indexOf a ≤ length (e ++ l))
+  pub pass-bounds : (e l : List Line) (p : Vec2) (a : LinearProgram2D) → length (e ++ l) ≤ 256 → passOf a ≡ walk (passLine o limit) e l (feasible p 0) → (probesOf a ≤ 65536) × (indexOf a ≤ length (e ++ l))
   pass-bounds e l p a h eq =
-      bounds a (rw (← eq) at (walk-grows (passLine o limit) (λ i t. length i ≤ 256 → Bounded (length i) t) line-bounded e l (now p 0) (λ short. running (omega arith)) h))
+      bounds a (rw (← eq) at (walk-grows (passLine o limit) (λ i t. length i ≤ 256 → Bounded (length i) t) line-bounded e l (feasible p 0) (λ short. running (omega arith)) h))
     where
       bounds : (a : LinearProgram2D) → Bounded (length (e ++ l)) (passOf a) → (probesOf a ≤ 65536) × (indexOf a ≤ length (e ++ l))
       bounds (lp2d.Feasible p n) (running b) = (omega arith, omega arith)

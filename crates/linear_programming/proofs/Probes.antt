@@ -11,7 +11,7 @@ use Rattle.arithmetic.proofs.Choice.{if-all}
 use Rattle.common.specs.declared.Vec2.{Vec2}
 use Rattle.lines.specs.declared.Line.{Line}
 use Rattle.linear_programming.specs.OneLine.{Objective, toward, along, Found, at}
-use Rattle.linear_programming.specs.Pass.{Failure, Pass, now, failed, refused, judged, solved, passLine, pass}
+use Rattle.linear_programming.specs.Pass.{Failure, Pass, feasible, failed, refused, judged, solved, passLine, pass}
 use Rattle.linear_programming.specs.Relax.{buildProbes, tightened, Relaxed, relaxed, relaxRefused, replaced, relaxLine}
 use Rattle.linear_programming.specs.declared.LinearProgram2D.{LinearProgram2D}
 use Rattle.linear_programming.specs.declared.LinearProgram2D.the-variants as lp2d
@@ -24,7 +24,7 @@ use Rattle.linear_programming.proofs.WalkLaws.{walk-grows}
 
 -- a pass, however it stands, has counted at most b
 pub data Counts (b : ℕ) : Pass → Type 0 where
-  counts : {p : Vec2} {n : ℕ} → n ≤ b → Counts b (now p n)
+  counts : {p : Vec2} {n : ℕ} → n ≤ b → Counts b (feasible p n)
   counts-failed : {f : Failure} {p : Vec2} {n : ℕ} → n ≤ b → Counts b (failed f p n)
   counts-none : {r : ℕ} → Counts b (refused r)
 
@@ -39,21 +39,21 @@ solved-counts o j p n i (solves {q}) = judged-counts o q (n + (0 + i)) (n + i) (
 solved-counts o j p n i (stops {n = m} h) = counts-failed {n = n + m} (omega arith)
 solved-counts o j p n i turns = counts-none
 
-pub pass-counts : (o : Objective) (limit : Float) (e : List Line) (own : Line) (p : Vec2) (n : ℕ) → Counts (n + 1 + length e) (passLine o limit e own (now p n))
+pub pass-counts : (o : Objective) (limit : Float) (e : List Line) (own : Line) (p : Vec2) (n : ℕ) → Counts (n + 1 + length e) (passLine o limit e own (feasible p n))
 unfolding passLine
 pass-counts o limit e own p n = if-all (Counts (n + 1 + length e)) _ (counts (omega arith)) (solved-counts o (length e) p (n + 1) (length e) (line-solves o limit own e))
 
-pub line-most : (o : Objective) (limit : Float) (e : List Line) (own : Line) (p q : Vec2) (n m : ℕ) → now q m ≡ passLine o limit e own (now p n) → m ≤ n + 1 + length e
+pub line-most : (o : Objective) (limit : Float) (e : List Line) (own : Line) (p q : Vec2) (n m : ℕ) → feasible q m ≡ passLine o limit e own (feasible p n) → m ≤ n + 1 + length e
 line-most o limit e own p q n m h = counted (rw (← h) at (pass-counts o limit e own p n))
   where
-    counted : {b : ℕ} → Counts b (now q m) → m ≤ b
+    counted : {b : ℕ} → Counts b (feasible q m) → m ≤ b
     counted (counts k) = k
 
 -- ---- a whole pass
 
 -- a pass over k lines took at most k(k+1)/2, and at least k where it has not failed
 pub data Takes (k : ℕ) : Pass → Type 0 where
-  takes : {p : Vec2} {n : ℕ} → k ≤ n → 2 * n ≤ k * (k + 1) → Takes k (now p n)
+  takes : {p : Vec2} {n : ℕ} → k ≤ n → 2 * n ≤ k * (k + 1) → Takes k (feasible p n)
   takes-failed : {f : Failure} {p : Vec2} {n : ℕ} → 2 * n ≤ k * (k + 1) → Takes k (failed f p n)
   takes-none : {r : ℕ} → Takes k (refused r)
 
@@ -87,10 +87,10 @@ unfolding pass
 pass-takes o limit lines = walk-grows (passLine o limit) (λ l s. Takes (length l) s) (line-takes o limit) [] lines _ (judged-takes o 0 _ 0 (omega arith) (omega arith))
 
 -- 01: "A list of n lines that never fails takes n to n(n+1)/2 probes."
-pub pass-probes : (o : Objective) (limit : Float) (lines : List Line) {p : Vec2} {n : ℕ} → pass o limit lines ≡ now p n → (length lines ≤ n) × (2 * n ≤ length lines * (length lines + 1))
+pub pass-probes : (o : Objective) (limit : Float) (lines : List Line) {p : Vec2} {n : ℕ} → pass o limit lines ≡ feasible p n → (length lines ≤ n) × (2 * n ≤ length lines * (length lines + 1))
 pass-probes o limit lines e = bounds (rw e at (pass-takes o limit lines))
   where
-    bounds : {k : ℕ} {p : Vec2} {n : ℕ} → Takes k (now p n) → (k ≤ n) × (2 * n ≤ k * (k + 1))
+    bounds : {k : ℕ} {p : Vec2} {n : ℕ} → Takes k (feasible p n) → (k ≤ n) × (2 * n ≤ k * (k + 1))
     bounds (takes a b) = (a, b)
 
 -- the bound for more lines

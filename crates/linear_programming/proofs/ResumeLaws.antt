@@ -12,7 +12,7 @@ use Rattle.common.specs.declared.Vec2.{Vec2}
 use Rattle.lines.specs.declared.Line.{Line}
 use Rattle.lines.proofs.Fold.{take-lesser, drop-lesser}
 use Rattle.linear_programming.specs.OneLine.{Objective, toward, along, Found, at, fails, refuses, oneLine}
-use Rattle.linear_programming.specs.Pass.{Pass, now, failed, refused, judged, solved, passLine}
+use Rattle.linear_programming.specs.Pass.{Pass, feasible, failed, refused, judged, solved, passLine}
 use Rattle.linear_programming.specs.Relax.{Relaxed, relaxed, relaxRefused, buildProbes, replaced, relaxLine}
 use Rattle.linear_programming.specs.Whole.{Phase, solving, relaxing, rigidFailure, Failed, noLine, failedLine, Outcome, stands, refusal, relaxedOutcome, wholeList}
 use Rattle.linear_programming.specs.Resume.{addProbes, resumed}
@@ -29,7 +29,7 @@ if-through g false h k = k
 -- ---- n probes more, of a pass and of relaxation
 
 abbrev passAfter : ℕ → Pass → Pass
-passAfter n (now p m) = now p (n + m)
+passAfter n (feasible p m) = feasible p (n + m)
 passAfter n (failed f p m) = failed f p (n + m)
 passAfter n (refused r) = refused r
 
@@ -50,13 +50,13 @@ solved-after o k p n m refuses = refl
 
 pass-after : (o : Objective) (limit : Float) (n : ℕ) (e : List Line) (own : Line) (s : Pass) → passLine o limit e own (passAfter n s) ≡ passAfter n (passLine o limit e own s)
 unfolding passLine
-pass-after o limit n e own (now p m) = if-through (passAfter n) _ (rw add-assoc refl) (rw add-assoc (solved-after o (length e) p n (m + 1) (oneLine o limit own e)))
+pass-after o limit n e own (feasible p m) = if-through (passAfter n) _ (rw add-assoc refl) (rw add-assoc (solved-after o (length e) p n (m + 1) (oneLine o limit own e)))
 pass-after o limit n e own (failed f p m) = refl
 pass-after o limit n e own (refused r) = refl
 
 replaced-after : (own : Line) (p : Vec2) (depth : Float) (n m : ℕ) (s : Pass) → replaced own p depth (n + m) s ≡ relaxedAfter n (replaced own p depth m s)
 unfolding replaced
-replaced-after own p depth n m (now q i) = if-through (relaxedAfter n) _ (rw add-assoc refl) refl
+replaced-after own p depth n m (feasible q i) = if-through (relaxedAfter n) _ (rw add-assoc refl) refl
 replaced-after own p depth n m (failed f q i) = rw add-assoc refl
 replaced-after own p depth n m (refused r) = refl
 
@@ -79,13 +79,13 @@ module _ (rigid : ℕ) (wish : Vec2) (limit : Float) (n : ℕ) where
 
   entered-after : (e : List Line) (own : Line) (q : Pass) → entered rigid limit e own (passAfter n q) ≡ addProbes n (entered rigid limit e own q)
   unfolding entered
-  entered-after e own (now p m) = refl
+  entered-after e own (feasible p m) = refl
   entered-after e own (failed f p m) = if-through (addProbes n) _ refl (relaxing-after (failedLine f) e own p 0ᶠ m)
   entered-after e own (refused r) = refl
 
   advance-after : (e : List Line) (own : Line) (s : Outcome) → advance rigid wish limit e own (addProbes n s) ≡ addProbes n (advance rigid wish limit e own s)
   unfolding advance
-  advance-after e own (stands (solving p) f m) = ap (entered rigid limit e own) (pass-after (toward wish) limit n e own (now p m)) ∙ entered-after e own _
+  advance-after e own (stands (solving p) f m) = ap (entered rigid limit e own) (pass-after (toward wish) limit n e own (feasible p m)) ∙ entered-after e own _
   advance-after e own (stands (relaxing p depth) f m) = relaxing-after f e own p depth m
   advance-after e own (stands (rigidFailure k p) f m) = refl
   advance-after e own (refusal r) = refl

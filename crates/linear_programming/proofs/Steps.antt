@@ -13,17 +13,17 @@ use Rattle.common.specs.declared.Vec2.{Vec2}
 use Rattle.lines.specs.declared.Line.{Line}
 use Rattle.linear_programming.specs.Walk.{walk}
 use Rattle.linear_programming.specs.OneLine.{toward}
-use Rattle.linear_programming.specs.Pass.{Pass, now, failed, refused, start, passLine, pass}
+use Rattle.linear_programming.specs.Pass.{Pass, feasible, failed, refused, start, passLine, pass}
 use Rattle.linear_programming.specs.Relax.{Relaxed, relaxed, relaxRefused, relaxLine}
 use Rattle.linear_programming.specs.Whole.{solving, relaxing, rigidFailure, Failed, noLine, failedLine, Outcome, stands, refusal, relaxedOutcome, afterPass, wholeList}
 use Rattle.linear_programming.proofs.WalkLaws.{walk-append, walk-stays, walk-through}
-use Rattle.linear_programming.proofs.PassLaws.{pass-failed, pass-refused, FailsAt, still, there, never, Unfailed, unfailed-now, unfailed-refused, judged-unfailed, pass-fails}
+use Rattle.linear_programming.proofs.PassLaws.{pass-failed, pass-refused, FailsAt, still, there, never, Unfailed, unfailed-feasible, unfailed-refused, judged-unfailed, pass-fails}
 
 -- ---- one line
 
 -- what a line of the 2D pass leaves; where it failed and is not rigid, relaxation begins at the line itself
 unfoldable pub entered : ℕ → Float → List Line → Line → Pass → Outcome
-entered rigid limit earlier own (now p n) = stands (solving p) noLine n
+entered rigid limit earlier own (feasible p n) = stands (solving p) noLine n
 entered rigid limit earlier own (failed f p n) =
     if ltb (f .index) rigid then stands (rigidFailure (f .index) p) (failedLine f) n
     else relaxedOutcome (failedLine f) (relaxLine rigid limit earlier own (relaxed p 0ᶠ n))
@@ -31,7 +31,7 @@ entered rigid limit earlier own (refused r) = refusal r
 
 -- one line, by the phase that the earlier ones left
 unfoldable pub advance : ℕ → Vec2 → Float → List Line → Line → Outcome → Outcome
-advance rigid wish limit earlier own (stands (solving p) f n) = entered rigid limit earlier own (passLine (toward wish) limit earlier own (now p n))
+advance rigid wish limit earlier own (stands (solving p) f n) = entered rigid limit earlier own (passLine (toward wish) limit earlier own (feasible p n))
 advance rigid wish limit earlier own (stands (relaxing p depth) f n) = relaxedOutcome f (relaxLine rigid limit earlier own (relaxed p depth n))
 advance rigid wish limit earlier own (stands (rigidFailure k p) f n) = stands (rigidFailure k p) f n
 advance rigid wish limit earlier own (refusal r) = refusal r
@@ -72,7 +72,7 @@ module _ (rigid : ℕ) (wish : Vec2) (limit : Float) where
 
   -- from what line x left, q, both go on alike
   from-line : (e : List Line) (x : Line) (xs : List Line) →
-      ((p : Vec2) (n : ℕ) → afterPass rigid limit ((e ++ (x ∷ [])) ++ xs) (walk (passLine (toward wish) limit) (e ++ (x ∷ [])) xs (now p n))
+      ((p : Vec2) (n : ℕ) → afterPass rigid limit ((e ++ (x ∷ [])) ++ xs) (walk (passLine (toward wish) limit) (e ++ (x ∷ [])) xs (feasible p n))
       ≡ feed rigid wish limit (e ++ (x ∷ [])) xs (stands (solving p) noLine n)) →
       {q : Pass} → FailsAt (length e) q →
       afterPass rigid limit (e ++ x ∷ xs) (walk (passLine (toward wish) limit) (e ++ (x ∷ [])) xs q)
@@ -86,7 +86,7 @@ module _ (rigid : ℕ) (wish : Vec2) (limit : Float) where
 
   -- from any line of the 2D pass on
   pub pass-feed : (e l : List Line) (p : Vec2) (n : ℕ) →
-      afterPass rigid limit (e ++ l) (walk (passLine (toward wish) limit) e l (now p n)) ≡ feed rigid wish limit e l (stands (solving p) noLine n)
+      afterPass rigid limit (e ++ l) (walk (passLine (toward wish) limit) e l (feasible p n)) ≡ feed rigid wish limit e l (stands (solving p) noLine n)
   unfolding afterPass feed advance
   pass-feed e [] p n = refl
   pass-feed e (x ∷ xs) p n = from-line e x xs (pass-feed (e ++ (x ∷ [])) xs) (pass-fails (toward wish) limit e x p n)
@@ -94,7 +94,7 @@ module _ (rigid : ℕ) (wish : Vec2) (limit : Float) where
   start-feed : (l : List Line) {q : Pass} → Unfailed q →
       afterPass rigid limit l (walk (passLine (toward wish) limit) [] l q) ≡ feed rigid wish limit [] l (afterPass rigid limit [] q)
   unfolding afterPass
-  start-feed l (unfailed-now {p} {n}) = pass-feed [] l p n
+  start-feed l (unfailed-feasible {p} {n}) = pass-feed [] l p n
   start-feed l (unfailed-refused {r}) = rw (pass-refused (toward wish) limit r [] l, feed-refusal r [] l) refl
 
   -- the whole list, line by line

@@ -9,11 +9,11 @@ use Rattle.arithmetic.proofs.Choice.{if-all}
 use Rattle.common.specs.declared.Vec2.{Vec2}
 use Rattle.lines.specs.declared.Line.{Line}
 use Rattle.linear_programming.specs.OneLine.{toward}
-use Rattle.linear_programming.specs.Pass.{Failure, Pass, now, failed, refused, pass}
+use Rattle.linear_programming.specs.Pass.{Failure, Pass, feasible, failed, refused, pass}
 use Rattle.linear_programming.specs.Relax.{Relaxed, relaxed, relaxRefused, relaxLine}
 use Rattle.linear_programming.specs.Whole.{Phase, solving, relaxing, rigidFailure, Failed, noLine, failedLine, Outcome, stands, refusal, relaxedOutcome, afterPass, wholeList}
 use Rattle.linear_programming.proofs.WalkLaws.{walk-keeps}
-use Rattle.linear_programming.proofs.PassLaws.{Unfailed, unfailed-now, unfailed-refused, judged-unfailed}
+use Rattle.linear_programming.proofs.PassLaws.{Unfailed, unfailed-feasible, unfailed-refused, judged-unfailed}
 use Rattle.linear_programming.proofs.Steps.{entered, advance, feed, feed-refusal, whole-feed, batch}
 
 -- the failed line is f, or nothing stands
@@ -58,7 +58,7 @@ module _ (rigid : ℕ) (wish : Vec2) (limit : Float) where
 
   entered-agrees : (e : List Line) (own : Line) (q : Pass) → Agrees (entered rigid limit e own q)
   unfolding entered
-  entered-agrees e own (now p n) = agree-solving
+  entered-agrees e own (feasible p n) = agree-solving
   entered-agrees e own (failed f p n) = if-all Agrees _ agree-rigid (failed-agrees (relaxed-failed f (relaxLine rigid limit e own (relaxed p 0ᶠ n))))
   entered-agrees e own (refused r) = agree-refusal
 
@@ -71,7 +71,7 @@ module _ (rigid : ℕ) (wish : Vec2) (limit : Float) where
 
   start-agrees : {q : Pass} → Unfailed q → Agrees (afterPass rigid limit [] q)
   unfolding afterPass
-  start-agrees unfailed-now = agree-solving
+  start-agrees unfailed-feasible = agree-solving
   start-agrees unfailed-refused = agree-refusal
 
   -- ---- whole lists

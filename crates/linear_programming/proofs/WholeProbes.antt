@@ -11,7 +11,7 @@ use Rattle.common.specs.declared.Vec2.{Vec2}
 use Rattle.lines.specs.declared.Line.{Line}
 use Rattle.linear_programming.specs.Walk.{walk}
 use Rattle.linear_programming.specs.OneLine.{toward}
-use Rattle.linear_programming.specs.Pass.{Pass, now, failed, refused, pass}
+use Rattle.linear_programming.specs.Pass.{Pass, feasible, failed, refused, pass}
 use Rattle.linear_programming.specs.Relax.{Relaxed, relaxed, relaxRefused, relaxLine}
 use Rattle.linear_programming.specs.Whole.{Phase, solving, relaxing, rigidFailure, Failed, failedLine, Outcome, stands, refusal, relaxedOutcome, afterPass, wholeList}
 use Rattle.linear_programming.proofs.WalkLaws.{walk-grows}
@@ -33,7 +33,7 @@ relaxed-solving k f (relaxRefused r) = in-refusal
 module _ (rigid : ℕ) (wish : Vec2) (limit : Float) (lines : List Line) where
   after-solving : (q : Pass) → pass (toward wish) limit lines ≡ q → Solving (length lines) (afterPass rigid limit lines q)
   unfolding afterPass
-  after-solving (now p n) e = in-solving (pass-probes (toward wish) limit lines e)
+  after-solving (feasible p n) e = in-solving (pass-probes (toward wish) limit lines e)
   after-solving (failed f p n) e = if-all (Solving (length lines)) _ in-rigid (relaxed-solving (length lines) (failedLine f) (walk (relaxLine rigid limit) (take (f .index) lines) (drop (f .index) lines) (relaxed p 0ᶠ n)))
   after-solving (refused r) e = in-refusal
 

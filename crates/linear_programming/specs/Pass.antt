@@ -22,7 +22,7 @@ pub record Failure : Type 0 where
 
 -- the pass so far: the point now; or the line it failed at, with the point before it; each with the probes; or a refusal
 pub data Pass : Type 0 where
-  now : Vec2 → ℕ → Pass
+  feasible : Vec2 → ℕ → Pass
   failed : Failure → Vec2 → ℕ → Pass
   refused : ℕ → Pass
 
@@ -31,8 +31,8 @@ finitePoint p = finite (p .x) && finite (p .y)
 
 -- refusal 9: the point is not finite. "An inner solve is judged only by what it hands on"
 unfoldable pub judged : Objective → Vec2 → ℕ → Pass
-judged (toward wish) p n = if finitePoint p then now p n else refused 9
-judged (along d) p n = now p n
+judged (toward wish) p n = if finitePoint p then feasible p n else refused 9
+judged (along d) p n = feasible p n
 
 -- what the solve of line k leaves, p the point before it and n the probes up to it, its comparison counted
 unfoldable pub solved : Objective → ℕ → Vec2 → ℕ → Found → Pass
@@ -42,8 +42,8 @@ solved o k p n refuses = refused 8
 
 -- "A line is met if determinant(direction, point now − line point) > 0. Exactly 0 is solved again."
 unfoldable pub passLine : Objective → Float → List Line → Line → Pass → Pass
-passLine o limit earlier own (now p n) =
-    if 0ᶠ <ᶠ determinantOf (own .direction) (subOf p (own .point)) then now p (n + 1)
+passLine o limit earlier own (feasible p n) =
+    if 0ᶠ <ᶠ determinantOf (own .direction) (subOf p (own .point)) then feasible p (n + 1)
     else solved o (length earlier) p (n + 1) (oneLine o limit own earlier)
 passLine o limit earlier own (failed f p n) = failed f p n
 passLine o limit earlier own (refused r) = refused r

@@ -21,7 +21,7 @@ use Rattle.linear_programming.specs.declared.FailedLine.the-variants as 
 use Rattle.linear_programming.specs.declared.Answer.{Answer}
 use Rattle.linear_programming.specs.declared.Answer.the-variants as answer
 use Rattle.linear_programming.specs.OneLine.{Objective, toward, along, Interval, between, empty, Found, at, fails, refuses}
-use Rattle.linear_programming.specs.Pass.{Pass, now, failed, refused}
+use Rattle.linear_programming.specs.Pass.{Pass, feasible, failed, refused}
 use Rattle.linear_programming.specs.Relax.{Tight, kept, skipped, Relaxed, relaxed, relaxRefused}
 use Rattle.linear_programming.specs.Whole.{Phase, solving, relaxing, rigidFailure, Failed, noLine, failedLine, Outcome, stands, refusal}
 
@@ -39,7 +39,7 @@ foundOf (along-line.Fails n) = fails n
 foundOf along-line.Refuses = refuses
 
 abbrev pub passOf : LinearProgram2D → Pass
-passOf (lp2d.Feasible p n) = now p n
+passOf (lp2d.Feasible p n) = feasible p n
 passOf (lp2d.Infeasible f p n) = failed (record { index = f .index }) p n
 passOf (lp2d.Refused r) = refused r
 

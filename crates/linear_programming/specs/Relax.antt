@@ -11,7 +11,7 @@ use Rattle.common.specs.Vectors.{addOf, subOf, mulOf, dotOf, determinantOf, per
 use Rattle.lines.specs.declared.Line.{Line}
 use Rattle.lines.specs.Lines.{line, epsilon}
 use Rattle.linear_programming.specs.OneLine.{along, pointOn}
-use Rattle.linear_programming.specs.Pass.{Pass, now, failed, refused, finitePoint, pass}
+use Rattle.linear_programming.specs.Pass.{Pass, feasible, failed, refused, finitePoint, pass}
 
 -- ---- the tightened list
 
@@ -73,7 +73,7 @@ depthIn own p = determinantOf (own .direction) (subOf (own .point) p)
 
 -- "Success replaces the point and recomputes penetration; failure keeps both." Refusal 9: the new point or penetration is not finite
 unfoldable pub replaced : Line → Vec2 → Float → ℕ → Pass → Relaxed
-replaced own p depth n (now q m) = if finitePoint q && finite (depthIn own q) then relaxed q (depthIn own q) (n + m) else relaxRefused 9
+replaced own p depth n (feasible q m) = if finitePoint q && finite (depthIn own q) then relaxed q (depthIn own q) (n + m) else relaxRefused 9
 replaced own p depth n (failed f q m) = relaxed p depth (n + m)
 replaced own p depth n (refused r) = relaxRefused r
 

@@ -8,7 +8,7 @@ use Rattle.common.specs.declared.Vec2.{Vec2}
 use Rattle.lines.specs.declared.Line.{Line}
 use Rattle.linear_programming.specs.Walk.{walk}
 use Rattle.linear_programming.specs.OneLine.{toward}
-use Rattle.linear_programming.specs.Pass.{now, passLine}
+use Rattle.linear_programming.specs.Pass.{feasible, passLine}
 use Rattle.linear_programming.specs.Relax.{relaxed, relaxLine}
 use Rattle.linear_programming.specs.Whole.{Phase, solving, relaxing, rigidFailure, Failed, Outcome, stands, refusal, relaxedOutcome, afterPass}
 use Rattle.admission.specs.Faults.{must}
@@ -17,7 +17,7 @@ use Rattle.linear_programming.specs.Admit.{_⟫_, mostLines}
 -- the lines from `from` on, the probes counted from 0
 unfoldable pub resumed : ℕ → Vec2 → Float → List Line → ℕ → Phase → Failed → Outcome
 resumed rigid wish limit lines from (solving p) f =
-    afterPass rigid limit lines (walk (passLine (toward wish) limit) (take from lines) (drop from lines) (now p 0))
+    afterPass rigid limit lines (walk (passLine (toward wish) limit) (take from lines) (drop from lines) (feasible p 0))
 resumed rigid wish limit lines from (relaxing p depth) f =
     relaxedOutcome f (walk (relaxLine rigid limit) (take from lines) (drop from lines) (relaxed p depth 0))
 resumed rigid wish limit lines from (rigidFailure k p) f = stands (rigidFailure k p) f 0

@@ -10,7 +10,7 @@ use Rattle.common.specs.declared.Vec2.{Vec2}
 use Rattle.lines.specs.declared.Line.{Line}
 use Rattle.linear_programming.specs.Walk.{walk}
 use Rattle.linear_programming.specs.OneLine.{toward}
-use Rattle.linear_programming.specs.Pass.{Failure, Pass, now, failed, refused, pass}
+use Rattle.linear_programming.specs.Pass.{Failure, Pass, feasible, failed, refused, pass}
 use Rattle.linear_programming.specs.Relax.{Relaxed, relaxed, relaxRefused, relaxLine}
 
 -- "solving with its point, relaxing with point and penetration, rigid failure with index and point"
@@ -35,7 +35,7 @@ relaxedOutcome f (relaxRefused r) = refusal r
 -- "Failure at index k, k < rigid count: rigid failure; the point before k stands and later lines are not looked at.
 -- k ≥ rigid count: relaxation begins at line k itself with penetration 0."
 unfoldable pub afterPass : ℕ → Float → List Line → Pass → Outcome
-afterPass rigid limit lines (now p n) = stands (solving p) noLine n
+afterPass rigid limit lines (feasible p n) = stands (solving p) noLine n
 afterPass rigid limit lines (failed f p n) =
     let k = f .index in
     if ltb k rigid then stands (rigidFailure k p) (failedLine f) n

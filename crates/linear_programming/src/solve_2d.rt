@@ -10,7 +10,7 @@ ghost use Prim.Native.Nat.{_+_, _*_, _≤_, _<_};
 ghost use lib.ListN.{getD, length, take, drop};
 ghost use Rattle.linear_programming.specs.Walk.{walk};
 ghost use Rattle.lines.specs.Lines.{linesOf, offLine};
-ghost use Rattle.linear_programming.specs.Pass.{now as standing, start, finitePoint, judged, solved, passLine};
+ghost use Rattle.linear_programming.specs.Pass.{feasible, start, finitePoint, judged, solved, passLine};
 ghost use Rattle.linear_programming.specs.Read.{objectiveOf, foundOf, passOf, lookedOf};
 
 // The best value with no line looked at.
@@ -80,7 +80,7 @@ fn pass_line(
     probes: u32,
 ) -> LinearProgram2D
     requires { ⌜ (4 * index + 4 ≤ length (now lines)) × (index < 256) × (probes < 65536) ⌝ }
-    ensures { λ r. ⌜ passOf r ≡ passLine (objectiveOf «optimal_value») radius (take index (linesOf (now (lines .entry)))) (getD (linesOf (now (lines .entry))) index offLine) (standing point probes) ⌝ }
+    ensures { λ r. ⌜ passOf r ≡ passLine (objectiveOf «optimal_value») radius (take index (linesOf (now (lines .entry)))) (getD (linesOf (now (lines .entry))) index offLine) (feasible point probes) ⌝ }
 {
     let line = lines::line_at(lines, index);
     if common::determinant(line.direction, point.sub(line.point)) > 0.0 {
@@ -106,7 +106,7 @@ pub(crate) fn solve_linear_program_2d(
     point: Vec2,
 ) -> LinearProgram2D
     requires { ⌜ (from ≤ count) × (count ≤ 256) × (4 * count ≤ length (now lines)) ⌝ }
-    ensures { λ r. ⌜ passOf r ≡ walk (passLine (objectiveOf «optimal_value») radius) (take from (linesOf (now (lines .entry)))) (drop from (take count (linesOf (now (lines .entry))))) (standing point 0) ⌝ }
+    ensures { λ r. ⌜ passOf r ≡ walk (passLine (objectiveOf «optimal_value») radius) (take from (linesOf (now (lines .entry)))) (drop from (take count (linesOf (now (lines .entry))))) (feasible point 0) ⌝ }
 {
     let mut best_value = point;
     let mut probes = 0u32;

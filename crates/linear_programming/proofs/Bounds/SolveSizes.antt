@@ -25,7 +25,7 @@ use Rattle.lines.specs.declared.Line.{Line}
 use Rattle.lines.specs.Lines.{epsilon}
 use Rattle.linear_programming.specs.Walk.{walk}
 use Rattle.linear_programming.specs.OneLine.{Objective, toward, along, Interval, between, empty, chord, unlessFails, cut, narrow, Found, at, fails, pointOn, choose, oneLine}
-use Rattle.linear_programming.specs.Pass.{start, Failure, Pass, now, failed, finitePoint, judged, solved, passLine, pass}
+use Rattle.linear_programming.specs.Pass.{start, Failure, Pass, feasible, failed, finitePoint, judged, solved, passLine, pass}
 
 pub record LineIn (p : ℕ) (l : Line) : Type 0 where
   pub point-in : Inside p (l .point)
@@ -60,7 +60,7 @@ pub data Lands (k : ℕ) : Found → Type 0 where
 
 -- and so of what a pass leaves
 pub data Goes (k : ℕ) : Pass → Type 0 where
-  goes : {q : Vec2} {n : ℕ} → Inside k q → Goes k (now q n)
+  goes : {q : Vec2} {n : ℕ} → Inside k q → Goes k (feasible q n)
   ends : {f : Failure} {q : Vec2} {n : ℕ} → Goes k (failed f q n)
 
 -- the starting point

@@ -2,12 +2,12 @@
 use Prim.Native.Nat.{_-_, _*_, _≤_}
 use mathlib.Core.Path.{_≡_, refl, sym, _∙_}
 use native.Mathlib.Omega.{arith}
-use denote.Ref.{now as held}
+use denote.Ref.{now}
 use lib.ListN.{take, drop}
 use lib.Seq.{length-take-le}
 use Rattle.linear_programming.specs.Walk.{walk}
 use Rattle.lines.specs.Lines.{linesOf, offLine}
-use Rattle.linear_programming.specs.Pass.{now, passLine}
+use Rattle.linear_programming.specs.Pass.{feasible, passLine}
 use Rattle.linear_programming.specs.Read.{objectiveOf}
 use Rattle.lines.proofs.Rows.{lines-fit}
 use Rattle.linear_programming.proofs.WalkLaws.{walk-on, walk-stop, walk-done}
@@ -20,8 +20,8 @@ use Rattle.linear_programming.proofs.solve_2d.solve_linear_program_2d.T
 abbrev Inv-loop : tie.InvT-loop
 Inv-loop lines from count radius optimal-value best-value₀ probes₀ i₀ best-value probes i =
     (from ≤ i) × (i ≤ count) × (probes ≤ 256 * i)
-    × (walk (passLine (objectiveOf optimal-value) radius) (take from (linesOf lines)) (drop from (take count (linesOf lines))) (now best-value₀ 0)
-    ≡ walk (passLine (objectiveOf optimal-value) radius) (take i (linesOf lines)) (drop i (take count (linesOf lines))) (now best-value probes))
+    × (walk (passLine (objectiveOf optimal-value) radius) (take from (linesOf lines)) (drop from (take count (linesOf lines))) (feasible best-value₀ 0)
+    ≡ walk (passLine (objectiveOf optimal-value) radius) (take i (linesOf lines)) (drop i (take count (linesOf lines))) (feasible best-value probes))
 
 abbrev μ-loop : tie.MeasureT-loop
 μ-loop lines from count radius optimal-value best-value₀ probes₀ i₀ best-value probes i = count - i
@@ -39,7 +39,7 @@ returns : tie.Need-returns Inv-loop μ-loop
 returns c =
     let a = c .before .before .before .before .before .args in
     let l = c .before .before .before .loop in
-    sym (l .inv .3 ∙ walk-stop (passLine (objectiveOf (a .optimal-value)) (a .radius)) (linesOf (held (a .lines))) (a .count) (l .i) (lines-fit (held (a .lines)) (a .count) (omega arith)) offLine (omega arith) (sym (c .before .pass-line .ensures)) (ended-stays _ _ (c .before .pass-line .result) (c .match .keys2)))
+    sym (l .inv .3 ∙ walk-stop (passLine (objectiveOf (a .optimal-value)) (a .radius)) (linesOf (now (a .lines))) (a .count) (l .i) (lines-fit (now (a .lines)) (a .count) (omega arith)) offLine (omega arith) (sym (c .before .pass-line .ensures)) (ended-stays _ _ (c .before .pass-line .result) (c .match .keys2)))
 
 add-i : tie.Need-add-i Inv-loop μ-loop
 add-i c = search needs
@@ -52,18 +52,18 @@ loop-again c =
     let a = c .before .before .before .before .before .before .before .args in
     let l = c .before .before .before .before .before .loop in
     let step = rw (c .before .pass .given .1) at (c .before .before .before .pass-line .ensures) in
-    let short = length-take-le (l .i) (linesOf (held (a .lines))) (lines-fit (held (a .lines)) (l .i) (omega arith)) in (
+    let short = length-take-le (l .i) (linesOf (now (a .lines))) (lines-fit (now (a .lines)) (l .i) (omega arith)) in (
       omega arith,
       omega arith,
       omega (arith, short, line-most _ _ _ _ _ _ _ _ step),
-      l .inv .3 ∙ walk-on (passLine (objectiveOf (a .optimal-value)) (a .radius)) (linesOf (held (a .lines))) (a .count) (l .i) (lines-fit (held (a .lines)) (a .count) (omega arith)) offLine (omega arith) (sym step),
+      l .inv .3 ∙ walk-on (passLine (objectiveOf (a .optimal-value)) (a .radius)) (linesOf (now (a .lines))) (a .count) (l .i) (lines-fit (now (a .lines)) (a .count) (omega arith)) offLine (omega arith) (sym step),
     )
 
 returns-2 : tie.Need-returns-2 Inv-loop μ-loop
 returns-2 c =
     let a = c .before .before .before .args in
     let l = c .before .loop in
-    sym (l .inv .3 ∙ walk-done (passLine (objectiveOf (a .optimal-value)) (a .radius)) (linesOf (held (a .lines))) (a .count) (l .i) (lines-fit (held (a .lines)) (a .count) (omega arith)) (omega arith))
+    sym (l .inv .3 ∙ walk-done (passLine (objectiveOf (a .optimal-value)) (a .radius)) (linesOf (now (a .lines))) (a .count) (l .i) (lines-fit (now (a .lines)) (a .count) (omega arith)) (omega arith))
 
 pub solve-linear-program-2d-spec : {M : Type 1} → statement M
 solve-linear-program-2d-spec =
