@@ -13,7 +13,6 @@ use Rattle.linear_programming.specs.Relax.{halfᶠ, tightAt, midpoint, i
 use Rattle.linear_programming.specs.Whole.{afterPass, wholeList}
 use Rattle.linear_programming.specs.Admit.{reach, longest}
 
--- what computing by the rules opens
 unfoldable pub computed : Unit {0}
 unfolding numbers
     chord unlessFails cut narrow pointOn choose oneLine start finitePoint judged solved passLine pass
@@ -27,7 +26,7 @@ abbrev pub + : ℕ → Float
 abbrev pub − : ℕ → Float
 − n = neg (ofInt binary32 (pos n))
 
--- each constant's bit pattern is the number that 01 gives
+-- the f32 nearest to a ratio
 abbrev ratio : ℕ → ℕ → Float
 ratio a b = round binary32 false a b
 

@@ -19,18 +19,18 @@ empty-stays own n it = refl
 
 -- ---- an interval that is left has looked at i lines, and one that is gone at no more
 
-pub data Opens (i : ℕ) : Interval → Type 0 where
+data Opens (i : ℕ) : Interval → Type 0 where
   opens : {l r : Float} → Opens i (between l r i)
   shuts : {n : ℕ} → n ≤ i → Opens i (empty n)
 
-pub open-count : {i n : ℕ} {l r : Float} → Opens i (between l r n) → n ≡ i
+open-count : {i n : ℕ} {l r : Float} → Opens i (between l r n) → n ≡ i
 open-count opens = refl
 
 unless-opens : (b : Bool) (left right : Float) (n : ℕ) → Opens (n + 1) (unlessFails b left right n)
 unfolding unlessFails
 unless-opens b left right n = if-all (Opens (n + 1)) _ (shuts (le-refl _)) opens
 
-pub narrow-opens : (own it : Line) (i : ℕ) {s : Interval} → Opens i s → Opens (i + 1) (narrow own s it)
+narrow-opens : (own it : Line) (i : ℕ) {s : Interval} → Opens i s → Opens (i + 1) (narrow own s it)
 unfolding narrow cut
 narrow-opens own it i opens = if-all (Opens (i + 1)) _ (unless-opens _ _ _ i) (if-all (Opens (i + 1)) _ (unless-opens _ _ _ i) (unless-opens _ _ _ i))
 narrow-opens own it i (shuts {n} h) = shuts {n = n} (omega arith)

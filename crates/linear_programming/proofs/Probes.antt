@@ -109,8 +109,8 @@ inner-counts o limit l h = go (pass-takes o limit l)
     go (takes-failed {n = n} b) = counts-failed {n = n} (omega (arith, bound-grows 255 (length l) n h b))
     go takes-none = counts-none
 
-pub inner-most : (o : Objective) (limit : Float) (l : List Line) (a : LinearProgram2D) → length l ≤ 255 → passOf a ≡ pass o limit l → probesOf a ≤ 32640
-inner-most o limit l a h e = most a (rw (← e) at (inner-counts o limit l h))
+pub inner-solve-most : (o : Objective) (limit : Float) (l : List Line) (a : LinearProgram2D) → length l ≤ 255 → passOf a ≡ pass o limit l → probesOf a ≤ 32640
+inner-solve-most o limit l a h e = most a (rw (← e) at (inner-counts o limit l h))
   where
     most : (a : LinearProgram2D) → Counts 32640 (passOf a) → probesOf a ≤ 32640
     most (lp2d.Feasible p n) (counts k) = k

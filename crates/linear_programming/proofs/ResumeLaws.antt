@@ -1,4 +1,5 @@
--- The rules taken up again are the rules line by line: the probes taken before are only added, so that they may be counted from 0. Assumes nothing.
+-- The rules taken up again are the rules line by line: the probes taken before are only added, so that they may be counted from 0;
+-- and a place behind the last line is as good as the end. Assumes nothing.
 use Prim.Native.Nat.{ℕ, _+_, min}
 use mathlib.Core.Path.{_≡_, refl, sym, _∙_, ap}
 use mathlib.Core.Bool.{Bool, true, false}
@@ -17,7 +18,7 @@ use Rattle.linear_programming.specs.Relax.{Relaxed, relaxed, relaxRefuse
 use Rattle.linear_programming.specs.Whole.{Phase, solving, relaxing, rigidFailure, Failed, noLine, failedLine, Outcome, stands, refusal, relaxedOutcome, wholeList}
 use Rattle.linear_programming.specs.Resume.{addProbes, resumed}
 use Rattle.linear_programming.proofs.WalkLaws.{walk-through}
-use Rattle.linear_programming.proofs.Steps.{entered, advance, feed, feed-rigid, feed-relaxed, pass-feed, batch}
+use Rattle.linear_programming.proofs.Steps.{entered, advance, feed, feed-rigid, feed-relaxed, pass-feed, batch-whole}
 use Rattle.linear_programming.proofs.WholeLaws.{Agrees, agree-solving, agree-relaxing, agree-rigid, whole-agrees}
 
 -- where both branches go through g, the choice does
@@ -97,12 +98,12 @@ module _ (rigid : ℕ) (wish : Vec2) (limit : Float) (n : ℕ) where
 -- ---- the rules taken up again
 
 -- solving goes with no failed line; the other phases keep theirs, whichever it is
-pub data Paired : Phase → Failed → Type 0 where
+data Paired : Phase → Failed → Type 0 where
   paired-solving : {p : Vec2} → Paired (solving p) noLine
   paired-relaxing : {p : Vec2} {depth : Float} {f : Failed} → Paired (relaxing p depth) f
   paired-rigid : {k : ℕ} {p : Vec2} {f : Failed} → Paired (rigidFailure k p) f
 
-pub agrees-paired : {ph : Phase} {f : Failed} {n : ℕ} → Agrees (stands ph f n) → Paired ph f
+agrees-paired : {ph : Phase} {f : Failed} {n : ℕ} → Agrees (stands ph f n) → Paired ph f
 agrees-paired agree-solving = paired-solving
 agrees-paired agree-relaxing = paired-relaxing
 agrees-paired agree-rigid = paired-rigid
@@ -114,14 +115,14 @@ module _ (rigid : ℕ) (wish : Vec2) (limit : Float) (l m : List Line) where
   from-zero (paired-relaxing {p} {depth} {f}) = rw (take-at l m (length l) refl, drop-at l m (length l) refl) (feed-relaxed rigid wish limit f l m (relaxed p depth 0))
   from-zero (paired-rigid {k} {p} {f}) = feed-rigid rigid wish limit k p f 0 l m
 
-  pub resumed-feed : (ph : Phase) (f : Failed) (n : ℕ) → Paired ph f → feed rigid wish limit l m (stands ph f n) ≡ addProbes n (resumed rigid wish limit (l ++ m) (length l) ph f)
+  resumed-feed : (ph : Phase) (f : Failed) (n : ℕ) → Paired ph f → feed rigid wish limit l m (stands ph f n) ≡ addProbes n (resumed rigid wish limit (l ++ m) (length l) ph f)
   resumed-feed ph f n h =
       ap (λ (k : ℕ). feed rigid wish limit l m (stands ph f k)) (sym (add-zero n)) ∙ feed-after rigid wish limit n l m (stands ph f 0) ∙ ap (addProbes n) (from-zero h)
 
   -- a list that stands, with lines behind it: the rules taken up again end as the whole list does
   pub resumed-whole : {ph : Phase} {f : Failed} {n : ℕ} → wholeList rigid wish limit l ≡ stands ph f n → addProbes n (resumed rigid wish limit (l ++ m) (length l) ph f) ≡ wholeList rigid wish limit (l ++ m)
   resumed-whole {ph} {f} {n} e =
-      sym (resumed-feed ph f n (agrees-paired (rw e at (whole-agrees rigid wish limit l)))) ∙ rw (← e) (batch rigid wish limit l m)
+      sym (resumed-feed ph f n (agrees-paired (rw e at (whole-agrees rigid wish limit l)))) ∙ rw (← e) (batch-whole rigid wish limit l m)
 
 -- a place behind the last line leaves nothing to do, as the end does
 pub resumed-lesser : (rigid : ℕ) (wish : Vec2) (limit : Float) (l : List Line) (from : ℕ) (ph : Phase) (f : Failed) {count place : ℕ} → length l ≡ count → place ≡ min from count →

@@ -1,5 +1,5 @@
 -- The rules, line by line: how a list stands after one line more, from how it stood before, and the law that this is the whole-list rules over the
--- longer list (`batch`). Both walk the 2D pass alike up to the line that fails; from there both are relaxation. Assumes nothing.
+-- longer list (`batch-whole`). Both walk the 2D pass alike up to the line that fails; from there both are relaxation. Assumes nothing.
 use Prim.Native.Nat.{ℕ}
 use mathlib.Core.Path.{_≡_, refl, sym}
 use mathlib.Core.Bool.{Bool, true, false}
@@ -103,6 +103,6 @@ module _ (rigid : ℕ) (wish : Vec2) (limit : Float) where
   whole-feed l = start-feed l (judged-unfailed (toward wish) (start (toward wish) limit) 0)
 
   -- A batch fed to what the lines before it left ends as the whole list does: phase, point, penetration, failed line, probes and refusal are all in the outcome.
-  pub batch : (l m : List Line) → feed rigid wish limit l m (wholeList rigid wish limit l) ≡ wholeList rigid wish limit (l ++ m)
+  pub batch-whole : (l m : List Line) → feed rigid wish limit l m (wholeList rigid wish limit l) ≡ wholeList rigid wish limit (l ++ m)
   unfolding feed
-  batch l m = rw (whole-feed (l ++ m), whole-feed l, walk-append (advance rigid wish limit) [] l m (wholeList rigid wish limit [])) refl
+  batch-whole l m = rw (whole-feed (l ++ m), whole-feed l, walk-append (advance rigid wish limit) [] l m (wholeList rigid wish limit [])) refl

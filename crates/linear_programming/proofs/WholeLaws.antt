@@ -14,7 +14,7 @@ use Rattle.linear_programming.specs.Relax.{Relaxed, relaxed, relaxRefuse
 use Rattle.linear_programming.specs.Whole.{Phase, solving, relaxing, rigidFailure, Failed, noLine, failedLine, Outcome, stands, refusal, relaxedOutcome, afterPass, wholeList}
 use Rattle.linear_programming.proofs.WalkLaws.{walk-keeps}
 use Rattle.linear_programming.proofs.PassLaws.{Unfailed, unfailed-feasible, unfailed-refused, judged-unfailed}
-use Rattle.linear_programming.proofs.Steps.{entered, advance, feed, feed-refusal, whole-feed, batch}
+use Rattle.linear_programming.proofs.Steps.{entered, advance, feed, feed-refusal, whole-feed, batch-whole}
 
 -- the failed line is f, or nothing stands
 pub data FailedAt (f : Failure) : Outcome → Type 0 where
@@ -78,12 +78,12 @@ module _ (rigid : ℕ) (wish : Vec2) (limit : Float) where
 
   -- a refused beginning refuses the list, with the same number: a list that stands has no refused beginning
   pub prefix-refused : (l m : List Line) (r : ℕ) → wholeList rigid wish limit l ≡ refusal r → wholeList rigid wish limit (l ++ m) ≡ refusal r
-  prefix-refused l m r h = sym (batch rigid wish limit l m) ∙ rw h (feed-refusal rigid wish limit r l m)
+  prefix-refused l m r h = sym (batch-whole rigid wish limit l m) ∙ rw h (feed-refusal rigid wish limit r l m)
 
   -- once a line has failed it stays the failed line
   pub stays-failed : (f : Failure) (l m : List Line) → FailedAt f (wholeList rigid wish limit l) → FailedAt f (wholeList rigid wish limit (l ++ m))
   unfolding feed
-  stays-failed f l m h = rw (← batch rigid wish limit l m) (walk-keeps (advance rigid wish limit) (FailedAt f) (advance-failed f) l m _ h)
+  stays-failed f l m h = rw (← batch-whole rigid wish limit l m) (walk-keeps (advance rigid wish limit) (FailedAt f) (advance-failed f) l m _ h)
 
   -- phase and failed line fit each other
   pub whole-agrees : (l : List Line) → Agrees (wholeList rigid wish limit l)

@@ -21,7 +21,7 @@ use Rattle.linear_programming.specs.declared.FailedLine.the-variants as 
 use Rattle.linear_programming.specs.declared.Answer.{Answer}
 use Rattle.linear_programming.specs.declared.Answer.the-variants as answer
 use Rattle.linear_programming.specs.OneLine.{Objective, toward, along, Interval, between, empty, Found, at, fails, refuses}
-use Rattle.linear_programming.specs.Pass.{Pass, feasible, failed, refused}
+use Rattle.linear_programming.specs.Pass.{Failure, Pass, feasible, failed, refused}
 use Rattle.linear_programming.specs.Relax.{Tight, kept, skipped, Relaxed, relaxed, relaxRefused}
 use Rattle.linear_programming.specs.Whole.{Phase, solving, relaxing, rigidFailure, Failed, noLine, failedLine, Outcome, stands, refusal}
 
@@ -38,9 +38,13 @@ foundOf (along-line.At p n) = at p n
 foundOf (along-line.Fails n) = fails n
 foundOf along-line.Refuses = refuses
 
+-- what a failure carries
+abbrev pub failureOf : FailureCode → Failure
+failureOf f = record { index = f .index }
+
 abbrev pub passOf : LinearProgram2D → Pass
 passOf (lp2d.Feasible p n) = feasible p n
-passOf (lp2d.Infeasible f p n) = failed (record { index = f .index }) p n
+passOf (lp2d.Infeasible f p n) = failed (failureOf f) p n
 passOf (lp2d.Refused r) = refused r
 
 abbrev pub tightOf : Tightened → Tight
@@ -56,12 +60,9 @@ phaseOf (phase.Solving x y) = solving (vec x y)
 phaseOf (phase.Relaxing x y depth) = relaxing (vec x y) depth
 phaseOf (phase.RigidFailure k x y) = rigidFailure k (vec x y)
 
-abbrev pub failedAt : FailureCode → Failed
-failedAt f = failedLine (record { index = f .index })
-
 abbrev pub failedOf : FailedLine → Failed
 failedOf failed-line.NoLine = noLine
-failedOf (failed-line.At f) = failedAt f
+failedOf (failed-line.At f) = failedLine (failureOf f)
 
 abbrev pub outcomeOf : Answer → Outcome
 outcomeOf (answer.Stands p f n) = stands (phaseOf p) (failedOf f) n

@@ -11,13 +11,11 @@ use Rattle.common.specs.Vectors.{addOf, subOf, mulOf, dotOf, perpOf, determinan
 use Rattle.lines.specs.Lines.{epsilon}
 use Rattle.lines.specs.LineFaults.{lineReach, bandLow, bandHigh}
 
--- what computing with numbers and vectors opens
 unfoldable pub computed : Unit {0}
 unfolding Ieee.add Ieee.sub Ieee.mul Ieee.div Ieee.neg Ieee.lt Ieee.le Ieee.eq Ieee.isNan Ieee.ofInt Ieee.ofBits Ieee.round
     addOf subOf mulOf dotOf perpOf determinantOf lengthSquaredOf normalizeOf if_then_else_ absOf finite minOf maxOf clampOf sqrtOf
 computed = tt
 
--- each constant's bit pattern is the number that 01 gives
 pub constants :
     (epsilon ∷ lineReach ∷ bandLow ∷ bandHigh ∷ [])
     ≡ (round binary32 false 1 100000 ∷ round binary32 false 268435456 1 ∷ round binary32 false 1023 1024 ∷ round binary32 false 1025 1024 ∷ [])

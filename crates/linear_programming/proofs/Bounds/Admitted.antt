@@ -1,4 +1,4 @@
--- What admission says of sizes. Assumes nothing.
+-- How large an admitted wish, its limit and admitted lines are at most, and that an admitted direction has a length. Assumes nothing.
 use mathlib.Core.Path.{_≡_, sym, _∙_}
 use mathlib.Core.Logic.{_⊎_, inl, inr}
 use native.Mathlib.Omega.{arith}
@@ -23,6 +23,7 @@ use Rattle.linear_programming.specs.Admit.{reach, longest, wishFault}
 use Rattle.admission.proofs.FaultLaws.{⊳-fine, must-fine}
 use Rattle.linear_programming.proofs.Bounds.SolveSizes.{LineIn}
 
+-- the point is within 2 ^ 28, the direction within 2 and no shorter than its band allows
 pub record Admitted (l : Line) : Type 0 where
   pub line-in : LineIn 177 l
   pub band : (bandLow ≤ᶠ lengthSquaredOf (l .direction)) ≡ true
@@ -81,7 +82,7 @@ module _ (x y : Float) (f : finite x ≡ true) (g : finite y ≡ true) (h : (x �
       go (inl w) = w
       go (inr a) = absurd (false≢true (sym (over-not-le (add-nonneg-over (square-nonneg x f) (square-over 151 a g (omega arith))) high-in (omega arith)) ∙ h))
 
-pub line-admitted : (l : Line) → lineFault l ≡ fine → Admitted l
+line-admitted : (l : Line) → lineFault l ≡ fine → Admitted l
 unfolding lineFault isWithin inside lengthSquaredOf dotOf
 line-admitted l h =
     let a = ⊳-fine (must (absOf (l .point .x) ≤ᶠ lineReach) 6) h in

@@ -27,6 +27,7 @@ use Rattle.linear_programming.specs.Walk.{walk}
 use Rattle.linear_programming.specs.OneLine.{Objective, toward, along, Interval, between, empty, chord, unlessFails, cut, narrow, Found, at, fails, pointOn, choose, oneLine}
 use Rattle.linear_programming.specs.Pass.{start, Failure, Pass, feasible, failed, finitePoint, judged, solved, passLine, pass}
 
+-- the point is at most 2 ^ p smallest values, the direction at most 2
 pub record LineIn (p : ℕ) (l : Line) : Type 0 where
   pub point-in : Inside p (l .point)
   pub direction-in : Inside 150 (l .direction)
@@ -54,7 +55,7 @@ pub data Aimed : Objective → Type 0 where
   pointed : {d : Vec2} → Inside 150 d → Aimed (along d)
 
 -- a point within 2 ^ k, or a failure; no refusal
-pub data Lands (k : ℕ) : Found → Type 0 where
+data Lands (k : ℕ) : Found → Type 0 where
   lands : {q : Vec2} {n : ℕ} → Inside k q → Lands k (at q n)
   misses : {n : ℕ} → Lands k (fails n)
 
@@ -134,7 +135,7 @@ module _ (p : ℕ) (P : (177 ≤ p) × (p ≤ 199)) where
       rw t (lands (on-line own O (clamp-within (wider (omega arith) c) h g)))
   choose-lands own O (pointed {d} D) (good h g t) = if-all (Lands (p + 22)) (0ᶠ <ᶠ dotOf d (own .direction)) (lands (on-line own O g)) (lands (on-line own O h))
 
-  pub line-lands : (o : Objective) (limit : Float) (own : Line) {e : List Line} → Aimed o → Within 159 limit → LineIn p own → All (LineIn p) e → Lands (p + 22) (oneLine o limit own e)
+  line-lands : (o : Objective) (limit : Float) (own : Line) {e : List Line} → Aimed o → Within 159 limit → LineIn p own → All (LineIn p) e → Lands (p + 22) (oneLine o limit own e)
   unfolding oneLine
   line-lands o limit own A L O E = choose-lands own O A (fold-good own O E (chord-good limit own L O))
 

@@ -8,7 +8,7 @@ use lib.Seq.{length-take-le}
 use Rattle.arithmetic.specs.Binary32.{if_then_else_}
 use Rattle.lines.specs.Lines.{linesOf}
 use Rattle.linear_programming.specs.Relax.{relaxLine}
-use Rattle.linear_programming.proofs.Probes.{inner-most}
+use Rattle.linear_programming.proofs.Probes.{inner-solve-most}
 use Rattle.lines.proofs.Rows.{lines-fit}
 use Rattle.linear_programming.proofs.TightLaws.{lesser-rigid}
 use borrow.Author.Needs.{needs}
@@ -49,7 +49,7 @@ add-after-inner c = search needs
 after-inner-requires : tie.Need-after-inner-requires
 after-inner-requires c κs =
     let k = c .before .before .before .tighten-into .ensures .0 in
-    (omega arith, inner-most _ _ _ (c .solve-tightened .result) (simp length-take (omega (arith, k))) (c .solve-tightened .ensures))
+    (omega arith, inner-solve-most _ _ _ (c .solve-tightened .result) (simp length-take (omega (arith, k))) (c .solve-tightened .ensures))
 
 returns-2 : tie.Need-returns-2
 unfolding relaxLine if_then_else_
