@@ -1,4 +1,4 @@
--- Two answers that one promise allows are the same: what they say can be turned back. Assumes nothing.
+-- Enums of the code there and back: what one says can be turned back, so two answers that one promise allows are the same. Assumes nothing.
 use mathlib.Core.Path.{_≡_, refl}
 use Rattle.arithmetic.proofs.Agree.{agree-read}
 use Rattle.linear_programming.specs.declared.Phase.{Phase as PhaseCode}
@@ -7,7 +7,7 @@ use Rattle.linear_programming.specs.declared.FailedLine.{FailedLine}
 use Rattle.linear_programming.specs.declared.FailedLine.the-variants as failed-line
 use Rattle.linear_programming.specs.declared.Answer.{Answer}
 use Rattle.linear_programming.specs.declared.Answer.the-variants as answer
-use Rattle.linear_programming.specs.Whole.{Outcome}
+use Rattle.linear_programming.specs.Whole.{Phase, solving, relaxing, rigidFailure, Failed, noLine, failedLine, Outcome}
 use Rattle.linear_programming.specs.Read.{phaseOf, phaseAs, failedOf, failedAs, outcomeOf, answerAs}
 
 pub phase-back : (p : PhaseCode) → phaseAs (phaseOf p) ≡ p
@@ -18,6 +18,15 @@ phase-back (phase.RigidFailure k x y) = refl
 pub failed-back : (f : FailedLine) → failedAs (failedOf f) ≡ f
 failed-back failed-line.NoLine = refl
 failed-back (failed-line.At f) = refl
+
+pub phase-there : (p : Phase) → phaseOf (phaseAs p) ≡ p
+phase-there (solving p) = refl
+phase-there (relaxing p depth) = refl
+phase-there (rigidFailure k p) = refl
+
+pub failed-there : (f : Failed) → failedOf (failedAs f) ≡ f
+failed-there noLine = refl
+failed-there (failedLine f) = refl
 
 answer-back : (a : Answer) → answerAs (outcomeOf a) ≡ a
 answer-back (answer.Stands p f n) = rw (phase-back p, failed-back f)

@@ -12,15 +12,16 @@ use borrow.Author.Tests.{le-leb}
 use Rattle.lines.specs.declared.Line.{Line}
 use Rattle.lines.specs.Lines.{linesOf}
 use Rattle.lines.specs.LineFaults.{linesFault}
-use Rattle.linear_programming.specs.Whole.{Phase, solving, relaxing, rigidFailure, Failed, noLine, failedLine, Outcome, stands, refusal, wholeList}
+use Rattle.linear_programming.specs.Whole.{Phase, Failed, Outcome, stands, refusal, wholeList}
 use Rattle.admission.specs.Faults.{Fault, fine, fault, must, _⊳_}
 use Rattle.linear_programming.specs.Admit.{_⟫_, fours, wishFault, judgedList}
-use Rattle.linear_programming.specs.Read.{phaseOf, phaseAs, failedOf, failedAs}
+use Rattle.linear_programming.specs.Read.{phaseOf, failedOf}
 use Rattle.linear_programming.specs.Resume.{resumed, addProbes}
 use Rattle.admission.proofs.FaultLaws.{no-fault, ⊳-fine}
 use Rattle.lines.proofs.JudgeLaws.{faults-append}
 use Rattle.linear_programming.proofs.JudgeLaws.{⟫-assoc, ⟫-stands}
 use Rattle.lines.proofs.Rows.{lines-long}
+use Rattle.linear_programming.proofs.Agreement.{phase-there, failed-there}
 use Rattle.linear_programming.proofs.ResumeLaws.{resumed-whole}
 use Rattle.linear_programming.proofs.WholeProbes.{whole-fits}
 use Rattle.session.specs.declared.Session.{Session}
@@ -29,17 +30,6 @@ use Rattle.session.specs.Sessions.{linesIn, outcomeIn}
 use Rattle.session.specs.Batches.{batchFault, settled, worked, fedAs}
 use Rattle.session.specs.Handed.{Handed, toldBy, Continues}
 use Rattle.session.proofs.BatchWork.{lines-behind, batch-fits}
-
--- ---- enums there and back
-
-pub phase-there : (p : Phase) → phaseOf (phaseAs p) ≡ p
-phase-there (solving p) = refl
-phase-there (relaxing p depth) = refl
-phase-there (rigidFailure k p) = refl
-
-pub failed-there : (f : Failed) → failedOf (failedAs f) ≡ f
-failed-there noLine = refl
-failed-there (failedLine f) = refl
 
 by-four : (n : ℕ) (xs : List Float) → batchFault n xs ≡ fine → fours xs ≡ fine
 unfolding batchFault

@@ -13,11 +13,11 @@ use Rattle.lines.specs.LineFaults.{linesFault}
 use Rattle.linear_programming.specs.Whole.{Outcome, stands, refusal, solving, noLine}
 use Rattle.admission.specs.Faults.{within, inside}
 use Rattle.linear_programming.specs.Admit.{wishFault, judgedList, listCall}
+use Rattle.linear_programming.proofs.Agreement.{phase-there, failed-there}
 use Rattle.linear_programming.proofs.Computed.{computed}
 use Rattle.session.specs.declared.Fed.{Fed}
 use Rattle.session.specs.Sessions.{blankLines, blankSession, startedBy, startedAs}
 use Rattle.session.specs.Handed.{Handed, Begins}
-use Rattle.session.proofs.HandedLaws.{phase-there, failed-there}
 
 blank-size : length blankLines ≡ 256
 unfolding blankLines
