@@ -5,6 +5,7 @@ use mathlib.Core.List.{List, [], _∷_, _++_, append-assoc, append-nil}
 use native.Mathlib.Omega.{arith}
 use lib.ListN.{length, take, drop, getD}
 use lib.Seq.{append-snoc}
+use Rattle.arithmetic.proofs.Lists.{All, all-snoc, none, more}
 use Rattle.linear_programming.specs.Walk.{walk}
 use Rattle.lines.proofs.Fold.{left-next, left-none, take-next}
 
@@ -19,22 +20,27 @@ module _ {A S : Type 0} where
   walk-stays step s h e [] = refl
   walk-stays step s h e (x ∷ xs) = rw (h e x) (walk-stays step s h (e ++ (x ∷ [])) xs)
 
+  -- what grows with the elements passed
+  pub walk-grows : (step : List A → A → S → S) (P : List A → S → Type 0) → ((e : List A) (x : A) (s : S) → P e s → P (e ++ (x ∷ [])) (step e x s)) →
+      (e l : List A) (s : S) → P e s → P (e ++ l) (walk step e l s)
+  walk-grows step P h e [] s p = rw append-nil p
+  walk-grows step P h e (x ∷ xs) s p = rw (← append-snoc e x xs) (walk-grows step P h (e ++ (x ∷ [])) xs (step e x s) (h e x s p))
+
   -- what each step keeps, the walk keeps
   pub walk-keeps : (step : List A → A → S → S) (P : S → Type 0) → ((e : List A) (x : A) (s : S) → P s → P (step e x s)) → (e l : List A) (s : S) → P s → P (walk step e l s)
-  walk-keeps step P h e [] s p = p
-  walk-keeps step P h e (x ∷ xs) s p = walk-keeps step P h (e ++ (x ∷ [])) xs (step e x s) (h e x s p)
+  walk-keeps step P = walk-grows step (λ e s. P s)
+
+  -- and where the steps ask that every element has Q
+  pub walk-keeps-over : (step : List A → A → S → S) (Q : A → Type 0) (P : S → Type 0) → ((e : List A) (x : A) (s : S) → All Q e → Q x → P s → P (step e x s)) →
+      {e l : List A} (s : S) → All Q e → All Q l → P s → P (walk step e l s)
+  walk-keeps-over step Q P h s earlier none p = p
+  walk-keeps-over step Q P h {e} s earlier (more {x} q qs) p = walk-keeps-over step Q P h (step e x s) (all-snoc earlier q) qs (h e x s earlier q p)
 
   -- where each step goes through g, the walk does
   pub walk-through : {T : Type 0} (step : List A → A → S → S) (other : List A → A → T → T) (g : S → T) → ((e : List A) (x : A) (s : S) → other e x (g s) ≡ g (step e x s)) →
       (e l : List A) (s : S) → walk other e l (g s) ≡ g (walk step e l s)
   walk-through step other g h e [] s = refl
   walk-through step other g h e (x ∷ xs) s = rw (h e x s) (walk-through step other g h (e ++ (x ∷ [])) xs (step e x s))
-
-  -- what grows with the elements passed
-  pub walk-grows : (step : List A → A → S → S) (P : List A → S → Type 0) → ((e : List A) (x : A) (s : S) → P e s → P (e ++ (x ∷ [])) (step e x s)) →
-      (e l : List A) (s : S) → P e s → P (e ++ l) (walk step e l s)
-  walk-grows step P h e [] s p = rw append-nil p
-  walk-grows step P h e (x ∷ xs) s p = rw (← append-snoc e x xs) (walk-grows step P h (e ++ (x ∷ [])) xs (step e x s) (h e x s p))
 
 -- a walk over the first n elements, from the i-th on: one turn, a turn that ends it, and no turn left
 module _ {A S : Type 0} (step : List A → A → S → S) (l : List A) (n i : ℕ) (fits : n ≤ length l) where

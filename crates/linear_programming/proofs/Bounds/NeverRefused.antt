@@ -20,13 +20,13 @@ use Rattle.common.proofs.VectorSizes.{Inside, roomier, inside-finite, add-insid
 use Rattle.lines.specs.declared.Line.{Line}
 use Rattle.lines.specs.Lines.{epsilon}
 use Rattle.lines.specs.LineFaults.{linesFault}
-use Rattle.linear_programming.specs.Walk.{walk}
 use Rattle.linear_programming.specs.OneLine.{toward, along}
 use Rattle.linear_programming.specs.Pass.{Pass, finitePoint, pass}
 use Rattle.linear_programming.specs.Relax.{halfᶠ, Tight, kept, skipped, tightAt, midpoint, intersection, tighten, behind, tightenNext, tightened, Relaxed, relaxed, depthIn, replaced, relaxLine}
 use Rattle.linear_programming.specs.Whole.{Phase, Failed, Outcome, stands, relaxedOutcome, afterPass, wholeList}
 use Rattle.admission.specs.Faults.{fine}
 use Rattle.linear_programming.specs.Admit.{wishFault}
+use Rattle.linear_programming.proofs.WalkLaws.{walk-keeps-over}
 use Rattle.linear_programming.proofs.Bounds.SolveSizes.{LineIn, epsilon-over, Goes, start-inside, along-inside, on-line, pass-goes, aimed, pointed, goes, ends}
 use Rattle.linear_programming.proofs.Bounds.Admitted.{Admitted, wish-admitted, lines-admitted}
 use Rattle.linear_programming.proofs.Bounds.TightDirections.{not-parallel, not-one-way}
@@ -106,20 +106,16 @@ module _ (rigid : ℕ) (limit : Float) (L : Within 159 limit) where
       let d = perp-inside (O .line-in .direction-in) in
       pass-goes 199 (omega arith) (along (perpOf (own .direction))) limit (pointed d) L 221 (omega arith) (tightened-in rigid own O E) (roomier (omega arith) (along-inside limit d L))
 
-  line-relaxes : (own : Line) {e : List Line} {s : Relaxed} → Admitted own → All Admitted e → Relaxes s → Relaxes (relaxLine rigid limit e own s)
+  line-relaxes : (e : List Line) (own : Line) (s : Relaxed) → All Admitted e → Admitted own → Relaxes s → Relaxes (relaxLine rigid limit e own s)
   unfolding relaxLine
-  line-relaxes own O E (relaxes {p} {depth}) = if-all Relaxes _ relaxes (replaced-relaxes own p depth _ O (inner-goes own O E))
-
-  walk-relaxes : {e l : List Line} {s : Relaxed} → All Admitted e → All Admitted l → Relaxes s → Relaxes (walk (relaxLine rigid limit) e l s)
-  walk-relaxes E none h = h
-  walk-relaxes E (more {x} p ps) h = walk-relaxes (all-snoc E p) ps (line-relaxes x p E h)
+  line-relaxes e own s E O (relaxes {p} {depth}) = if-all Relaxes _ relaxes (replaced-relaxes own p depth _ O (inner-goes own O E))
 
   -- ---- the whole list
 
   after-stood : {l : List Line} {k : ℕ} {s : Pass} → All Admitted l → Goes k s → Stood (afterPass rigid limit l s)
   unfolding afterPass
   after-stood h (goes g) = stood
-  after-stood h (ends {f}) = if-all Stood _ stood (relaxed-stood _ (walk-relaxes (all-take (f .index) h) (all-drop (f .index) h) relaxes))
+  after-stood h (ends {f}) = if-all Stood _ stood (relaxed-stood _ (walk-keeps-over (relaxLine rigid limit) Admitted Relaxes line-relaxes _ (all-take (f .index) h) (all-drop (f .index) h) relaxes))
 
   whole-stood : (wish : Vec2) {l : List Line} → Inside 165 wish → All Admitted l → Stood (wholeList rigid wish limit l)
   unfolding wholeList

@@ -11,7 +11,7 @@ use lib.Ieee.{Float, ofBits}
 use Rattle.arithmetic.specs.Binary32.{_⊘_, _<ᶠ_, _≤ᶠ_, 0ᶠ, if_then_else_}
 use Rattle.arithmetic.specs.Ends.{absOf}
 use Rattle.arithmetic.proofs.Choice.{if-all, if-case}
-use Rattle.arithmetic.proofs.Lists.{All, all-snoc, none, more}
+use Rattle.arithmetic.proofs.Lists.{All, none, more}
 use Rattle.arithmetic.proofs.Magnitude.Size.{Within, Apart, Over, wider, within-finite, over}
 use Rattle.arithmetic.proofs.Magnitude.Operations.{neg-within, add-within, sub-within, mul-within, square-nonneg, div-within, min-within, max-within, clamp-within}
 use Rattle.arithmetic.proofs.Magnitude.Comparisons.{not-le-apart, greater-over}
@@ -23,9 +23,9 @@ use Rattle.common.proofs.VectorSizes.{Inside, roomier, inside-finite, add-insid
 use Rattle.common.proofs.NormalizedSize.{inverse-within}
 use Rattle.lines.specs.declared.Line.{Line}
 use Rattle.lines.specs.Lines.{epsilon}
-use Rattle.linear_programming.specs.Walk.{walk}
 use Rattle.linear_programming.specs.OneLine.{Objective, toward, along, Interval, between, empty, chord, unlessFails, cut, narrow, Found, at, fails, pointOn, choose, oneLine}
 use Rattle.linear_programming.specs.Pass.{start, Failure, Pass, feasible, failed, finitePoint, judged, solved, passLine, pass}
+use Rattle.linear_programming.proofs.WalkLaws.{walk-keeps-over}
 
 -- the point is at most 2 ^ p smallest values, the direction at most 2
 pub record LineIn (p : ℕ) (l : Line) : Type 0 where
@@ -142,15 +142,11 @@ module _ (p : ℕ) (P : (177 ≤ p) × (p ≤ 199)) where
   -- ---- a pass
 
   module _ (o : Objective) (limit : Float) (A : Aimed o) (L : Within 159 limit) (k : ℕ) (K : p + 22 ≤ k) where
-    step-goes : {e : List Line} (own : Line) {s : Pass} → All (LineIn p) e → LineIn p own → Goes k s → Goes k (passLine o limit e own s)
+    step-goes : (e : List Line) (own : Line) (s : Pass) → All (LineIn p) e → LineIn p own → Goes k s → Goes k (passLine o limit e own s)
     unfolding passLine
-    step-goes own E O ends = ends
-    step-goes {e} own E O (goes {q} {n} h) = if-all (Goes k) _ (goes h) (solved-goes o (length e) q (n + 1) K (line-lands o limit own A L O E))
-
-    walk-goes : {e l : List Line} {s : Pass} → All (LineIn p) e → All (LineIn p) l → Goes k s → Goes k (walk (passLine o limit) e l s)
-    walk-goes E none g = g
-    walk-goes E (more {x} h hs) g = walk-goes (all-snoc E h) hs (step-goes x E h g)
+    step-goes e own s E O ends = ends
+    step-goes e own s E O (goes {q} {n} h) = if-all (Goes k) _ (goes h) (solved-goes o (length e) q (n + 1) K (line-lands o limit own A L O E))
 
     pub pass-goes : {l : List Line} → All (LineIn p) l → Inside k (start o limit) → Goes k (pass o limit l)
     unfolding pass
-    pass-goes h s = walk-goes none h (judged-goes o 0 s)
+    pass-goes h s = walk-keeps-over (passLine o limit) (LineIn p) (Goes k) step-goes _ none h (judged-goes o 0 s)
