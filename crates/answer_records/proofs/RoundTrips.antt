@@ -10,7 +10,7 @@ use lib.ListN.{length, getD}
 use borrow.Author.Tests.{le-leb, lt-leb, lt-ltb, le-ltb, ltb-true, ltb-false}
 use Rattle.arithmetic.specs.Binary32.{if_then_else_}
 use Rattle.words.specs.Words.{pairOf, wordOf}
-use Rattle.fields.specs.Bytes.{be, beFrom, toBe, Small}
+use Rattle.fields.specs.Bytes.{be, beFrom, toBe, AllBytes}
 use Rattle.fields.proofs.ByteLaws.{be-toBe}
 use Rattle.admission.specs.Faults.{Fault, fine, fault}
 use Rattle.answer_records.specs.declared.Answer.{Answer}
@@ -21,12 +21,12 @@ use Rattle.answer_records.proofs.ReplyLaws.{Sound, sound, has-code}
 
 -- ---- numbers and their bytes
 
-module _ (s : List ℕ) (at : ℕ) (small : Small s) where
+module _ (s : List ℕ) (at : ℕ) (bytes : AllBytes s) where
   pair-bytes : toBe 2 (pairOf s at) ≡ getD s at 0 ∷ getD s (at + 1) 0 ∷ []
   unfolding toBe pairOf
   pair-bytes =
-      let a = small at in
-      let b = small (at + 1) in
+      let a = bytes at in
+      let b = bytes (at + 1) in
       let first : pairOf s at / 256 % 256 ≡ getD s at 0 = omega arith in
       let second : pairOf s at / 256 ^ 0 % 256 ≡ getD s (at + 1) 0 = rw div-one (omega arith) in
       rw (first, second)
@@ -34,10 +34,10 @@ module _ (s : List ℕ) (at : ℕ) (small : Small s) where
   word-bytes : toBe 4 (wordOf s at) ≡ getD s at 0 ∷ getD s (at + 1) 0 ∷ getD s (at + 2) 0 ∷ getD s (at + 3) 0 ∷ []
   unfolding toBe wordOf
   word-bytes =
-      let a = small at in
-      let b = small (at + 1) in
-      let c = small (at + 2) in
-      let d = small (at + 3) in
+      let a = bytes at in
+      let b = bytes (at + 1) in
+      let c = bytes (at + 2) in
+      let d = bytes (at + 3) in
       let first : wordOf s at / 16777216 % 256 ≡ getD s at 0 = omega arith in
       let second : wordOf s at / 65536 % 256 ≡ getD s (at + 1) 0 = omega arith in
       let third : wordOf s at / 256 % 256 ≡ getD s (at + 2) 0 = omega arith in
@@ -142,9 +142,9 @@ named-length s w b fair e =
 its-bytes : (s : List ℕ) (w : ℕ) → Sound s → pairOf s 0 ≡ w → s ≡ upTo (2 + w) (λ i. getD s i 0)
 its-bytes s w fair e = rw (fair .matched ∙ ap (λ (n : ℕ). 2 + n) e) at (listed s)
 
-module _ (s : List ℕ) (small : Small s) where
+module _ (s : List ℕ) (bytes : AllBytes s) where
   length-bytes : (w : ℕ) → pairOf s 0 ≡ w → toBe 2 w ≡ getD s 0 0 ∷ getD s 1 0 ∷ []
-  length-bytes w e = ap (toBe 2) (sym e) ∙ pair-bytes s 0 small
+  length-bytes w e = ap (toBe 2) (sym e) ∙ pair-bytes s 0 bytes
 
   pub outcome-written-again : (a : Answer) → answerIn s ≡ reply.Outcome a → s ≡ answerBytes a
   unfolding answerIn answerBytes outcomeIn upTo
@@ -152,7 +152,7 @@ module _ (s : List ℕ) (small : Small s) where
       read-outcome (answerFault s) (ltb (getD s 3 0) 128) (outcomeIn s) _ a e λ f b o.
       let fair = sound s f in
       let n : pairOf s 0 ≡ outcomeLength = named-length s outcomeLength _ fair (code-below (getD s 3 0) (ltb-true _ _ b)) in
-      its-bytes s outcomeLength fair n ∙ rw (← o, length-bytes outcomeLength n, word-bytes s 4 small, word-bytes s 8 small, pair-bytes s 12 small, word-bytes s 14 small, fair .version)
+      its-bytes s outcomeLength fair n ∙ rw (← o, length-bytes outcomeLength n, word-bytes s 4 bytes, word-bytes s 8 bytes, pair-bytes s 12 bytes, word-bytes s 14 bytes, fair .version)
 
   pub refusal-written-again : (n : ℕ) → answerIn s ≡ reply.Refusal n → s ≡ refusalBytes n
   unfolding answerIn refusalBytes upTo
@@ -161,5 +161,5 @@ module _ (s : List ℕ) (small : Small s) where
       let fair = sound s f in
       let high : 128 ≤ getD s 3 0 = ltb-false _ _ b in
       let n : pairOf s 0 ≡ refusalLength = named-length s refusalLength _ fair (code-above (getD s 3 0) high) in
-      let code : (128 + m) % 256 ≡ getD s 3 0 = omega (arith, small 3) in
+      let code : (128 + m) % 256 ≡ getD s 3 0 = omega (arith, bytes 3) in
       its-bytes s refusalLength fair n ∙ rw (length-bytes refusalLength n, code, fair .version)

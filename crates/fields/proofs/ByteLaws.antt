@@ -7,7 +7,7 @@ use mathlib.Core.List.{List, [], _∷_, _++_}
 use lib.ListN.{length}
 use lib.Arith.{mod-mul, digits-lt, digits-div}
 use lib.Dec.{lit<}
-use Rattle.fields.specs.Bytes.{be, beFrom, toBe, each, Small}
+use Rattle.fields.specs.Bytes.{be, beFrom, toBe, each, AllBytes}
 
 pub length-toBe : (w x : ℕ) → length (toBe w x) ≡ w
 unfolding toBe
@@ -35,7 +35,7 @@ unfolding be beFrom
 from-be n [] = omega arith
 from-be n (b ∷ l) = rw (from-be (n * 256 + b) l, from-be (0 + b) l, pow-succ' 256 (length l)) (simp (add-mul, mul-assoc, add-assoc, zero-add))
 
-pub be-lt : (l : List ℕ) → Small l → be l < 256 ^ length l
+pub be-lt : (l : List ℕ) → AllBytes l → be l < 256 ^ length l
 unfolding be beFrom
 be-lt [] h = lit< tt
 be-lt (b ∷ l) h = rw (from-be (0 + b) l, zero-add, pow-succ' 256 (length l)) (digits-lt (h 0) (be-lt l λ i. h (suc i)))
@@ -49,28 +49,28 @@ toBe-high (suc w) q x =
     rw (e, mul-add-div-right (weight w) (q * 256) x, mul-add-mod-self-right q 256 (x / 256 ^ w), toBe-high w (q * 256) x)
 
 -- bytes that are read and written again are the same
-pub toBe-be : (l : List ℕ) → Small l → toBe (length l) (be l) ≡ l
+pub toBe-be : (l : List ℕ) → AllBytes l → toBe (length l) (be l) ≡ l
 unfolding toBe be beFrom
 toBe-be [] h = refl
 toBe-be (b ∷ l) h =
-    let k : Small l = λ i. h (suc i) in
+    let k : AllBytes l = λ i. h (suc i) in
     let m : be l < 256 ^ length l = be-lt l k in
     let e : be (b ∷ l) ≡ b * 256 ^ length l + be l = rw (from-be (0 + b) l, zero-add) in
     rw (e, digits-div b m, mod-eq-of-lt (h 0), toBe-high (length l) b (be l), toBe-be l k)
 
-pub small-toBe : (w x : ℕ) → Small (toBe w x)
+pub toBe-bytes : (w x : ℕ) → AllBytes (toBe w x)
 unfolding toBe
-small-toBe zero x i = lit< tt
-small-toBe (suc w) x zero = mod-lt _ (lit< tt)
-small-toBe (suc w) x (suc i) = small-toBe w x i
+toBe-bytes zero x i = lit< tt
+toBe-bytes (suc w) x zero = mod-lt _ (lit< tt)
+toBe-bytes (suc w) x (suc i) = toBe-bytes w x i
 
 -- bytes behind bytes are bytes
-pub small-append : (k l : List ℕ) → Small k → Small l → Small (k ++ l)
-small-append [] l p q i = q i
-small-append (b ∷ k) l p q zero = p 0
-small-append (b ∷ k) l p q (suc i) = small-append k l (λ j. p (suc j)) q i
+pub append-bytes : (k l : List ℕ) → AllBytes k → AllBytes l → AllBytes (k ++ l)
+append-bytes [] l p q i = q i
+append-bytes (b ∷ k) l p q zero = p 0
+append-bytes (b ∷ k) l p q (suc i) = append-bytes k l (λ j. p (suc j)) q i
 
-pub small-each : {A : Type 0} (bytes : A → List ℕ) → ((a : A) → Small (bytes a)) → (l : List A) → Small (each bytes l)
+pub each-bytes : {A : Type 0} (bytes : A → List ℕ) → ((a : A) → AllBytes (bytes a)) → (l : List A) → AllBytes (each bytes l)
 unfolding each
-small-each bytes h [] i = lit< tt
-small-each bytes h (a ∷ l) i = small-append (bytes a) (each bytes l) (h a) (small-each bytes h l) i
+each-bytes bytes h [] i = lit< tt
+each-bytes bytes h (a ∷ l) i = append-bytes (bytes a) (each bytes l) (h a) (each-bytes bytes h l) i

@@ -8,7 +8,7 @@ use lib.ListN.{length, take, drop, getD, take-append-drop, length-drop, length-t
 use lib.Seq.{drop-drop, getD-take, getD-drop, length-take-le}
 use lib.Dec.{leb, lit<}
 use borrow.Author.Tests.{leb-true}
-use Rattle.fields.specs.Bytes.{be, toBe, each, Small}
+use Rattle.fields.specs.Bytes.{be, toBe, each, AllBytes}
 use Rattle.fields.specs.Got.{Got, got, word, many}
 use Rattle.fields.proofs.ByteLaws.{toBe-be, be-lt}
 use Rattle.fields.proofs.ChainLaws.{got-same, then-got, guard-got, cons-got}
@@ -21,8 +21,8 @@ pub join : {s : List ℕ} {at : ℕ} {b : List ℕ} {m : ℕ} {c : List ℕ} {k 
 join {s} {at} {b} {m} {c} {k} p q = record { stands = p .stands ∙ ap (λ (r : List ℕ). b ++ r) (q .stands) ∙ sym (append-assoc b c (drop k s)) }
 
 -- every part of bytes is bytes
-small-part : (s : List ℕ) (w at : ℕ) → Small s → Small (take w (drop at s))
-small-part s w at h i = go (decLt i w)
+part-bytes : (s : List ℕ) (w at : ℕ) → AllBytes s → AllBytes (take w (drop at s))
+part-bytes s w at h i = go (decLt i w)
   where
     go : Dec (i < w) → getD (take w (drop at s)) i 0 < 256
     go (yes p) = rw (getD-take w (drop at s) i 0 p, getD-drop at s i 0) (h (at + i))
@@ -35,7 +35,7 @@ pub word-place : (s : List ℕ) (w at x m : ℕ) → word w s at ≡ got x m →
 unfolding word
 word-place s w at x m e = guard-got (leb (at + w) (length s)) 2 _ e λ t r. sym (got-same r .1)
 
-module _ (s : List ℕ) (h : Small s) where
+module _ (s : List ℕ) (h : AllBytes s) where
   pub word-span : (w at x m : ℕ) → word w s at ≡ got x m → (x < 256 ^ w) × Span s at (toBe w x) m
   unfolding word
   word-span w at x m e =
@@ -44,7 +44,7 @@ module _ (s : List ℕ) (h : Small s) where
       let p : be (take w (drop at s)) ≡ x = got-same r .0 in
       let q : at + w ≡ m = got-same r .1 in
       let l : length (take w (drop at s)) ≡ w = length-take-le w (drop at s) (rw length-drop (omega arith)) in
-      let k : Small (take w (drop at s)) = small-part s w at h in
+      let k : AllBytes (take w (drop at s)) = part-bytes s w at h in
       let b : toBe w x ≡ take w (drop at s) = rw (l, p) at (toBe-be (take w (drop at s)) k) in
       (rw (l, p) at (be-lt (take w (drop at s)) k), record { stands = rw (b, ← q, ← drop-drop w at s) (sym (take-append-drop w (drop at s))) })
 

@@ -23,5 +23,5 @@ each bytes [] = []
 each bytes (a ∷ l) = bytes a ++ each bytes l
 
 -- every element is a byte; past the end `getD` gives 0
-abbrev pub Small : List ℕ → Type 0
-Small l = (i : ℕ) → getD l i 0 < 256
+abbrev pub AllBytes : List ℕ → Type 0
+AllBytes l = (i : ℕ) → getD l i 0 < 256

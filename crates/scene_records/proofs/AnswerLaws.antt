@@ -7,7 +7,7 @@ use Rattle.admission.specs.Faults.{fine, faultOf, judgedAs}
 use Rattle.admission.proofs.FaultLaws.{no-fault}
 use Rattle.dodgy_2d.specs.declared.Scene.{Scene}
 use Rattle.dodgy_2d.specs.Scenes.{sceneFault}
-use Rattle.fields.specs.Bytes.{Small}
+use Rattle.fields.specs.Bytes.{AllBytes}
 use Rattle.fields.specs.Got.{Got, refused, got}
 use Rattle.scene_records.specs.declared.SceneRead.{SceneRead}
 use Rattle.scene_records.specs.Records.{sceneIn, readAs}
@@ -28,7 +28,7 @@ module _ (s : List ℕ) (r : SceneRead) (promised : r ≡ readAs (sceneIn s)) (i
   reads : {C : Type 0} → ((m : ℕ) → sceneIn s ≡ got (r .scene) m → C) → C
   reads next = fine-got (sceneIn s) (rw promised at is-fine) λ m e. next m (rw promised e)
 
-  pub answer-is-bytes : Small s → s ≡ sceneBytes (r .scene)
+  pub answer-is-bytes : AllBytes s → s ≡ sceneBytes (r .scene)
   answer-is-bytes h = reads λ m e. accepted-is-bytes s h (r .scene) m e
 
   pub answer-admitted : sceneFault (r .scene) ≡ fine

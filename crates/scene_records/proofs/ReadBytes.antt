@@ -17,7 +17,7 @@ use Rattle.lines.specs.declared.Line.{Line}
 use Rattle.lines.specs.LineFaults.{lineReach}
 use Rattle.linear_programming.specs.Admit.{reach}
 use Rattle.dodgy_2d.specs.declared.Scene.{Scene}
-use Rattle.fields.specs.Bytes.{toBe, each, Small}
+use Rattle.fields.specs.Bytes.{toBe, each, AllBytes}
 use Rattle.fields.specs.Got.{got, many}
 use Rattle.fields.proofs.ChainLaws.{then-got, cons-got, got-same}
 use Rattle.fields.proofs.Spans.{Span, join, word-span, many-span}
@@ -76,7 +76,7 @@ obstacles-total s (suc n) total at os m t e =
 
 -- ---- the bytes that a step read
 
-module _ (s : List ℕ) (h : Small s) where
+module _ (s : List ℕ) (h : AllBytes s) where
   pub number-span : (passes : Float → Bool) → passes nan ≡ false → (at : ℕ) (x : Float) (m : ℕ) → number passes s at ≡ got x m → Span s at (numberBytes x) m
   unfolding numberBytes
   number-span passes none at x m e =

@@ -7,25 +7,25 @@ use Rattle.common.specs.declared.Vec2.{Vec2}
 use Rattle.lines.specs.declared.Line.{Line}
 use Rattle.dodgy_2d.specs.declared.Scene.{Scene}
 use Rattle.dodgy_2d.specs.Scenes.{neighboursIn}
-use Rattle.fields.specs.Bytes.{toBe, each, Small}
-use Rattle.fields.proofs.ByteLaws.{small-toBe, small-append, small-each}
+use Rattle.fields.specs.Bytes.{toBe, each, AllBytes}
+use Rattle.fields.proofs.ByteLaws.{toBe-bytes, append-bytes, each-bytes}
 use Rattle.scene_records.specs.declared.Cart.{Cart}
 use Rattle.scene_records.specs.Parts.{Obstacle}
 use Rattle.scene_records.specs.SceneBytes.{cartIn, obstaclesIn, numberBytes, vectorBytes, cartBytes, obstacleBytes, lineBytes, bodyBytes, recordBytes, sceneBytes}
 
 -- a record, so that the list is found from a proof of it
 record AreBytes (l : List ℕ) : Type 0 where
-  small : Small l
+  small : AllBytes l
 
 word-bytes : (w x : ℕ) → AreBytes (toBe w x)
-word-bytes w x = record { small = small-toBe w x }
+word-bytes w x = record { small = toBe-bytes w x }
 
 infixl 20 _behind_
 _behind_ : {k l : List ℕ} → AreBytes k → AreBytes l → AreBytes (k ++ l)
-_behind_ {k} {l} p q = record { small = small-append k l (p .small) (q .small) }
+_behind_ {k} {l} p q = record { small = append-bytes k l (p .small) (q .small) }
 
 all-bytes : {A : Type 0} (bytes : A → List ℕ) → ((a : A) → AreBytes (bytes a)) → (l : List A) → AreBytes (each bytes l)
-all-bytes bytes h l = record { small = small-each bytes (λ a. h a .small) l }
+all-bytes bytes h l = record { small = each-bytes bytes (λ a. h a .small) l }
 
 number-bytes : (x : Float) → AreBytes (numberBytes x)
 unfolding numberBytes
@@ -59,5 +59,5 @@ record-bytes : (x : Cart) (os : List Obstacle) (ls : List Line) → AreBytes (re
 unfolding recordBytes
 record-bytes x os ls = word-bytes 2 (length (bodyBytes x os ls)) behind body-bytes x os ls
 
-pub scene-small : (c : Scene) → Small (sceneBytes c)
+pub scene-small : (c : Scene) → AllBytes (sceneBytes c)
 scene-small c = record-bytes (cartIn c) (obstaclesIn c) (neighboursIn c) .small
