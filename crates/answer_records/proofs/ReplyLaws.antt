@@ -23,15 +23,15 @@ pub has-code : (n : ℕ) → isLength n ≡ true → 2 ≤ n
 has-code n h = ⊎-elim (λ e. omega arith) (λ e. omega arith) (two-lengths n h)
 
 -- a record without a fault
-pub record Sound (s : List ℕ) : Type 0 where
+pub record Faultless (s : List ℕ) : Type 0 where
   pub named : isLength (pairOf s 0) ≡ true
   pub matched : length s ≡ 2 + pairOf s 0
   pub version : getD s 2 0 ≡ answerVersion
   pub coded : lengthOfCode (getD s 3 0) ≡ pairOf s 0
 
-pub sound : (s : List ℕ) → answerFault s ≡ fine → Sound s
+pub faultless : (s : List ℕ) → answerFault s ≡ fine → Faultless s
 unfolding answerFault
-sound s e =
+faultless s e =
     let length-there = ⊳-fine (must (leb 2 (length s)) 2) e in
     let length-known = ⊳-fine (must (isLength (pairOf s 0)) 2) (length-there .1) in
     let bytes-match = ⊳-fine (must (eqb (length s) (2 + pairOf s 0)) 2) (length-known .1) in
@@ -44,4 +44,4 @@ sound s e =
     }
 
 pub code-there : (s : List ℕ) → answerFault s ≡ fine → 4 ≤ length s
-code-there s e = let w = sound s e in omega (arith, has-code _ (w .named), w .matched)
+code-there s e = let w = faultless s e in omega (arith, has-code _ (w .named), w .matched)

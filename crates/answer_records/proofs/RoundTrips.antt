@@ -17,7 +17,7 @@ use Rattle.answer_records.specs.declared.Answer.{Answer}
 use Rattle.answer_records.specs.declared.Reply.the-variants as reply
 use Rattle.answer_records.specs.Answers.{outcomeLength, refusalLength, answerBytes, refusalBytes}
 use Rattle.answer_records.specs.Replies.{isLength, lengthOfCode, answerFault, outcomeIn, unlessFault, answerIn}
-use Rattle.answer_records.proofs.ReplyLaws.{Sound, sound, has-code}
+use Rattle.answer_records.proofs.ReplyLaws.{Faultless, faultless, has-code}
 
 -- ---- numbers and their bytes
 
@@ -133,14 +133,14 @@ unfolding lengthOfCode if_then_else_
 code-above k h = rw (le-leb 1 k (omega arith), lt-leb k 5 (omega arith))
 
 -- the record's length where its code's is known
-named-length : (s : List ℕ) (w : ℕ) (b : Bool) → Sound s → lengthOfCode (getD s 3 0) ≡ (if b then w else 0) → pairOf s 0 ≡ w
-named-length s w b fair e =
-    let same : pairOf s 0 ≡ (if b then w else 0) = sym (fair .coded) ∙ e in
-    same ∙ only w b (rw same at (has-code (pairOf s 0) (fair .named)))
+named-length : (s : List ℕ) (w : ℕ) (b : Bool) → Faultless s → lengthOfCode (getD s 3 0) ≡ (if b then w else 0) → pairOf s 0 ≡ w
+named-length s w b whole e =
+    let same : pairOf s 0 ≡ (if b then w else 0) = sym (whole .coded) ∙ e in
+    same ∙ only w b (rw same at (has-code (pairOf s 0) (whole .named)))
 
 -- the record by its bytes, and its length field's two
-its-bytes : (s : List ℕ) (w : ℕ) → Sound s → pairOf s 0 ≡ w → s ≡ upTo (2 + w) (λ i. getD s i 0)
-its-bytes s w fair e = rw (fair .matched ∙ ap (λ (n : ℕ). 2 + n) e) at (listed s)
+its-bytes : (s : List ℕ) (w : ℕ) → Faultless s → pairOf s 0 ≡ w → s ≡ upTo (2 + w) (λ i. getD s i 0)
+its-bytes s w whole e = rw (whole .matched ∙ ap (λ (n : ℕ). 2 + n) e) at (listed s)
 
 module _ (s : List ℕ) (bytes : AllBytes s) where
   length-bytes : (w : ℕ) → pairOf s 0 ≡ w → toBe 2 w ≡ getD s 0 0 ∷ getD s 1 0 ∷ []
@@ -150,16 +150,16 @@ module _ (s : List ℕ) (bytes : AllBytes s) where
   unfolding answerIn answerBytes outcomeIn upTo
   outcome-written-again a e =
       read-outcome (answerFault s) (ltb (getD s 3 0) 128) (outcomeIn s) _ a e λ f b o.
-      let fair = sound s f in
-      let n : pairOf s 0 ≡ outcomeLength = named-length s outcomeLength _ fair (code-below (getD s 3 0) (ltb-true _ _ b)) in
-      its-bytes s outcomeLength fair n ∙ rw (← o, length-bytes outcomeLength n, word-bytes s 4 bytes, word-bytes s 8 bytes, pair-bytes s 12 bytes, word-bytes s 14 bytes, fair .version)
+      let whole = faultless s f in
+      let n : pairOf s 0 ≡ outcomeLength = named-length s outcomeLength _ whole (code-below (getD s 3 0) (ltb-true _ _ b)) in
+      its-bytes s outcomeLength whole n ∙ rw (← o, length-bytes outcomeLength n, word-bytes s 4 bytes, word-bytes s 8 bytes, pair-bytes s 12 bytes, word-bytes s 14 bytes, whole .version)
 
   pub refusal-written-again : (n : ℕ) → answerIn s ≡ reply.Refusal n → s ≡ refusalBytes n
   unfolding answerIn refusalBytes upTo
   refusal-written-again m e =
       read-refusal (answerFault s) (ltb (getD s 3 0) 128) (outcomeIn s) _ m e λ f b o.
-      let fair = sound s f in
+      let whole = faultless s f in
       let high : 128 ≤ getD s 3 0 = ltb-false _ _ b in
-      let n : pairOf s 0 ≡ refusalLength = named-length s refusalLength _ fair (code-above (getD s 3 0) high) in
+      let n : pairOf s 0 ≡ refusalLength = named-length s refusalLength _ whole (code-above (getD s 3 0) high) in
       let code : (128 + m) % 256 ≡ getD s 3 0 = omega (arith, bytes 3) in
-      its-bytes s refusalLength fair n ∙ rw (length-bytes refusalLength n, code, fair .version)
+      its-bytes s refusalLength whole n ∙ rw (length-bytes refusalLength n, code, whole .version)

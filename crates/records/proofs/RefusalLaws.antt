@@ -2,12 +2,14 @@
 use Prim.Native.Nat.{ℕ, zero, suc, _+_, _-_, _/_, _≤_}
 use native.Mathlib.Omega.{arith}
 use mathlib.Core.Path.{_≡_, refl, sym, _∙_}
-use mathlib.Core.Bool.{Bool, true, false, not, _||_}
+use mathlib.Core.Bool.{Bool, true, false, not, _&&_, _||_}
 use mathlib.Core.List.{List, [], _∷_}
 use lib.Dec.{leb, eqb}
 use lib.ListN.{length}
 use lib.Ieee.{Float, binary32, ofBits}
+use borrow.Author.Tests.{leb-true}
 use Rattle.arithmetic.specs.Binary32.{finite}
+use Rattle.arithmetic.proofs.Choice.{and-left, and-right}
 use Rattle.admission.specs.Faults.{Fault, fine, fault, must, _⊳_, inside}
 use Rattle.admission.proofs.FaultLaws.{no-fault}
 use Rattle.common.specs.declared.Vec2.{Vec2}
@@ -33,162 +35,164 @@ use Rattle.answer_records.specs.Replies.{answerIn}
 use Rattle.answer_records.proofs.RoundTrips.{refusal-read-back}
 use Rattle.records.specs.Answered as one
 
--- a number that has a code
+-- a number from 1 to 10, said by a test: so of a number that is written out it is plain
 abbrev Numbered : ℕ → Type 0
-Numbered r = (1 ≤ r) × (r ≤ 10)
+Numbered r = (leb 1 r && leb r 10) ≡ true
 
 -- ---- the reader's
 
-data Fair {A : Type 0} : Got A → Type 0 where
-  told : {r : ℕ} → Numbered r → Fair (refused r)
-  read : {a : A} {m : ℕ} → Fair (got a m)
+-- a reading that is refused with such a number alone
+data NumberedReading {A : Type 0} : Got A → Type 0 where
+  told : {r : ℕ} → Numbered r → NumberedReading (refused r)
+  read : {a : A} {m : ℕ} → NumberedReading (got a m)
 
-then-fair : {A B : Type 0} (g : Got A) (k : A → ℕ → Got B) → Fair g → ((a : A) (m : ℕ) → Fair (k a m)) → Fair (then g k)
-then-fair (refused r) k (told h) f = told h
-then-fair (got a m) k read f = f a m
+then-numbered : {A B : Type 0} (g : Got A) (k : A → ℕ → Got B) → NumberedReading g → ((a : A) (m : ℕ) → NumberedReading (k a m)) → NumberedReading (then g k)
+then-numbered (refused r) k (told h) f = told h
+then-numbered (got a m) k read f = f a m
 
-guard-fair : {A : Type 0} (t : Bool) (r : ℕ) (g : Got A) → Numbered r → Fair g → Fair (guard t r g)
-guard-fair true r g h f = f
-guard-fair false r g h f = told h
+guard-numbered : {A : Type 0} (t : Bool) (r : ℕ) (g : Got A) → Numbered r → NumberedReading g → NumberedReading (guard t r g)
+guard-numbered true r g h f = f
+guard-numbered false r g h f = told h
 
-many-fair : {A S : Type 0} (step : S → ℕ → Got A) (on : S → A → S) → ((state : S) (at : ℕ) → Fair (step state at)) → (n : ℕ) (state : S) (at : ℕ) → Fair (many step on n state at)
+many-numbered : {A S : Type 0} (step : S → ℕ → Got A) (on : S → A → S) → ((state : S) (at : ℕ) → NumberedReading (step state at)) → (n : ℕ) (state : S) (at : ℕ) → NumberedReading (many step on n state at)
 unfolding many
-many-fair step on f zero state at = read
-many-fair step on f (suc n) state at = then-fair (step state at) _ (f state at) λ a m. then-fair (many step on n (on state a) m) _ (many-fair step on f n (on state a) m) λ rest k. read
+many-numbered step on f zero state at = read
+many-numbered step on f (suc n) state at = then-numbered (step state at) _ (f state at) λ a m. then-numbered (many step on n (on state a) m) _ (many-numbered step on f n (on state a) m) λ rest k. read
 
 module _ (s : List ℕ) where
-  word-fair : (w at : ℕ) → Fair (word w s at)
+  word-numbered : (w at : ℕ) → NumberedReading (word w s at)
   unfolding word
-  word-fair w at = guard-fair (leb (at + w) (length s)) 2 _ (omega arith, omega arith) read
+  word-numbered w at = guard-numbered (leb (at + w) (length s)) 2 _ refl read
 
-  byte-fair : {A : Type 0} (at : ℕ) (k : ℕ → ℕ → Got A) → ((x m : ℕ) → Fair (k x m)) → Fair (then (word 1 s at) k)
-  byte-fair at k f = then-fair (word 1 s at) k (word-fair 1 at) f
+  byte-numbered : {A : Type 0} (at : ℕ) (k : ℕ → ℕ → Got A) → ((x m : ℕ) → NumberedReading (k x m)) → NumberedReading (then (word 1 s at) k)
+  byte-numbered at k f = then-numbered (word 1 s at) k (word-numbered 1 at) f
 
-  number-fair : (passes : Float → Bool) (at : ℕ) → Fair (number passes s at)
+  number-numbered : (passes : Float → Bool) (at : ℕ) → NumberedReading (number passes s at)
   unfolding number
-  number-fair passes at = then-fair (word 4 s at) _ (word-fair 4 at) λ b a. guard-fair (passes (ofBits binary32 b)) 6 _ (omega arith, omega arith) read
+  number-numbered passes at = then-numbered (word 4 s at) _ (word-numbered 4 at) λ b a. guard-numbered (passes (ofBits binary32 b)) 6 _ refl read
 
-  vector-fair : (passes : Float → Bool) (at : ℕ) → Fair (vector passes s at)
+  vector-numbered : (passes : Float → Bool) (at : ℕ) → NumberedReading (vector passes s at)
   unfolding vector
-  vector-fair passes at = then-fair (number passes s at) _ (number-fair passes at) λ x a. then-fair (number passes s a) _ (number-fair passes a) λ y b. read
+  vector-numbered passes at = then-numbered (number passes s at) _ (number-numbered passes at) λ x a. then-numbered (number passes s a) _ (number-numbered passes a) λ y b. read
 
-  count-fair : (most at : ℕ) → Fair (count most s at)
+  count-numbered : (most at : ℕ) → NumberedReading (count most s at)
   unfolding count
-  count-fair most at = byte-fair at _ λ n a. guard-fair (leb n most) 4 _ (omega arith, omega arith) read
+  count-numbered most at = byte-numbered at _ λ n a. guard-numbered (leb n most) 4 _ refl read
 
-  head-fair : (total at : ℕ) → Fair (head s total at)
+  head-numbered : (total at : ℕ) → NumberedReading (head s total at)
   unfolding head
-  head-fair total at =
-      byte-fair at _ λ k a. guard-fair (isKind k) 3 _ (omega arith, omega arith) (
-      byte-fair a _ λ c b. guard-fair (roomFor total c) 4 _ (omega arith, omega arith) (guard-fair (not (isEmptyOpen k c)) 5 _ (omega arith, omega arith) read))
+  head-numbered total at =
+      byte-numbered at _ λ k a. guard-numbered (isKind k) 3 _ refl (
+      byte-numbered a _ λ c b. guard-numbered (roomFor total c) 4 _ refl (guard-numbered (not (isEmptyOpen k c)) 5 _ refl read))
 
-  obstacle-fair : (total at : ℕ) → Fair (obstacle s total at)
+  obstacle-numbered : (total at : ℕ) → NumberedReading (obstacle s total at)
   unfolding obstacle verticesAt
-  obstacle-fair total at =
-      then-fair (head s total at) _ (head-fair total at) λ h a.
-      then-fair (verticesAt s (h .count) a) _ (many-fair _ _ (λ u. vector-fair _) (h .count) tt a) λ vs b. read
+  obstacle-numbered total at =
+      then-numbered (head s total at) _ (head-numbered total at) λ h a.
+      then-numbered (verticesAt s (h .count) a) _ (many-numbered _ _ (λ u. vector-numbered _) (h .count) tt a) λ vs b. read
 
-  neighbour-fair : (at : ℕ) → Fair (neighbour s at)
+  neighbour-numbered : (at : ℕ) → NumberedReading (neighbour s at)
   unfolding neighbour
-  neighbour-fair at =
-      then-fair _ _ (vector-fair _ at) λ p a.
-      then-fair _ _ (vector-fair finite a) λ d b.
-      guard-fair (inside bandLow bandHigh (lengthSquaredOf d)) 7 _ (omega arith, omega arith) read
+  neighbour-numbered at =
+      then-numbered _ _ (vector-numbered _ at) λ p a.
+      then-numbered _ _ (vector-numbered finite a) λ d b.
+      guard-numbered (inside bandLow bandHigh (lengthSquaredOf d)) 7 _ refl read
 
-  obstacles-fair : (n at : ℕ) → Fair (obstacles s n 0 at)
+  obstacles-numbered : (n at : ℕ) → NumberedReading (obstacles s n 0 at)
   unfolding obstacles
-  obstacles-fair n at = many-fair _ _ obstacle-fair n 0 at
+  obstacles-numbered n at = many-numbered _ _ obstacle-numbered n 0 at
 
-  neighbours-fair : (n at : ℕ) → Fair (neighbours s n at)
+  neighbours-numbered : (n at : ℕ) → NumberedReading (neighbours s n at)
   unfolding neighbours
-  neighbours-fair n at = many-fair _ _ (λ u. neighbour-fair) n tt at
+  neighbours-numbered n at = many-numbered _ _ (λ u. neighbour-numbered) n tt at
 
-  cart-fair : (at : ℕ) → Fair (cart s at)
+  cart-numbered : (at : ℕ) → NumberedReading (cart s at)
   unfolding cart
-  cart-fair at =
-      then-fair _ _ (vector-fair _ at) λ p a.
-      then-fair _ _ (vector-fair _ a) λ v b.
-      then-fair _ _ (number-fair _ b) λ m c.
-      then-fair _ _ (number-fair _ c) λ h d.
-      then-fair _ _ (vector-fair _ d) λ w e.
-      then-fair _ _ (number-fair _ e) λ l f. read
+  cart-numbered at =
+      then-numbered _ _ (vector-numbered _ at) λ p a.
+      then-numbered _ _ (vector-numbered _ a) λ v b.
+      then-numbered _ _ (number-numbered _ b) λ m c.
+      then-numbered _ _ (number-numbered _ c) λ h d.
+      then-numbered _ _ (vector-numbered _ d) λ w e.
+      then-numbered _ _ (number-numbered _ e) λ l f. read
 
-  scene-fair : Fair (sceneIn s)
+  scene-numbered : NumberedReading (sceneIn s)
   unfolding sceneIn announced fieldsIn version ended
-  scene-fair =
-      then-fair (announced s) _
-      (then-fair (word 2 s 0) _ (word-fair 2 0) λ n a. guard-fair (leb n longestRest) 4 _ (omega arith, omega arith) (guard-fair (eqb n (length s - 2)) 2 _ (omega arith, omega arith) read))
+  scene-numbered =
+      then-numbered (announced s) _
+      (then-numbered (word 2 s 0) _ (word-numbered 2 0) λ n a. guard-numbered (leb n longestRest) 4 _ refl (guard-numbered (eqb n (length s - 2)) 2 _ refl read))
       λ u a.
-      then-fair (version s a) _ (byte-fair a _ λ v b. guard-fair (eqb v 1) 1 _ (omega arith, omega arith) read) λ v b.
-      then-fair (cart s b) _ (cart-fair b) λ c d.
-      then-fair (count 16 s d) _ (count-fair 16 d) λ n e.
-      then-fair (obstacles s n 0 e) _ (obstacles-fair n e) λ os f.
-      then-fair (count 64 s f) _ (count-fair 64 f) λ m g.
-      then-fair (neighbours s m g) _ (neighbours-fair m g) λ ls h.
-      then-fair (ended s h) _ (guard-fair (eqb h (length s)) 2 _ (omega arith, omega arith) read) λ w i. read
+      then-numbered (version s a) _ (byte-numbered a _ λ v b. guard-numbered (eqb v 1) 1 _ refl read) λ v b.
+      then-numbered (cart s b) _ (cart-numbered b) λ c d.
+      then-numbered (count 16 s d) _ (count-numbered 16 d) λ n e.
+      then-numbered (obstacles s n 0 e) _ (obstacles-numbered n e) λ os f.
+      then-numbered (count 64 s f) _ (count-numbered 64 f) λ m g.
+      then-numbered (neighbours s m g) _ (neighbours-numbered m g) λ ls h.
+      then-numbered (ended s h) _ (guard-numbered (eqb h (length s)) 2 _ refl read) λ w i. read
 
 -- ---- the edge lines'
 
-data Sound : Answer → Type 0 where
-  lined : {ls : List Line} → Sound (lines ls)
-  refusing : {r : ℕ} → Numbered r → Sound (walls.refused r)
+-- edge lines that are refused with such a number alone
+data NumberedLines : Answer → Type 0 where
+  lined : {ls : List Line} → NumberedLines (lines ls)
+  refusing : {r : ℕ} → Numbered r → NumberedLines (walls.refused r)
 
-fault-sound : (f : Fault) (l : Line) (ls : List Line) → Sound (behind ls (unlessFault f l))
-fault-sound fine l ls = lined
-fault-sound (fault r) l ls = refusing {r = 9} (omega arith, omega arith)
+fault-numbered : (f : Fault) (l : Line) (ls : List Line) → NumberedLines (behind ls (unlessFault f l))
+fault-numbered fine l ls = lined
+fault-numbered (fault r) l ls = refusing {r = 9} refl
 
-admitted-sound : (e : EdgeLine) (ls : List Line) → Sound (behind ls (admitted e))
+admitted-numbered : (e : EdgeLine) (ls : List Line) → NumberedLines (behind ls (admitted e))
 unfolding admitted
-admitted-sound nothing ls = lined
-admitted-sound (made l) ls = fault-sound (lineFault l) l ls
+admitted-numbered nothing ls = lined
+admitted-numbered (made l) ls = fault-numbered (lineFault l) l ls
 
-add-sound : (agent : Agent) (kind n : ℕ) (vs : List Vec2) (margin horizon : Float) (a : Answer) (i : ℕ) → Sound a → Sound (addEdge agent kind n vs margin horizon a i)
+add-numbered : (agent : Agent) (kind n : ℕ) (vs : List Vec2) (margin horizon : Float) (a : Answer) (i : ℕ) → NumberedLines a → NumberedLines (addEdge agent kind n vs margin horizon a i)
 unfolding addEdge
-add-sound agent kind n vs margin horizon (lines ls) i h = admitted-sound _ ls
-add-sound agent kind n vs margin horizon (walls.refused r) i h = h
+add-numbered agent kind n vs margin horizon (lines ls) i h = admitted-numbered _ ls
+add-numbered agent kind n vs margin horizon (walls.refused r) i h = h
 
-edges-sound : (agent : Agent) (kind n : ℕ) (vs : List Vec2) (margin horizon : Float) (k : ℕ) → Sound (linesUpTo agent kind n vs margin horizon k)
+edges-numbered : (agent : Agent) (kind n : ℕ) (vs : List Vec2) (margin horizon : Float) (k : ℕ) → NumberedLines (linesUpTo agent kind n vs margin horizon k)
 unfolding linesUpTo
-edges-sound agent kind n vs margin horizon zero = lined
-edges-sound agent kind n vs margin horizon (suc k) = add-sound agent kind n vs margin horizon _ k (edges-sound agent kind n vs margin horizon k)
+edges-numbered agent kind n vs margin horizon zero = lined
+edges-numbered agent kind n vs margin horizon (suc k) = add-numbered agent kind n vs margin horizon _ k (edges-numbered agent kind n vs margin horizon k)
 
--- a rule with a number that has a code, then an answer
-must-sound : (b : Bool) (r : ℕ) (f : Fault) (a : Answer) → Numbered r → Sound (f orRefused a) → Sound ((must b r ⊳ f) orRefused a)
-must-sound true r f a h s = s
-must-sound false r f a h s = refusing h
+-- a rule with such a number, then an answer
+must-numbered : (b : Bool) (r : ℕ) (f : Fault) (a : Answer) → Numbered r → NumberedLines (f orRefused a) → NumberedLines ((must b r ⊳ f) orRefused a)
+must-numbered true r f a h s = s
+must-numbered false r f a h s = refusing h
 
-last-sound : (b : Bool) (r : ℕ) (a : Answer) → Numbered r → Sound a → Sound (must b r orRefused a)
-last-sound true r a h s = s
-last-sound false r a h s = refusing h
+last-numbered : (b : Bool) (r : ℕ) (a : Answer) → Numbered r → NumberedLines a → NumberedLines (must b r orRefused a)
+last-numbered true r a h s = s
+last-numbered false r a h s = refusing h
 
-call-sound : (agent : Agent) (kind : ℕ) (xs : List Float) (offset n : ℕ) (margin horizon : Float) → Sound (obstacleCall agent kind xs offset n margin horizon)
+call-numbered : (agent : Agent) (kind : ℕ) (xs : List Float) (offset n : ℕ) (margin horizon : Float) → NumberedLines (obstacleCall agent kind xs offset n margin horizon)
 unfolding obstacleCall obstacleFault obstacleLines
-call-sound agent kind xs offset n margin horizon =
-    must-sound (eqb kind closedKind || eqb kind openKind) 3 _ _ (omega arith, omega arith) (
-    must-sound (leb n mostVertices) 4 _ _ (omega arith, omega arith) (
-    must-sound (not (isEmptyOpen kind n)) 5 _ _ (omega arith, omega arith) (
-    last-sound (leb (offset + n) (length xs / 2)) 2 _ (omega arith, omega arith) (edges-sound agent kind n _ margin horizon _))))
+call-numbered agent kind xs offset n margin horizon =
+    must-numbered (eqb kind closedKind || eqb kind openKind) 3 _ _ refl (
+    must-numbered (leb n mostVertices) 4 _ _ refl (
+    must-numbered (not (isEmptyOpen kind n)) 5 _ _ refl (
+    last-numbered (leb (offset + n) (length xs / 2)) 2 _ refl (edges-numbered agent kind n _ margin horizon _))))
 
-joined-sound : (a b : Answer) → Sound a → Sound b → Sound (joined a b)
-joined-sound (lines l) (lines m) p q = lined
-joined-sound (lines l) (walls.refused r) p q = q
-joined-sound (walls.refused r) b p q = p
+joined-numbered : (a b : Answer) → NumberedLines a → NumberedLines b → NumberedLines (joined a b)
+joined-numbered (lines l) (lines m) p q = lined
+joined-numbered (lines l) (walls.refused r) p q = q
+joined-numbered (walls.refused r) b p q = p
 
-walls-sound : (agent : Agent) (margin horizon : Float) (xs : List Float) (offset : ℕ) (hs : List Head) → Sound (edgeLines agent margin horizon xs offset hs)
+walls-numbered : (agent : Agent) (margin horizon : Float) (xs : List Float) (offset : ℕ) (hs : List Head) → NumberedLines (edgeLines agent margin horizon xs offset hs)
 unfolding edgeLines
-walls-sound agent margin horizon xs offset [] = lined
-walls-sound agent margin horizon xs offset (h ∷ hs) = joined-sound _ _ (call-sound agent _ xs offset _ margin horizon) (walls-sound agent margin horizon xs _ hs)
+walls-numbered agent margin horizon xs offset [] = lined
+walls-numbered agent margin horizon xs offset (h ∷ hs) = joined-numbered _ _ (call-numbered agent _ xs offset _ margin horizon) (walls-numbered agent margin horizon xs _ hs)
 
-scene-sound : (c : Scene) (velocity : Vec2) → Sound (edgesAt c velocity)
-scene-sound c velocity = walls-sound (record { position = c .agent .position; velocity = velocity }) (c .margin) (c .horizon) (c .vertices) 0 (headsIn c)
+scene-lines : (c : Scene) (velocity : Vec2) → NumberedLines (edgesAt c velocity)
+scene-lines c velocity = walls-numbered (record { position = c .agent .position; velocity = velocity }) (c .margin) (c .horizon) (c .vertices) 0 (headsIn c)
 
-refused-sound : {r : ℕ} → Sound (walls.refused r) → Numbered r
-refused-sound (refusing h) = h
+lines-numbered : {r : ℕ} → NumberedLines (walls.refused r) → Numbered r
+lines-numbered (refusing h) = h
 
 -- ---- a record's
 
-read-numbered : {r : ℕ} → Fair {A = Scene} (refused r) → Numbered r
-read-numbered (told h) = h
+refused-numbered : {r : ℕ} → NumberedReading {A = Scene} (refused r) → Numbered r
+refused-numbered (told h) = h
 
 same-number : (m r : ℕ) → one.refusal m ≡ one.refusal r → m ≡ r
 same-number m r e = cc
@@ -196,16 +200,18 @@ same-number m r e = cc
 solve-numbered : (c : Scene) → sceneFault c ≡ fine → (o : SceneOutcome) → Told c o → (r : ℕ) → one.ofOutcome o ≡ one.refusal r → Numbered r
 solve-numbered c f (outcome code p l n) (answered h) r e = absurd (let z : _≡_ {A = ℕ} 0 1 = cc in omega arith)
 solve-numbered c f (refusedScene m) (at-fault g) r e = absurd (no-fault m (sym f ∙ g))
-solve-numbered c f (refusedScene m) (by-edge v g h) r e = rw (← same-number m r e) (refused-sound (rw h at (scene-sound c v)))
+solve-numbered c f (refusedScene m) (by-edge v g h) r e = rw (← same-number m r e) (lines-numbered (rw h at (scene-lines c v)))
 
-reading-numbered : (s : List ℕ) (g : Got Scene) → sceneIn s ≡ g → Fair g → (r : ℕ) → one.ofReading g ≡ one.refusal r → Numbered r
-reading-numbered s (refused m) z h r e = rw (← same-number m r e) (read-numbered h)
+reading-numbered : (s : List ℕ) (g : Got Scene) → sceneIn s ≡ g → NumberedReading g → (r : ℕ) → one.ofReading g ≡ one.refusal r → Numbered r
+reading-numbered s (refused m) z h r e = rw (← same-number m r e) (refused-numbered h)
 reading-numbered s (got c m) z h r e = solve-numbered c (read-admitted s c m z) (sceneOutcome c) (scene-told c) r e
 
 -- A record's refusal has a number from 1 to 10 ..
 pub refusal-numbered : (s : List ℕ) (r : ℕ) → one.answered s ≡ one.refusal r → (1 ≤ r) × (r ≤ 10)
 unfolding one.answered
-refusal-numbered s r e = reading-numbered s (sceneIn s) refl (scene-fair s) r e
+refusal-numbered s r e =
+    let h = reading-numbered s (sceneIn s) refl (scene-numbered s) r e in
+    (leb-true 1 r (and-left (leb 1 r) (leb r 10) h), leb-true r 10 (and-right (leb 1 r) (leb r 10) h))
 
 -- .. and the answer reader takes the reply.
 pub refusal-taken : (s : List ℕ) (r : ℕ) → one.answered s ≡ one.refusal r → answerIn (one.replyTo s) ≡ reply.Refusal r
