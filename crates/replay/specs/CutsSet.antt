@@ -3,8 +3,8 @@ use mathlib.Core.Bool.{Bool, true, false}
 use lib.Dec.{eqb}
 use Rattle.admission.specs.Faults.{Fault, fine, fault}
 
-unfoldable pub isJudged : Fault → Fault → Bool
-isJudged fine fine = true
-isJudged fine (fault n) = false
-isJudged (fault n) fine = false
-isJudged (fault n) (fault m) = eqb n m
+unfoldable pub sameFault : Fault → Fault → Bool
+sameFault fine fine = true
+sameFault fine (fault n) = false
+sameFault (fault n) fine = false
+sameFault (fault n) (fault m) = eqb n m

@@ -12,7 +12,7 @@ use Rattle.obstacles.specs.declared.ObstacleLines.{ObstacleLines}
 use Rattle.obstacles.specs.Obstacles.{obstacleCall}
 use Rattle.obstacles.specs.Read.{answerAs}
 use Rattle.replay.specs.Answers.{numberAt, vectorAt, agreesWith}
-use Rattle.replay.specs.Records.{numbersOf}
+use Rattle.replay.specs.Records.{firstNumbers}
 
 -- the two words at a place as one number, the high one first
 unfoldable pub longAt : List ℕ → ℕ → ℕ
@@ -28,12 +28,12 @@ areNumbers s at xs zero = true
 areNumbers s at xs (suc n) = areNumbers s at xs n && agreesWith (getD xs n nan) (wordOf s (at + 4 * n))
 
 -- whether so many lines, or a refusal, are the answer: its lines are at a place
-unfoldable pub isJudged : ℕ → List ℕ → ℕ → List Float → ℕ → Fault → Bool
-isJudged answer s at xs n fine = leb n 64 && (eqb answer n && areNumbers s at xs (4 * n))
-isJudged answer s at xs n (fault r) = eqb answer (100 + r)
+unfoldable pub isLinesOrRefusal : ℕ → List ℕ → ℕ → List Float → ℕ → Fault → Bool
+isLinesOrRefusal answer s at xs n fine = leb n 64 && (eqb answer n && areNumbers s at xs (4 * n))
+isLinesOrRefusal answer s at xs n (fault r) = eqb answer (100 + r)
 
 unfoldable pub isAnswer : ℕ → List ℕ → ℕ → ObstacleLines → Bool
-isAnswer answer s at made = isJudged answer s at (made .lines) (made .count) (faultOf (made .judged))
+isAnswer answer s at made = isLinesOrRefusal answer s at (made .lines) (made .count) (faultOf (made .judged))
 
 -- whether the record's answer is the one to the obstacle and the agent that its head and its numbers make
 unfoldable pub isReplayed : List ℕ → List ℕ → Bool
@@ -45,7 +45,7 @@ isReplayed head rest =
     (obstacleCall
     (agentAt head 28)
     (wordOf head 0)
-    (numbersOf rest (wordOf head 4))
+    (firstNumbers rest (wordOf head 4))
     (longAt head 12)
     (longAt head 20)
     (numberAt head 44)

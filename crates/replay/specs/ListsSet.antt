@@ -8,7 +8,7 @@ use Rattle.common.specs.Vectors.{vec}
 use Rattle.linear_programming.specs.Whole.{noLine, Outcome, stands, refusal}
 use Rattle.linear_programming.specs.Admit.{listCall}
 use Rattle.replay.specs.Answers.{numberAt, vectorAt}
-use Rattle.replay.specs.Records.{numbersOf}
+use Rattle.replay.specs.Records.{firstNumbers}
 use Rattle.replay.specs.Standings.{nought, isKind, isFailed, isStanding}
 
 -- whether the answer at a place is a refusal and nothing else
@@ -24,4 +24,4 @@ unfoldable pub isReplayed : List ℕ → List ℕ → Bool
 isReplayed head rest =
     leb (wordOf head 0) 1280
     && isAnswer rest (4 * wordOf head 0)
-    (listCall (wordOf head 4) (vectorAt head 12) (numberAt head 8) (numbersOf rest (wordOf head 0)))
+    (listCall (wordOf head 4) (vectorAt head 12) (numberAt head 8) (firstNumbers rest (wordOf head 0)))

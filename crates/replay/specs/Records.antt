@@ -5,6 +5,6 @@ use lib.Ieee.{Float}
 use Rattle.replay.specs.Answers.{numberAt}
 
 -- the first n numbers
-unfoldable pub numbersOf : List ℕ → ℕ → List Float
-numbersOf s zero = []
-numbersOf s (suc n) = numbersOf s n ++ (numberAt s (4 * n) ∷ [])
+unfoldable pub firstNumbers : List ℕ → ℕ → List Float
+firstNumbers s zero = []
+firstNumbers s (suc n) = firstNumbers s n ++ (numberAt s (4 * n) ∷ [])

@@ -1,4 +1,5 @@
 // Replays the set `common`: the Rust's answers to `determinant` and to what the port uses of glam's `Vec2`.
+// A record is, in words: a (2), b (2), k; then the answers: determinant, a + b (2), a - b (2), -a (2), a * k (2), a / k (2), dot, perp (2), squared length, squared distance, normalize (2), and 1 where a == b, else 0.
 use crate::answers::is_flag;
 use crate::answers::is_number;
 use crate::answers::is_vector;

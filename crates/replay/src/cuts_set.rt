@@ -2,7 +2,7 @@
 // in several ways, and after each batch, refused ones too, the session must stand as the answer to the lines so far. The tally counts these comparisons.
 use crate::answers::number_at;
 use crate::answers::vector_at;
-use crate::records::numbers_at;
+use crate::records::first_numbers;
 use crate::standings::is_standing;
 use admission::Judged;
 use lines::Line;
@@ -13,7 +13,7 @@ ghost use mathlib.Core.Path.{_≡_};
 ghost use Prim.Native.Nat.{_+_, _*_, _/_, _≤_, _<_};
 ghost use lib.ListN.{length};
 ghost use Rattle.admission.specs.Faults.{faultOf};
-ghost use Rattle.replay.specs.CutsSet.{isJudged};
+ghost use Rattle.replay.specs.CutsSet.{sameFault};
 
 // A session on its way through a record: how many lines it was fed, the last number drawn, the record's name, and the comparisons so far.
 struct Feeding {
@@ -49,7 +49,7 @@ pub(crate) fn with_record(tally: Tally, head: &[u8], rest: &[u8], name: u32) -> 
         number_at(head, 8),
         words::word_at(head, 4) as usize,
     );
-    let numbers = numbers_at(rest, count);
+    let numbers = first_numbers(rest, count);
     with_session(
         tally,
         fed,
@@ -225,7 +225,7 @@ fn compared(feeding: Feeding, fed: Fed, expected: Judged, count: usize, answers:
     let session = fed.session;
     let phase = session.phase;
     let failed = session.failed;
-    let good = is_judged(judged, expected)
+    let good = same_judgement(judged, expected)
         & (session.count == count)
         & is_standing(answers, 24 * feeding.place, phase, failed, session.probes);
     let tally = feeding.tally;
@@ -237,8 +237,8 @@ fn compared(feeding: Feeding, fed: Fed, expected: Judged, count: usize, answers:
 }
 
 // Whether the call was judged as expected.
-fn is_judged(judged: Judged, expected: Judged) -> bool
-    ensures { λ r. ⌜ r ≡ isJudged (faultOf judged) (faultOf expected) ⌝ }
+fn same_judgement(judged: Judged, expected: Judged) -> bool
+    ensures { λ r. ⌜ r ≡ sameFault (faultOf judged) (faultOf expected) ⌝ }
 {
     match judged {
         Judged::Fine => match expected {

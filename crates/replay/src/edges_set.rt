@@ -3,7 +3,7 @@
 use crate::answers::agrees;
 use crate::answers::number_at;
 use crate::answers::vector_at;
-use crate::records::numbers_at;
+use crate::records::first_numbers;
 use admission::Judged;
 use obstacles::Agent;
 use obstacles::ObstacleLines;
@@ -33,7 +33,7 @@ pub(crate) fn is_replayed(head: &[u8], rest: &[u8]) -> bool
     if count > 384 {
         return false;
     }
-    let numbers = numbers_at(rest, count);
+    let numbers = first_numbers(rest, count);
     let made = obstacles::get_lines_for_agent_to_obstacle(
         agent_at(head, 28),
         kind as u8,

@@ -2,7 +2,7 @@
 // A record is its list and one answer.
 use crate::answers::number_at;
 use crate::answers::vector_at;
-use crate::records::numbers_at;
+use crate::records::first_numbers;
 use crate::standings::is_failed;
 use crate::standings::is_kind;
 use crate::standings::is_standing;
@@ -24,7 +24,7 @@ pub(crate) fn is_replayed(head: &[u8], rest: &[u8]) -> bool
     let rigid = words::word_at(head, 4) as usize;
     let limit = number_at(head, 8);
     let wish = vector_at(head, 12);
-    let numbers = numbers_at(rest, count);
+    let numbers = first_numbers(rest, count);
     let answer = linear_programming::solve_linear_program(&numbers[0..count], rigid, limit, wish);
     is_answer(rest, 4 * count, answer)
 }

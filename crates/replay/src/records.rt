@@ -3,12 +3,12 @@ use crate::answers::number_at;
 ghost use mathlib.Core.Path.{_≡_};
 ghost use Prim.Native.Nat.{_≤_};
 ghost use lib.ListN.{take};
-ghost use Rattle.replay.specs.Records.{numbersOf};
+ghost use Rattle.replay.specs.Records.{firstNumbers};
 
 // The first `count` numbers, and then zeros.
-pub(crate) fn numbers_at(bytes: &[u8], count: usize) -> [f32; 1280]
+pub(crate) fn first_numbers(bytes: &[u8], count: usize) -> [f32; 1280]
     requires { ⌜ count ≤ 1280 ⌝ }
-    ensures { λ r. ⌜ take count r ≡ numbersOf (now (bytes .entry)) count ⌝ }
+    ensures { λ r. ⌜ take count r ≡ firstNumbers (now (bytes .entry)) count ⌝ }
 {
     let mut numbers: [f32; 1280] = [0.0; 1280];
     let mut i = 0usize;

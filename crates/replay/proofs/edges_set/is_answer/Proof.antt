@@ -1,7 +1,7 @@
 -- `replay::edges_set::is_answer` meets its contract. Assumes nothing.
 use borrow.Author.Tests.{le-leb, lt-leb}
 use borrow.Author.Needs.{needs}
-use Rattle.replay.specs.EdgesSet.{isAnswer, isJudged}
+use Rattle.replay.specs.EdgesSet.{isAnswer, isLinesOrRefusal}
 use Rattle.replay.proofs.edges_set.is_answer.Statement.{statement}
 use Rattle.replay.proofs.edges_set.is_answer.Tie as tie
 
@@ -9,7 +9,7 @@ enum-told : tie.Need-enum-told
 enum-told c = search needs
 
 returns : tie.Need-returns
-unfolding isAnswer isJudged
+unfolding isAnswer isLinesOrRefusal
 returns c = simp (c .before .before .enum-told .given .1, lt-leb _ _ (c .if1 .taken))
 
 mul-are-numbers : tie.Need-mul-are-numbers
@@ -28,7 +28,7 @@ add-result : tie.Need-add-result
 add-result c = search needs
 
 returns-2 : tie.Need-returns-2
-unfolding isAnswer isJudged
+unfolding isAnswer isLinesOrRefusal
 returns-2 c =
     simp (
       ← c .are-numbers .ensures,
@@ -37,7 +37,7 @@ returns-2 c =
     )
 
 returns-3 : tie.Need-returns-3
-unfolding isAnswer isJudged
+unfolding isAnswer isLinesOrRefusal
 returns-3 c = simp (c .before .judged .given .1)
 
 pub is-answer-spec : {M : Type 1} → statement M

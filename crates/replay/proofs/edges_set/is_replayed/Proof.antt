@@ -30,8 +30,8 @@ returns-2 c =
       le-leb _ _ (c .before .before .if1 .left),
     )
 
-numbers-at-requires : tie.Need-numbers-at-requires
-numbers-at-requires c κs = search needs
+first-numbers-requires : tie.Need-first-numbers-requires
+first-numbers-requires c κs = search needs
 
 agent-at-requires : tie.Need-agent-at-requires
 agent-at-requires c κs = search needs
@@ -82,7 +82,7 @@ returns-3 c =
       ← c .before .before .before .before .before .long-at2 .ensures,
       ← c .before .before .before .before .before .before .long-at .ensures,
       ← c .before .before .before .before .before .before .before .before .before .agent-at .ensures,
-      ← c .before .before .before .before .before .before .before .before .before .before .numbers-at .ensures,
+      ← c .before .before .before .before .before .before .before .before .before .before .first-numbers .ensures,
       ← c .before .before .before .before .before .before .before .before .before .before .before .before .word-at2 .ensures,
       le-leb _ _ (c .before .before .before .before .before .before .before .before .before .before .before .if2 .left),
       ← c .before .before .before .before .before .before .before .before .before .before .before .before .before .before .word-at .ensures,
@@ -99,7 +99,7 @@ is-replayed-spec =
     word-at-requires-2
     cast-count
     returns-2
-    numbers-at-requires
+    first-numbers-requires
     agent-at-requires
     cast-get-lines-for-agent-to-obstacle
     sub-get-lines-for-agent-to-obstacle

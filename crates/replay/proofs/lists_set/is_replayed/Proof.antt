@@ -29,8 +29,8 @@ number-at-requires c κs = search needs
 vector-at-requires : tie.Need-vector-at-requires
 vector-at-requires c κs = search needs
 
-numbers-at-requires : tie.Need-numbers-at-requires
-numbers-at-requires c κs = search needs
+first-numbers-requires : tie.Need-first-numbers-requires
+first-numbers-requires c κs = search needs
 
 sub-solve-linear-program : tie.Need-sub-solve-linear-program
 sub-solve-linear-program c = search needs
@@ -54,7 +54,7 @@ returns-2 : tie.Need-returns-2
 unfolding isReplayed
 returns-2 c =
     simp (
-      ← c .before .before .before .before .numbers-at .ensures,
+      ← c .before .before .before .before .first-numbers .ensures,
       ← c .before .before .before .before .before .vector-at .ensures,
       ← c .before .before .before .before .before .before .number-at .ensures,
       ← c .before .before .before .before .before .before .before .word-at2 .ensures,
@@ -74,7 +74,7 @@ is-replayed-spec =
     cast-rigid
     number-at-requires
     vector-at-requires
-    numbers-at-requires
+    first-numbers-requires
     sub-solve-linear-program
     part-solve-linear-program-start
     part-solve-linear-program-end

@@ -1,8 +1,8 @@
--- `replay::cuts_set::is_judged` meets its contract. Assumes nothing.
+-- `replay::cuts_set::same_judgement` meets its contract. Assumes nothing.
 use borrow.Author.Needs.{needs}
-use Rattle.replay.specs.CutsSet.{isJudged}
-use Rattle.replay.proofs.cuts_set.is_judged.Statement.{statement}
-use Rattle.replay.proofs.cuts_set.is_judged.Tie as tie
+use Rattle.replay.specs.CutsSet.{sameFault}
+use Rattle.replay.proofs.cuts_set.same_judgement.Statement.{statement}
+use Rattle.replay.proofs.cuts_set.same_judgement.Tie as tie
 
 enum-told : tie.Need-enum-told
 enum-told c = search needs
@@ -23,23 +23,23 @@ enum-known-expected : tie.Need-enum-known-expected
 enum-known-expected c = search needs
 
 returns : tie.Need-returns
-unfolding isJudged
+unfolding sameFault
 returns c = simp (c .enum-told2 .given .1, c .before .before .enum-told .given .1)
 
 returns-2 : tie.Need-returns-2
-unfolding isJudged
+unfolding sameFault
 returns-2 c = simp (c .enum-told3 .given .1, c .before .before .enum-told .given .1)
 
 returns-3 : tie.Need-returns-3
-unfolding isJudged
+unfolding sameFault
 returns-3 c = simp (c .enum-told4 .given .1, c .before .before .before .judged .given .1)
 
 returns-4 : tie.Need-returns-4
-unfolding isJudged
+unfolding sameFault
 returns-4 c = simp (c .before .expected .given .1, c .before .before .before .before .judged .given .1)
 
-pub is-judged-spec : {M : Type 1} → statement M
-is-judged-spec =
+pub same-judgement-spec : {M : Type 1} → statement M
+same-judgement-spec =
     tie.close
     (tie.spec
     enum-told

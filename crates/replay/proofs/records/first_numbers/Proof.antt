@@ -1,4 +1,4 @@
--- `replay::records::numbers_at` meets its contract. The invariant: the first i numbers are those of the bytes. Assumes nothing.
+-- `replay::records::first_numbers` meets its contract. The invariant: the first i numbers are those of the bytes. Assumes nothing.
 use Prim.Native.Nat.{_-_, _≤_}
 use mathlib.Core.Path.{_≡_, refl}
 use native.Mathlib.Omega.{arith}
@@ -6,19 +6,19 @@ use native.Mathlib.Numerals.{add-one}
 use lib.ListN.{length, take, length-set}
 use lib.Seq.{take-suc-set}
 use borrow.Author.Needs.{needs}
-use Rattle.replay.specs.Records.{numbersOf}
-use Rattle.replay.proofs.records.numbers_at.Statement.{statement}
-use Rattle.replay.proofs.records.numbers_at.Tie as tie
+use Rattle.replay.specs.Records.{firstNumbers}
+use Rattle.replay.proofs.records.first_numbers.Statement.{statement}
+use Rattle.replay.proofs.records.first_numbers.Tie as tie
 
 abbrev Inv-loop : tie.InvT-loop
 Inv-loop bytes count numbers₀ i₀ numbers i =
-    (i ≤ count) × (length numbers ≡ 1280) × (take i numbers ≡ numbersOf bytes i)
+    (i ≤ count) × (length numbers ≡ 1280) × (take i numbers ≡ firstNumbers bytes i)
 
 abbrev μ-loop : tie.MeasureT-loop
 μ-loop bytes count numbers₀ i₀ numbers i = count - i
 
 loop-holds : tie.Need-loop-holds Inv-loop μ-loop
-unfolding numbersOf
+unfolding firstNumbers
 loop-holds c = (omega arith, search needs, refl)
 
 mul-number-at : tie.Need-mul-number-at Inv-loop μ-loop
@@ -40,7 +40,7 @@ loop-less : tie.Need-loop-less Inv-loop μ-loop
 loop-less c = search needs
 
 loop-again : tie.Need-loop-again Inv-loop μ-loop
-unfolding numbersOf
+unfolding firstNumbers
 loop-again c =
     let l = c .before .before .loop in (
       omega arith,
@@ -53,8 +53,8 @@ returns c =
     let ended : c .before .loop .i ≡ c .before .before .before .args .count = omega arith in
     rw ended at (c .before .loop .inv .2)
 
-pub numbers-at-spec : {M : Type 1} → statement M
-numbers-at-spec =
+pub first-numbers-spec : {M : Type 1} → statement M
+first-numbers-spec =
     tie.close
     (tie.spec
     Inv-loop
