@@ -2,22 +2,19 @@
 use Prim.Native.Nat.{ℕ, _+_, _*_}
 use mathlib.Core.Bool.{Bool, _&&_}
 use mathlib.Core.List.{List}
-use lib.Dec.{eqb, leb}
+use lib.Dec.{leb}
 use Rattle.words.specs.Words.{wordOf}
 use Rattle.common.specs.Vectors.{vec}
 use Rattle.linear_programming.specs.Whole.{noLine, Outcome, stands, refusal}
 use Rattle.linear_programming.specs.Admit.{listCall}
 use Rattle.replay.specs.Answers.{numberAt, vectorAt}
 use Rattle.replay.specs.Records.{firstNumbers}
-use Rattle.replay.specs.Standings.{nought, isKind, isFailed, isStanding}
+use Rattle.replay.specs.Standings.{nought, isTold, isStanding}
 
--- whether the answer at a place is a refusal and nothing else
-unfoldable pub isRefusal : List ℕ → ℕ → ℕ → Bool
-isRefusal s at r = isKind s at (100 + r) (vec nought nought) nought && isFailed s (at + 16) noLine && eqb (wordOf s (at + 20)) 0
-
+-- whether an outcome is the answer at a place; a refusal is told by its number and nothing else
 unfoldable pub isAnswer : List ℕ → ℕ → Outcome → Bool
 isAnswer s at (stands p f n) = isStanding s at p f n
-isAnswer s at (refusal r) = isRefusal s at r
+isAnswer s at (refusal r) = isTold s at (100 + r) (vec nought nought) nought noLine 0
 
 -- whether the answer behind the numbers is the one to the list that they and the head make
 unfoldable pub isReplayed : List ℕ → List ℕ → Bool

@@ -12,25 +12,23 @@ use Rattle.replay.specs.Answers.{agreesWith}
 abbrev pub nought : Float
 nought = ofBits binary32 0
 
--- whether kind, point and penetration are those of the answer at a place
-unfoldable pub isKind : List ℕ → ℕ → ℕ → Vec2 → Float → Bool
-isKind s at kind p penetration =
-    eqb (wordOf s at) kind
-    && agreesWith (p .x) (wordOf s (at + 4))
-    && agreesWith (p .y) (wordOf s (at + 8))
-    && agreesWith penetration (wordOf s (at + 12))
-
 -- whether the failed line is the one at a place
 unfoldable pub isFailed : List ℕ → ℕ → Failed → Bool
 isFailed s at noLine = eqb (wordOf s at) 0xffff_ffff
 isFailed s at (failedLine f) = eqb (wordOf s at) (f .index)
 
--- whether the phase is that of the answer at a place; a rigid failure's own index is the failed line, too
-unfoldable pub isPhase : List ℕ → ℕ → Phase → Bool
-isPhase s at (solving p) = isKind s at 0 p nought
-isPhase s at (relaxing p penetration) = isKind s at 1 p penetration
-isPhase s at (rigidFailure k p) = isKind s at 2 p nought && eqb (wordOf s (at + 16)) k
+-- whether kind, point, penetration, failed line and probes are those of the answer at a place
+unfoldable pub isTold : List ℕ → ℕ → ℕ → Vec2 → Float → Failed → ℕ → Bool
+isTold s at kind p penetration f n =
+    eqb (wordOf s at) kind
+    && agreesWith (p .x) (wordOf s (at + 4))
+    && agreesWith (p .y) (wordOf s (at + 8))
+    && agreesWith penetration (wordOf s (at + 12))
+    && isFailed s (at + 16) f
+    && eqb (wordOf s (at + 20)) n
 
--- whether phase, failed line and probes are those of the answer at a place
+-- whether phase, failed line and probes are; a rigid failure's own index is the failed line, too
 unfoldable pub isStanding : List ℕ → ℕ → Phase → Failed → ℕ → Bool
-isStanding s at p f n = isPhase s at p && isFailed s (at + 16) f && eqb (wordOf s (at + 20)) n
+isStanding s at (solving p) f n = isTold s at 0 p nought f n
+isStanding s at (relaxing p penetration) f n = isTold s at 1 p penetration f n
+isStanding s at (rigidFailure k p) f n = isTold s at 2 p nought f n && eqb (wordOf s (at + 16)) k

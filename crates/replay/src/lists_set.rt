@@ -3,15 +3,14 @@
 use crate::answers::number_at;
 use crate::answers::vector_at;
 use crate::records::first_numbers;
-use crate::standings::is_failed;
-use crate::standings::is_kind;
 use crate::standings::is_standing;
+use crate::standings::is_told;
 use linear_programming::Answer;
 use linear_programming::FailedLine;
 ghost use mathlib.Core.Path.{_≡_};
 ghost use Prim.Native.Nat.{_<_};
 ghost use Rattle.linear_programming.specs.Read.{outcomeOf};
-ghost use Rattle.replay.specs.ListsSet.{isRefusal, isAnswer, isReplayed};
+ghost use Rattle.replay.specs.ListsSet.{isAnswer, isReplayed};
 
 // Whether the record's answer is the one that `linear_programming` gives.
 pub(crate) fn is_replayed(head: &[u8], rest: &[u8]) -> bool
@@ -29,23 +28,16 @@ pub(crate) fn is_replayed(head: &[u8], rest: &[u8]) -> bool
     is_answer(rest, 4 * count, answer)
 }
 
-// Whether the answer is the one at the place.
+// Whether the answer is the one at the place. A refusal is told by its number and nothing else.
 fn is_answer(bytes: &[u8], at: usize, answer: Answer) -> bool
     requires { ⌜ at < 65536 ⌝ }
     ensures { λ r. ⌜ r ≡ isAnswer (now (bytes .entry)) at (outcomeOf answer) ⌝ }
 {
     match answer {
         Answer::Stands(phase, failed, probes) => is_standing(bytes, at, phase, failed, probes),
-        Answer::Refused(number) => is_refusal(bytes, at, number),
+        Answer::Refused(number) => {
+            let kind = 100 + number as u32;
+            is_told(bytes, at, kind, 0.0, 0.0, 0.0, FailedLine::NoLine, 0)
+        }
     }
-}
-
-// Whether the answer at the place is the refusal with the number, and nothing else.
-fn is_refusal(bytes: &[u8], at: usize, number: u8) -> bool
-    requires { ⌜ at < 65536 ⌝ }
-    ensures { λ r. ⌜ r ≡ isRefusal (now (bytes .entry)) at number ⌝ }
-{
-    is_kind(bytes, at, 100 + number as u32, 0.0, 0.0, 0.0)
-        & is_failed(bytes, at + 16, FailedLine::NoLine)
-        & (words::word_at(bytes, at + 20) == 0)
 }

@@ -6,9 +6,9 @@ ghost use mathlib.Core.Path.{_≡_};
 ghost use Prim.Native.Nat.{_<_};
 ghost use Rattle.common.specs.Vectors.{vec};
 ghost use Rattle.linear_programming.specs.Read.{phaseOf, failedOf};
-ghost use Rattle.replay.specs.Standings.{isKind, isPhase, isFailed, isStanding};
+ghost use Rattle.replay.specs.Standings.{isFailed, isTold, isStanding};
 
-// Whether phase, failed line and probes are those of the answer at the place.
+// Whether phase, failed line and probes are those of the answer at the place. A rigid failure's own index is the failed line, too.
 pub(crate) fn is_standing(
     bytes: &[u8],
     at: usize,
@@ -19,38 +19,42 @@ pub(crate) fn is_standing(
     requires { ⌜ at < 65536 ⌝ }
     ensures { λ r. ⌜ r ≡ isStanding (now (bytes .entry)) at (phaseOf phase) (failedOf failed) probes ⌝ }
 {
-    is_phase(bytes, at, phase)
-        & is_failed(bytes, at + 16, failed)
-        & (words::word_at(bytes, at + 20) == probes)
-}
-
-// Whether the phase is the one of the answer at the place. A rigid failure's own index is the failed line, too.
-fn is_phase(bytes: &[u8], at: usize, phase: Phase) -> bool
-    requires { ⌜ at < 65536 ⌝ }
-    ensures { λ r. ⌜ r ≡ isPhase (now (bytes .entry)) at (phaseOf phase) ⌝ }
-{
     match phase {
-        Phase::Solving(x, y) => is_kind(bytes, at, 0, x, y, 0.0),
-        Phase::Relaxing(x, y, penetration) => is_kind(bytes, at, 1, x, y, penetration),
+        Phase::Solving(x, y) => is_told(bytes, at, 0, x, y, 0.0, failed, probes),
+        Phase::Relaxing(x, y, penetration) => {
+            is_told(bytes, at, 1, x, y, penetration, failed, probes)
+        }
         Phase::RigidFailure(k, x, y) => {
-            is_kind(bytes, at, 2, x, y, 0.0) & (words::word_at(bytes, at + 16) as usize == k)
+            is_told(bytes, at, 2, x, y, 0.0, failed, probes)
+                & (words::word_at(bytes, at + 16) as usize == k)
         }
     }
 }
 
-// Whether kind, point and penetration are those of the answer at the place.
-pub(crate) fn is_kind(bytes: &[u8], at: usize, kind: u32, x: f32, y: f32, penetration: f32) -> bool
+// Whether these are the six words of the answer at the place.
+pub(crate) fn is_told(
+    bytes: &[u8],
+    at: usize,
+    kind: u32,
+    x: f32,
+    y: f32,
+    penetration: f32,
+    failed: FailedLine,
+    probes: u32,
+) -> bool
     requires { ⌜ at < 65536 ⌝ }
-    ensures { λ r. ⌜ r ≡ isKind (now (bytes .entry)) at kind (vec x y) penetration ⌝ }
+    ensures { λ r. ⌜ r ≡ isTold (now (bytes .entry)) at kind (vec x y) penetration (failedOf failed) probes ⌝ }
 {
     (words::word_at(bytes, at) == kind)
         & agrees(x, words::word_at(bytes, at + 4))
         & agrees(y, words::word_at(bytes, at + 8))
         & agrees(penetration, words::word_at(bytes, at + 12))
+        & is_failed(bytes, at + 16, failed)
+        & (words::word_at(bytes, at + 20) == probes)
 }
 
 // Whether the failed line is the one at the place, where FFFFFFFF stands for none.
-pub(crate) fn is_failed(bytes: &[u8], at: usize, failed: FailedLine) -> bool
+fn is_failed(bytes: &[u8], at: usize, failed: FailedLine) -> bool
     ensures { λ r. ⌜ r ≡ isFailed (now (bytes .entry)) at (failedOf failed) ⌝ }
 {
     let word = words::word_at(bytes, at) as usize;
