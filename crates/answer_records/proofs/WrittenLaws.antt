@@ -1,6 +1,8 @@
 -- Laws of writing a record: the stores, one behind the other, are the record in front of what stood behind it. Assumes nothing.
-use Prim.Native.Nat.{ℕ, _+_, _%_, _≤_, _<_}
-use native.Mathlib.Nat.{zero-add}
+use Prim.Native.Nat.{ℕ, _+_, _/_, _%_, _≤_, _<_}
+use native.Mathlib.Omega.{arith}
+use native.Mathlib.Nat.{zero-add, div-one}
+use native.Mathlib.Numerals.{towards-suc}
 use mathlib.Core.Path.{_≡_}
 use mathlib.Core.List.{List}
 use lib.ListN.{length, set}
@@ -11,6 +13,15 @@ use Rattle.admission.specs.Faults.{fine, fault}
 use Rattle.fields.specs.Bytes.{toBe}
 use Rattle.answer_records.specs.declared.Answer.{Answer}
 use Rattle.answer_records.specs.Answers.{outcomeLength, refusalLength, answerVersion, answerBytes, refusalBytes, written, laid}
+
+-- a word's two halves, one behind the other
+pub halves : (l : List ℕ) (at x : ℕ) → sets (sets l at (toBe 2 (x / 65536))) (at + 2) (toBe 2 (x % 65536)) ≡ sets l at (toBe 4 x)
+unfolding toBe
+halves l at x =
+    let first : x / 65536 / 256 % 256 ≡ x / 16777216 % 256 = omega arith in
+    let third : x % 65536 / 256 % 256 ≡ x / 256 % 256 = omega arith in
+    let fourth : x % 65536 % 256 ≡ x % 256 = omega arith in
+    simp (div-one, towards-suc, first, third, fourth)
 
 module _ (bytes l : List ℕ) where
   too-short : length l < length bytes → written (fault 10) l ≡ laid bytes l

@@ -151,8 +151,6 @@ fn put_word(buffer: &mut [u8], at: usize, x: u32)
     requires { ⌜ at + 4 ≤ length (now buffer) ⌝ }
     ensures { λ _. ⌜ now (buffer .exit) ≡ sets (now (buffer .entry)) at (toBe 4 x) ⌝ }
 {
-    buffer[at] = (x / 0x100_0000 % 0x100) as u8;
-    buffer[at + 1] = (x / 0x1_0000 % 0x100) as u8;
-    buffer[at + 2] = (x / 0x100 % 0x100) as u8;
-    buffer[at + 3] = (x % 0x100) as u8;
+    put_pair(buffer, at, (x / 0x1_0000) as u16);
+    put_pair(buffer, at + 2, (x % 0x1_0000) as u16);
 }

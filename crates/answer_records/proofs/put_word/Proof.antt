@@ -1,67 +1,30 @@
 -- `answer_records::put_word` meets its contract. Assumes nothing.
-use native.Mathlib.Omega.{arith}
-use native.Mathlib.Nat.{div-one}
-use native.Mathlib.Numerals.{towards-suc}
-use lib.ListN.{length-set}
-use Rattle.fields.specs.Bytes.{toBe}
 use borrow.Author.Needs.{needs}
+use Rattle.answer_records.proofs.WrittenLaws.{halves}
 use Rattle.answer_records.proofs.put_word.Statement.{statement}
 use Rattle.answer_records.proofs.put_word.Tie as tie
 
-cast-buffer : tie.Need-cast-buffer
-cast-buffer c = search needs
+cast-put-pair : tie.Need-cast-put-pair
+cast-put-pair c = search needs
 
-slice-write-buffer : tie.Need-slice-write-buffer
-slice-write-buffer c = search needs
+put-pair-requires : tie.Need-put-pair-requires
+put-pair-requires c κs = search needs
 
-cast-buffer-2 : tie.Need-cast-buffer-2
-cast-buffer-2 c = search needs
+add-put-pair : tie.Need-add-put-pair
+add-put-pair c = search needs
 
-add-buffer : tie.Need-add-buffer
-add-buffer c = search needs
+cast-put-pair-2 : tie.Need-cast-put-pair-2
+cast-put-pair-2 c = search needs
 
-slice-write-buffer-2 : tie.Need-slice-write-buffer-2
-slice-write-buffer-2 c = simp length-set (omega arith)
-
-cast-buffer-3 : tie.Need-cast-buffer-3
-cast-buffer-3 c = search needs
-
-add-buffer-2 : tie.Need-add-buffer-2
-add-buffer-2 c = search needs
-
-slice-write-buffer-3 : tie.Need-slice-write-buffer-3
-slice-write-buffer-3 c = simp length-set (omega arith)
-
-cast-buffer-4 : tie.Need-cast-buffer-4
-cast-buffer-4 c = search needs
-
-add-buffer-3 : tie.Need-add-buffer-3
-add-buffer-3 c = search needs
-
-slice-write-buffer-4 : tie.Need-slice-write-buffer-4
-slice-write-buffer-4 c = simp length-set (omega arith)
+put-pair-requires-2 : tie.Need-put-pair-requires-2
+put-pair-requires-2 c κs = search needs
 
 same-length : tie.Need-same-length
 same-length c = search needs
 
 returns : tie.Need-returns
-unfolding toBe
-returns c = simp (towards-suc, div-one)
+returns c = rw (c .before .before .put-pair2 .ensures, c .before .before .before .before .before .before .put-pair .ensures) (halves _ _ _)
 
 pub put-word-spec : {M : Type 1} → statement M
 put-word-spec =
-    tie.close
-    (tie.spec
-    cast-buffer
-    slice-write-buffer
-    cast-buffer-2
-    add-buffer
-    slice-write-buffer-2
-    cast-buffer-3
-    add-buffer-2
-    slice-write-buffer-3
-    cast-buffer-4
-    add-buffer-3
-    slice-write-buffer-4
-    same-length
-    returns)
+    tie.close (tie.spec cast-put-pair put-pair-requires add-put-pair cast-put-pair-2 put-pair-requires-2 same-length returns)
