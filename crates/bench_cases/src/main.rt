@@ -4,11 +4,10 @@ use common::Vec2;
 use linear_programming::Answer;
 use linear_programming::FailedLine;
 use linear_programming::Phase;
+use lines::Line;
 use obstacles::Agent;
 use obstacles::ObstacleLines;
 use verdict::Tally;
-ghost use Prim.Native.Nat.{_≤_};
-ghost use lib.ListN.{length};
 
 // ---- whether an answer is the one that a case names, zeros of either sign equal
 
@@ -100,21 +99,12 @@ fn two_lines(t: Tally) -> Tally {
         .with(is_rigid(solved(&both, 2), 1, 0.0, 1.0, 3), 9)
 }
 
-// A number of the line through (0, -1) in the direction (1, 0), which the origin meets.
-fn number_of_met_line(k: usize) -> f32 {
-    match k {
-        1 => -1.0,
-        2 => 1.0,
-        _ => 0.0,
-    }
-}
-
-fn fill(numbers: &mut [f32])
-    requires { ⌜ length (now numbers) ≤ 65536 ⌝ }
-{
+// Stores one line more than a list may have: each goes through (0, -1) in the direction (1, 0), and the origin meets it.
+fn fill(numbers: &mut [f32]) {
+    let met = Line::new(Vec2::new(0.0, -1.0), Vec2::new(1.0, 0.0));
     let mut i = 0usize;
-    while i < numbers.len() {
-        numbers[i] = number_of_met_line(i % 4);
+    while i <= Line::MOST {
+        lines::put_line(numbers, i, met);
         i += 1;
     }
 }
