@@ -36,9 +36,6 @@ lies skip l =
 pub skip-lies : {skip k : ℕ} {l : List ℕ} → Lies skip l (skipped k) → (1 ≤ k) × (k ≤ skip) × (k ≤ length l)
 skip-lies (skips a b c) = (a, b, c)
 
-pub name-lies : {skip n : ℕ} {l : List ℕ} → Lies skip l (overlong n) → 2 ≤ length l
-name-lies (names a b c e) = b
-
 pub hold-lies : {skip k : ℕ} {l : List ℕ} → Lies skip l (whole k) → (2 ≤ k) × (k ≤ length l)
 hold-lies (holds a b c d e) = (b, d)
 

@@ -1,5 +1,5 @@
 -- However the input is cut into reads, the program's answers are those to the whole of it. Assumes nothing.
-use Prim.Native.Nat.{ℕ, zero, suc, _+_, _-_, _≤_}
+use Prim.Native.Nat.{ℕ, _+_, _-_, _≤_}
 use native.Mathlib.Omega.{arith}
 use mathlib.Core.Path.{_≡_, refl, sym, ap, _∙_}
 use mathlib.Core.List.{List, [], _∷_, _++_, append-assoc, append-nil}
@@ -13,7 +13,7 @@ use Rattle.scene_records.specs.Records.{longestRest}
 use Rattle.records.specs.Parts.{Part, skipped, overlong, whole, cutShort, partIn}
 use Rattle.records.specs.Streams.{Room, unlimited, hasRoom, less, Worked, stopped, after, onward, parts, worked, lastAnswer, ended, answersFrom, answersTo, run, joined}
 use Rattle.records.proofs.PartLaws.{Lies, skips, names, holds, none, lies}
-use Rattle.records.proofs.WorkLaws.{work-on, work-freely}
+use Rattle.records.proofs.WorkLaws.{work-on, work-freely, by-parts}
 use Rattle.records.proofs.CutLaws.{cut}
 
 -- ---- no more bytes are used than there are
@@ -24,25 +24,17 @@ record Within (l : List ℕ) (w : Worked) : Type 0 where
 behind-within : (k : ℕ) (x l : List ℕ) (w : Worked) → k ≤ length l → Within (drop k l) w → Within l (after k x w)
 behind-within k x l w h v = record { fits = let f : w .used ≤ length l - k = rw length-drop at (v .fits) in omega arith }
 
-part-within : (room : Room) (skip : ℕ) (l : List ℕ) (q : Part) → Lies skip l q → ((r : Room) (s k : ℕ) → 1 ≤ k → k ≤ length l → Within (drop k l) (worked r s (drop k l))) →
+part-within : (room : Room) (skip : ℕ) (l : List ℕ) (q : Part) → Lies skip l q → ((k : ℕ) → 1 ≤ k → k ≤ length l → (r : Room) (s : ℕ) → Within (drop k l) (worked r s (drop k l))) →
     Within l (onward worked room skip l q)
-part-within room skip l (skipped k) (skips one fits there) next = behind-within k [] l _ there (next room (skip - k) k one there)
-part-within room skip l (overlong n) (names z two far e) next = behind-within 2 (refusalBytes 4) l _ two (next (less room 4) n 2 (omega arith) two)
-part-within room skip l (whole k) (holds z two near there e) next = behind-within k (replyTo (take k l)) l _ there (next (less room (length (replyTo (take k l)))) 0 k (omega arith) there)
+part-within room skip l (skipped k) (skips one fits there) next = behind-within k [] l _ there (next k one there room (skip - k))
+part-within room skip l (overlong n) (names z two far e) next = behind-within 2 (refusalBytes 4) l _ two (next 2 (omega arith) two (less room 4) n)
+part-within room skip l (whole k) (holds z two near there e) next = behind-within k (replyTo (take k l)) l _ there (next k (omega arith) there (less room (length (replyTo (take k l)))) 0)
 part-within room skip l cutShort (none few) next = record { fits = omega arith }
 
-within-by : (n : ℕ) (room : Room) (skip : ℕ) (l : List ℕ) → length l ≤ n → Within l (worked room skip l)
-within-by zero room skip l h =
-    rw (work-on room skip l)
-    (if-all (Within l) (hasRoom room) (part-within room skip l (partIn skip l) (lies skip l) (λ r s k one there. absurd (omega arith))) (record { fits = omega arith }))
-within-by (suc n) room skip l h =
-    rw (work-on room skip l)
-    (if-all (Within l) (hasRoom room)
-    (part-within room skip l (partIn skip l) (lies skip l) (λ r s k one there. within-by n r s (drop k l) (rw length-drop (omega arith))))
-    (record { fits = omega arith }))
-
-pub used-within : (room : Room) (skip : ℕ) (l : List ℕ) → worked room skip l .used ≤ length l
-used-within room skip l = within-by (length l) room skip l (omega arith) .fits
+used-within : (l : List ℕ) (room : Room) (skip : ℕ) → Within l (worked room skip l)
+used-within =
+    by-parts (λ (l : List ℕ). (room : Room) (skip : ℕ) → Within l (worked room skip l)) λ l next room skip.
+    rw (work-on room skip l) (if-all (Within l) (hasRoom room) (part-within room skip l (partIn skip l) (lies skip l) next) (record { fits = omega arith }))
 
 -- ---- nothing is left to work where the work stopped
 
@@ -61,7 +53,7 @@ nothing-more w v e =
     let skip : v .skip ≡ w .skip = sym (ap (λ (x : Worked). x .skip) e) in
     ap (λ (n : ℕ). made n (v .answers) (v .skip)) used ∙ ap (λ (x : List ℕ). made 0 x (v .skip)) answers ∙ ap (made 0 []) skip
 
-pub worked-out : (skip : ℕ) (a : List ℕ) → worked unlimited (worked unlimited skip a .skip) (drop (worked unlimited skip a .used) a) ≡ stopped (worked unlimited skip a .skip)
+worked-out : (skip : ℕ) (a : List ℕ) → worked unlimited (worked unlimited skip a .skip) (drop (worked unlimited skip a .used) a) ≡ stopped (worked unlimited skip a .skip)
 worked-out skip a = nothing-more (worked unlimited skip a) _ (simp append-nil at (cut unlimited skip a [] .same))
 
 -- where nothing is left to work, fewer bytes are left than the longest record has
@@ -92,7 +84,7 @@ cut-answers skip a b =
     let w = worked unlimited skip a in
     let v = worked unlimited (w .skip) (drop (w .used) a ++ b) in
     let left : drop (v .used) (drop (w .used) a ++ b) ≡ drop (w .used + v .used) (a ++ b) =
-    ap (drop (v .used)) (sym (drop-append-le (w .used) a b (used-within unlimited skip a))) ∙ drop-drop (v .used) (w .used) (a ++ b) in
+    ap (drop (v .used)) (sym (drop-append-le (w .used) a b (used-within a unlimited skip .fits))) ∙ drop-drop (v .used) (w .used) (a ++ b) in
     sym (append-assoc (w .answers) (v .answers) (lastAnswer (length (drop (v .used) (drop (w .used) a ++ b)))))
     ∙ ap (λ (l : List ℕ). w .answers ++ v .answers ++ lastAnswer (length l)) left
     ∙ ap (ended (a ++ b)) (sym (cut unlimited skip a b .same))

@@ -19,11 +19,11 @@ use Rattle.records.specs.Answered.{Answered, answer, refusal, answered, 
 use Rattle.records.specs.Parts.{partOf, partIn}
 use Rattle.records.specs.Steps.{Put, put, putAt, goesOn, stops, stepBy, stepOver}
 use Rattle.records.proofs.AnsweredLaws.{laid-there}
-use Rattle.records.proofs.PartLaws.{Lies, lies, skip-lies, name-lies, hold-lies}
+use Rattle.records.proofs.PartLaws.{Lies, lies, skip-lies, hold-lies}
 
 -- ---- parts of lists
 
-pub rest-of : (n : ℕ) (l : List ℕ) → take (length l - n) (drop n l) ≡ drop n l
+rest-of : (n : ℕ) (l : List ℕ) → take (length l - n) (drop n l) ≡ drop n l
 rest-of n l = take-all (length l - n) (drop n l) (rw length-drop (omega arith))
 
 put-behind : (n : ℕ) (bytes out part : List ℕ) → n ≤ length out → part ≡ bytes ++ drop (length bytes) (drop n out) →
@@ -77,9 +77,6 @@ module _ (s out : List ℕ) (p : Place) where
           let w′ : written f part ≡ laid (refusalBytes 4) (drop (p .put) out) = rw (rest-of (p .put) out) at w in
           let held = ap (λ (x : Written). x .contents) (w′ ∙ laid-there (refusalBytes 4) (drop (p .put) out) (rw length-drop (omega arith))) in
           rw (put-behind (p .put) (refusalBytes 4) out part h held) (sym (rw e at by-part))
-
-      pub overlong-fits : 2 ≤ length s - p .used
-      overlong-fits = rw length-drop at (name-lies (rw e at known))
 
     module _ (k : ℕ) (e : q ≡ code.Whole k) where
       pub whole-step : (r : ℕ) (part : List ℕ) → p .put ≤ length out →

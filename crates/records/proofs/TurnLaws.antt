@@ -115,13 +115,13 @@ does s out p h =
 
 -- ---- the end of the loop
 
-pub drop-more : (m n : ℕ) (a b : List ℕ) → m ≤ n → drop m a ≡ drop m b → drop n a ≡ drop n b
+drop-more : (m n : ℕ) (a b : List ℕ) → m ≤ n → drop m a ≡ drop m b → drop n a ≡ drop n b
 drop-more m n a b h e =
     let all : m + (n - m) ≡ n = omega arith in
     rw all at (sym (drop-drop (n - m) m a) ∙ ap (drop (n - m)) e ∙ drop-drop (n - m) m b)
 
 -- where nothing is left to work, what was done is what the whole work comes to
-pub finished : (s out held : List ℕ) (skip : ℕ) (p : Place) → p .put ≤ length held → drop (p .put) held ≡ drop (p .put) out → worked (bytes (length out)) skip s ≡ doneAt s held p →
+finished : (s out held : List ℕ) (skip : ℕ) (p : Place) → p .put ≤ length held → drop (p .put) held ≡ drop (p .put) out → worked (bytes (length out)) skip s ≡ doneAt s held p →
     worked (bytes (length held - p .put)) (p .skip) (drop (p .used) s) ≡ stopped (p .skip) → standing p held ≡ workedOver s out skip
 unfolding workedOver
 finished s out held skip p fits behind same nothing =

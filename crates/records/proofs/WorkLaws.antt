@@ -1,4 +1,4 @@
--- Laws of the work on a stream: it goes part by part, and neither more parts than there are nor a cut of the stream changes it. Assumes nothing.
+-- Laws of the work on a stream: it goes part by part, so that a law of it may be proved part by part; and bytes to be skipped may be skipped in two goes. Assumes nothing.
 use Prim.Native.Nat.{ℕ, zero, suc, _+_, _-_, _≤_, _<_}
 use native.Mathlib.Omega.{arith}
 use native.Mathlib.Nat.{zero-add, add-assoc}
@@ -72,12 +72,20 @@ pub work-freely : (skip : ℕ) (l : List ℕ) → worked unlimited skip l ≡ on
 unfolding if_then_else_
 work-freely skip l = work-on unlimited skip l
 
--- ---- bytes behind
+-- what holds of a stream wherever it holds of all that may lie behind a part of it holds of every stream
+pub by-parts : (P : List ℕ → Type 0) → ((l : List ℕ) → ((k : ℕ) → 1 ≤ k → k ≤ length l → P (drop k l)) → P l) → (l : List ℕ) → P l
+by-parts P step l = go (length l) l (omega arith)
+  where
+    go : (n : ℕ) (l : List ℕ) → length l ≤ n → P l
+    go zero l h = step l λ k one there. absurd (omega arith)
+    go (suc n) l h = step l λ k one there. go n (drop k l) (rw length-drop (omega arith))
+
+-- ---- bytes to be skipped
 
 skip-freely : (skip k : ℕ) (l : List ℕ) → partIn skip l ≡ skipped k → worked unlimited skip l ≡ after k [] (worked unlimited (skip - k) (drop k l))
 skip-freely skip k l e = work-freely skip l ∙ rw e
 
--- bytes to be skipped may be skipped in two goes
+-- they may be skipped in two goes
 two-goes : (skip k m : ℕ) (l : List ℕ) → k ≤ m → m ≤ skip → partIn skip l ≡ skipped m → partIn (skip - k) (drop k l) ≡ skipped (m - k) →
     worked unlimited skip l ≡ after k [] (worked unlimited (skip - k) (drop k l))
 two-goes skip k m l h j e f =
