@@ -30,10 +30,10 @@ part-bytes s w at h i = go (decLt i w)
         let q : length (take w (drop at s)) ≤ i = rw length-take (omega arith) in
         rw (List·getD-eq-default (take w (drop at s)) 0 q) (lit< tt)
 
--- a number of w bytes ends w places on
-pub word-place : (s : List ℕ) (w at x m : ℕ) → word w s at ≡ got x m → m ≡ at + w
+-- a number of w bytes ends w places on, and they are there
+pub word-fits : (s : List ℕ) (w at x m : ℕ) → word w s at ≡ got x m → (m ≡ at + w) × (at + w ≤ length s)
 unfolding word
-word-place s w at x m e = guard-got (leb (at + w) (length s)) 2 _ e λ t r. sym (got-same r .1)
+word-fits s w at x m e = guard-got (leb (at + w) (length s)) 2 _ e λ t r. (sym (got-same r .1), leb-true (at + w) (length s) t)
 
 module _ (s : List ℕ) (h : AllBytes s) where
   pub word-span : (w at x m : ℕ) → word w s at ≡ got x m → (x < 256 ^ w) × Span s at (toBe w x) m

@@ -3,16 +3,15 @@ use Prim.Native.Nat.{ℕ, _+_, _-_, _*_, _≤_}
 use native.Mathlib.Omega.{arith}
 use mathlib.Core.Path.{_≡_, refl, sym, _∙_}
 use mathlib.Core.List.{List}
-use lib.Dec.{leb}
 use lib.ListN.{length, take, drop, length-drop}
 use lib.Seq.{length-take-le}
-use borrow.Author.Tests.{le-leb, leb-true}
+use borrow.Author.Tests.{le-leb}
 use Rattle.arithmetic.specs.Binary32.{if_then_else_}
 use Rattle.dodgy_2d.specs.declared.Scene.{Scene}
 use Rattle.dodgy_2d.specs.Outcomes.{sceneOutcome}
 use Rattle.fields.specs.Bytes.{toBe}
-use Rattle.fields.specs.Got.{Got, refused, got, word}
-use Rattle.fields.proofs.ChainLaws.{got-same, guard-got}
+use Rattle.fields.specs.Got.{Got, refused, got}
+use Rattle.fields.proofs.Spans.{word-fits}
 use Rattle.scene_records.specs.Records.{sceneIn}
 use Rattle.scene_records.proofs.Taken.{number-taken, vector-taken, cart-taken, fields-taken, scene-taken}
 use Rattle.answer_records.specs.Answers.{refusalBytes}
@@ -25,21 +24,16 @@ use Rattle.records.proofs.StepLaws.{reply-bytes}
 
 -- ---- a record that is read has many bytes
 
-module _ (s : List ℕ) where
-  word-fits : (w at x m : ℕ) → word w s at ≡ got x m → (m ≡ at + w) × (at + w ≤ length s)
-  unfolding word
-  word-fits w at x m e = guard-got (leb (at + w) (length s)) 2 _ e λ t r. (sym (got-same r .1), leb-true (at + w) (length s) t)
-
-  -- the length, the version and the position alone
-  accepted-long : (c : Scene) (m : ℕ) → sceneIn s ≡ got c m → 9 ≤ length s
-  accepted-long c m e =
-      scene-taken s c m e λ n named near match fields.
-      fields-taken s 2 c m fields λ a b d f g x os ls version cart _ _ _ _ _ _ _ _.
-      cart-taken s a x b cart λ a′ _ _ _ _ p _ _ _ _ _ position _ _ _ _ _ _.
-      vector-taken s _ a p a′ position λ k first second.
-      number-taken s _ a (p .x) k first λ bits first-word _ _.
-      number-taken s _ k (p .y) a′ second λ bits′ second-word _ _.
-      omega (arith, word-fits 1 2 1 a version, word-fits 4 a bits k first-word, word-fits 4 k bits′ a′ second-word)
+-- the length, the version and the position alone
+accepted-long : (s : List ℕ) (c : Scene) (m : ℕ) → sceneIn s ≡ got c m → 9 ≤ length s
+accepted-long s c m e =
+    scene-taken s c m e λ n named near match fields.
+    fields-taken s 2 c m fields λ a b d f g x os ls version cart _ _ _ _ _ _ _ _.
+    cart-taken s a x b cart λ a′ _ _ _ _ p _ _ _ _ _ position _ _ _ _ _ _.
+    vector-taken s _ a p a′ position λ k first second.
+    number-taken s _ a (p .x) k first λ bits first-word _ _.
+    number-taken s _ k (p .y) a′ second λ bits′ second-word _ _.
+    omega (arith, word-fits s 1 2 1 a version, word-fits s 4 a bits k first-word, word-fits s 4 k bits′ a′ second-word)
 
 -- ---- an answer has at most two bytes for each of its record
 

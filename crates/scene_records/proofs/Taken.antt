@@ -19,7 +19,7 @@ use Rattle.dodgy_2d.specs.declared.Scene.{Scene}
 use Rattle.dodgy_2d.specs.Scenes.{Head, shortestHorizon, longestHorizon, isKind, roomFor}
 use Rattle.fields.specs.Got.{got, word}
 use Rattle.fields.proofs.ChainLaws.{got-same, then-got, guard-got, many-length}
-use Rattle.fields.proofs.Spans.{word-place}
+use Rattle.fields.proofs.Spans.{word-fits}
 use Rattle.scene_records.specs.declared.Cart.{Cart}
 use Rattle.scene_records.specs.Steps.{number, vector, version, count, ended}
 use Rattle.scene_records.specs.Parts.{cartOf, cart, head, verticesAt, Obstacle, obstacle, obstacles, neighbour, neighbours}
@@ -134,6 +134,6 @@ module _ {C : Type 0} (s : List ℕ) where
       then-got (word 2 s 0) _ p λ n b read-n t.
       guard-got (leb n longestRest) 4 _ t λ few w.
       guard-got (eqb n (length s - 2)) 2 _ w λ right last.
-      let place : b ≡ 2 = word-place s 2 0 n b read-n in
+      let place : b ≡ 2 = word-fits s 2 0 n b read-n .0 in
       let start : a ≡ 2 = sym (got-same last .1) ∙ place in
       next n (rw place at read-n) (leb-true n longestRest few) (eqb-true n (length s - 2) right) (rw start at r)
