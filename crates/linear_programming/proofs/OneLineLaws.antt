@@ -54,11 +54,11 @@ chord-opens limit own = if-all (Opens 0) _ (shuts (le-refl _)) opens
 pub data Solves (i : ℕ) : Found → Type 0 where
   solves : {q : Vec2} → Solves i (at q i)
   stops : {n : ℕ} → n ≤ i → Solves i (fails n)
-  turns : Solves i refuses
+  stops-refused : Solves i refuses
 
 choose-solves : (o : Objective) (own : Line) (i : ℕ) {s : Interval} → Opens i s → Solves i (choose o own s)
 unfolding choose
-choose-solves (toward w) own i opens = if-all (Solves i) _ solves turns
+choose-solves (toward w) own i opens = if-all (Solves i) _ solves stops-refused
 choose-solves (along d) own i opens = if-all (Solves i) _ solves solves
 choose-solves (toward w) own i (shuts h) = stops h
 choose-solves (along d) own i (shuts h) = stops h

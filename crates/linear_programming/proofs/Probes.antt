@@ -17,7 +17,7 @@ use Rattle.linear_programming.specs.declared.LinearProgram2D.{LinearProg
 use Rattle.linear_programming.specs.declared.LinearProgram2D.the-variants as lp2d
 use Rattle.linear_programming.specs.Read.{passOf, probesOf}
 use Rattle.linear_programming.proofs.TightLaws.{tightened-long}
-use Rattle.linear_programming.proofs.OneLineLaws.{Solves, solves, stops, turns, line-solves}
+use Rattle.linear_programming.proofs.OneLineLaws.{Solves, solves, stops, stops-refused, line-solves}
 use Rattle.linear_programming.proofs.WalkLaws.{walk-grows}
 
 -- ---- one line of a pass
@@ -37,7 +37,7 @@ solved-counts : (o : Objective) (j : ℕ) (p : Vec2) (n i : ℕ) {q : Found} →
 unfolding solved
 solved-counts o j p n i (solves {q}) = judged-counts o q (n + (0 + i)) (n + i) (omega arith)
 solved-counts o j p n i (stops {n = m} h) = counts-failed {n = n + m} (omega arith)
-solved-counts o j p n i turns = counts-none
+solved-counts o j p n i stops-refused = counts-none
 
 pub pass-counts : (o : Objective) (limit : Float) (e : List Line) (own : Line) (p : Vec2) (n : ℕ) → Counts (n + 1 + length e) (passLine o limit e own (feasible p n))
 unfolding passLine
@@ -63,14 +63,14 @@ judged-takes (toward w) k p n a b = if-all (Takes k) _ (takes a b) takes-none
 judged-takes (along d) k p n a b = takes a b
 
 -- (k + 1)(k + 2) = k (k + 1) + 2 (k + 1)
-next-square : (k : ℕ) → (k + 1) * (k + 1 + 1) ≡ k * (k + 1) + 2 * (k + 1)
-next-square k = omega (arith, mul-add (k + 1) (k + 1) 1, add-mul k 1 (k + 1))
+next-product : (k : ℕ) → (k + 1) * (k + 1 + 1) ≡ k * (k + 1) + 2 * (k + 1)
+next-product k = omega (arith, mul-add (k + 1) (k + 1) 1, add-mul k 1 (k + 1))
 
 solved-takes : (o : Objective) (j k : ℕ) (p : Vec2) (n : ℕ) → k ≤ n → 2 * n ≤ k * (k + 1) → {q : Found} → Solves (0 + k) q → Takes (k + 1) (solved o j p (n + 1) q)
 unfolding solved
-solved-takes o j k p n a b solves = judged-takes o (k + 1) _ (n + 1 + (0 + k)) (omega arith) (omega (arith, next-square k))
-solved-takes o j k p n a b (stops {n = m} h) = takes-failed {n = n + 1 + m} (omega (arith, next-square k))
-solved-takes o j k p n a b turns = takes-none
+solved-takes o j k p n a b solves = judged-takes o (k + 1) _ (n + 1 + (0 + k)) (omega arith) (omega (arith, next-product k))
+solved-takes o j k p n a b (stops {n = m} h) = takes-failed {n = n + 1 + m} (omega (arith, next-product k))
+solved-takes o j k p n a b stops-refused = takes-none
 
 line-takes : (o : Objective) (limit : Float) (e : List Line) (own : Line) (s : Pass) → Takes (length e) s → Takes (length (e ++ (own ∷ []))) (passLine o limit e own s)
 unfolding passLine
@@ -78,8 +78,8 @@ line-takes o limit e own s h = rw (length-append e (own ∷ [])) (go h)
   where
     go : {t : Pass} → Takes (length e) t → Takes (length e + 1) (passLine o limit e own t)
     go (takes {p} {n} a b) =
-        if-all (Takes (length e + 1)) _ (takes (omega arith) (omega (arith, next-square (length e)))) (solved-takes o (length e) (length e) p n a b (line-solves o limit own e))
-    go (takes-failed {n = n} b) = takes-failed {n = n} (omega (arith, next-square (length e)))
+        if-all (Takes (length e + 1)) _ (takes (omega arith) (omega (arith, next-product (length e)))) (solved-takes o (length e) (length e) p n a b (line-solves o limit own e))
+    go (takes-failed {n = n} b) = takes-failed {n = n} (omega (arith, next-product (length e)))
     go takes-none = takes-none
 
 pub pass-takes : (o : Objective) (limit : Float) (lines : List Line) → Takes (length lines) (pass o limit lines)

@@ -37,7 +37,7 @@ fn unless_fails(fails: bool, left: f32, right: f32, looked: u32) -> Interval
     Interval::Between(left, right, looked + 1)
 }
 
-// The crossing with an earlier line, at `t` along `line`, caps the right end or raises the left one, by the side that the earlier line leaves.
+// The crossing with an earlier line, at `t`, caps the right end or raises the left one, by the side that the earlier line leaves.
 fn cut_at(left: f32, right: f32, looked: u32, direction_determinant: f32, t: f32) -> Interval
     requires { ⌜ looked < 256 ⌝ }
     ensures { λ r. ⌜ intervalOf r ≡ cut left right looked «direction_determinant» t ⌝ }

@@ -1,4 +1,4 @@
-// The whole-list rules: the 2D pass, then relaxation from the line that it failed at.
+// The whole-list rules, from the start or taken up again at a line: the 2D pass, then relaxation from the line that it failed at.
 use crate::Answer;
 use crate::FailedLine;
 use crate::LinearProgram2D;

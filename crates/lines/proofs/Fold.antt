@@ -1,4 +1,4 @@
--- The first n elements of a list, from the i-th on: what a loop over them has left. Assumes nothing.
+-- The first n elements of a list: what a loop over them has left from the i-th on, and an n beyond the end. Assumes nothing.
 use Prim.Native.Nat.{ℕ, zero, suc, _+_, _≤_, _<_, min}
 use mathlib.Core.Path.{_≡_, refl, _∙_, ap}
 use mathlib.Core.List.{List, [], _∷_, _++_, foldl}

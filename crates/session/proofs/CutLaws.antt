@@ -25,7 +25,7 @@ use Rattle.session.specs.Sessions.{linesIn, outcomeIn, startedBy, starte
 use Rattle.session.specs.Batches.{fedAs}
 use Rattle.session.specs.Handed.{Handed, toldIn}
 use Rattle.session.specs.Cuts.{fedAll, Taken, all-taken, taken, WholeLines, none, more, joined}
-use Rattle.session.proofs.HandedLaws.{judged, continues}
+use Rattle.session.proofs.HandedLaws.{fault-free, continues}
 use Rattle.session.proofs.StartLaws.{begins}
 
 -- what is told of a session that stands was not refused
@@ -45,10 +45,10 @@ pub record StandsOver (s : Session) (rigid : ℕ) (wish : Vec2) (limit : Float) 
 module _ (s : Session) (h : Handed s) (xs : List Float) (four : length xs % 4 ≡ 0) (lines : linesFault (linesOf xs) ≡ fine) (room : length (linesIn s) + length (linesOf xs) ≤ 256) where
   whole : judgedList (s .rigid) (s .wish) (s .limit) (linesIn s ++ linesOf xs) ≡ wholeList (s .rigid) (s .wish) (s .limit) (linesIn s ++ linesOf xs)
   unfolding judgedList
-  whole = rw (length-append (linesIn s) (linesOf xs), le-leb (length (linesIn s) + length (linesOf xs)) 256 room, judged s h .wished, faults-append, judged s h .lined, lines)
+  whole = rw (length-append (linesIn s) (linesOf xs), le-leb (length (linesIn s) + length (linesOf xs)) 256 room, fault-free s h .wished, faults-append, fault-free s h .lined, lines)
 
   never : Stood (wholeList (s .rigid) (s .wish) (s .limit) (linesIn s ++ linesOf xs))
-  never = never-refused (s .rigid) (s .wish) (s .limit) (linesIn s ++ linesOf xs) (judged s h .wished) (rw (faults-append, judged s h .lined) lines)
+  never = never-refused (s .rigid) (s .wish) (s .limit) (linesIn s ++ linesOf xs) (fault-free s h .wished) (rw (faults-append, fault-free s h .lined) lines)
 
   taken-one : faultOf (fedAs s xs .judged) ≡ fine
   taken-one =
@@ -98,7 +98,7 @@ joined-whole (more {xs} {xss} four ws) =
 -- the session stands as the whole-list rules over its lines do, and as the single call over them does
 module _ {s : Session} {rigid : ℕ} {wish : Vec2} {limit : Float} {lines : List Line} (o : StandsOver s rigid wish limit lines) where
   pub stands-whole : outcomeIn s ≡ wholeList rigid wish limit lines
-  stands-whole = rw (← o .rigid-is, ← o .wish-is, ← o .limit-is, ← o .lines-are) (sym (judged s (o .handed) .stood))
+  stands-whole = rw (← o .rigid-is, ← o .wish-is, ← o .limit-is, ← o .lines-are) (sym (fault-free s (o .handed) .stood))
 
   pub stands-called : outcomeIn s ≡ judgedList rigid wish limit lines
   stands-called = rw (← o .rigid-is, ← o .wish-is, ← o .limit-is, ← o .lines-are) (sym (o .handed .stand))

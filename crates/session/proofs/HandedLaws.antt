@@ -37,14 +37,14 @@ by-four n xs e = ⊳-fine (fours xs) (⊳-fine (must (leb n 256) 4) e .1) .0
 
 module _ (s : Session) (h : Handed s) where
   -- what was judged of the lines that stand
-  pub record Judged : Type 0 where
+  pub record FaultFree : Type 0 where
     pub wished : wishFault (s .wish) (s .limit) ≡ fine
     pub lined : linesFault (linesIn s) ≡ fine
     pub stood : wholeList (s .rigid) (s .wish) (s .limit) (linesIn s) ≡ outcomeIn s
 
-  pub judged : Judged
+  pub fault-free : FaultFree
   unfolding judgedList
-  judged =
+  fault-free =
       let passed = ⟫-stands (must (leb (length (linesIn s)) 256) 4 ⊳ wishFault (s .wish) (s .limit) ⊳ linesFault (linesIn s)) (h .stand) in
       let few = ⊳-fine (must (leb (length (linesIn s)) 256) 4) (passed .0) in
       let faults = ⊳-fine (wishFault (s .wish) (s .limit)) (few .1) in
@@ -57,7 +57,7 @@ module _ (s : Session) (h : Handed s) where
   all-judged : (xs : List Float) → (fours xs ⟫ judgedList (s .rigid) (s .wish) (s .limit) (linesIn s ++ linesOf xs)) ≡ (batchFault (s .count) xs ⟫ wholeList (s .rigid) (s .wish) (s .limit) (linesIn s ++ linesOf xs))
   unfolding judgedList batchFault
   all-judged xs =
-      rw (length-append (linesIn s) (linesOf xs), faults-append, judged .wished, judged .lined, count-is, le-leb (s .count) 256 (h .fits))
+      rw (length-append (linesIn s) (linesOf xs), faults-append, fault-free .wished, fault-free .lined, count-is, le-leb (s .count) 256 (h .fits))
       (sym (⟫-assoc (fours xs) (must (leb (s .count + length (linesOf xs)) 256) 4 ⊳ linesFault (linesOf xs)) _))
 
   -- the solve over the new lines, the probes before added, is the whole-list rules over all lines
@@ -65,7 +65,7 @@ module _ (s : Session) (h : Handed s) where
   unfolding worked
   solved-on m =
       ap (λ (k : ℕ). addProbes (s .probes) (resumed (s .rigid) (s .wish) (s .limit) (linesIn s ++ m) k (phaseOf (s .phase)) (failedOf (s .failed)))) (sym count-is)
-      ∙ resumed-whole (s .rigid) (s .wish) (s .limit) (linesIn s) m (judged .stood)
+      ∙ resumed-whole (s .rigid) (s .wish) (s .limit) (linesIn s) m (fault-free .stood)
 
   module _ (m : List Line) (room : s .count + length m ≤ 256) where
     all-few : length (linesIn s ++ m) ≤ 256

@@ -22,7 +22,7 @@ linesIn s = take (s .count) (s .lines)
 abbrev pub outcomeIn : Session → Outcome
 outcomeIn s = stands (phaseOf (s .phase)) (failedOf (s .failed)) (s .probes)
 
--- the array behind the lines that stand
+-- the array of a session that has no lines yet
 unfoldable pub blankLines : List Line
 blankLines = replicate 256 (line (vec 0ᶠ 0ᶠ) (vec 0ᶠ 0ᶠ))
 

@@ -1,10 +1,10 @@
 -- `linear_programming::solve_linear_program` meets its contract. Assumes nothing.
-use Prim.Native.Nat.{ℕ, _/_, _%_, _<_, _≤_}
+use Prim.Native.Nat.{_/_, _<_, _≤_}
 use mathlib.Core.Path.{_≡_, _∙_, ap}
 use mathlib.Core.Bool.{true, false}
 use mathlib.Core.List.{List}
 use denote.Ref.{now}
-use lib.Dec.{eqb, leb}
+use lib.Dec.{leb}
 use lib.ListN.{length}
 use lib.Ieee.{Float}
 use borrow.Author.Tests.{eq-eqb, ne-eqb, le-leb, lt-leb}
@@ -16,9 +16,6 @@ use Rattle.lines.proofs.Rows.{lines-long, lines-take-all}
 use borrow.Author.Needs.{needs}
 use Rattle.linear_programming.proofs.solve_linear_program.Statement.{statement}
 use Rattle.linear_programming.proofs.solve_linear_program.Tie as tie
-
-four : (n : ℕ) → n % 4 ≡ 0 → eqb (n % 4) 0 ≡ true
-four n h = eq-eqb (n % 4) 0 h
 
 few : (xs : List Float) → length xs / 4 ≤ 256 → leb (length (linesOf xs)) 256 ≡ true
 few xs h = rw (lines-long xs) (le-leb (length xs / 4) 256 h)
@@ -34,7 +31,7 @@ returns-2 : tie.Need-returns-2
 unfolding listCall judgedList
 returns-2 c =
     let xs = now (c .before .before .before .args .numbers) in
-    simp (four _ (c .before .if1 .left), too-many xs (c .if2 .taken))
+    simp (eq-eqb _ _ (c .before .if1 .left), too-many xs (c .if2 .taken))
 
 judge-wish-requires : tie.Need-judge-wish-requires
 judge-wish-requires c κs = search needs
@@ -54,7 +51,7 @@ returns-3 c =
     let start = c .before .before .before .before .before .before .before .before .before in
     let xs = now (start .args .numbers) in
     simp (
-      four _ (c .before .before .before .before .before .before .before .if1 .left),
+      eq-eqb _ _ (c .before .before .before .before .before .before .before .if1 .left),
       few xs (c .before .before .before .before .before .before .if2 .left),
       ← c .before .before .before .before .before .judge-wish .ensures,
       ← c .before .before .before .before .judge-lines .ensures,
@@ -75,7 +72,7 @@ returns-4 c =
     let xs = now (start .args .numbers) in
     let whole = c .solve-from-start .ensures ∙ ap (λ (l : List Line). wholeList (start .args .rigid) (start .args .wish) (start .args .limit) l) (lines-take-all xs) in
     simp (
-      four _ (c .before .before .before .before .before .before .before .if1 .left),
+      eq-eqb _ _ (c .before .before .before .before .before .before .before .if1 .left),
       few xs (c .before .before .before .before .before .before .if2 .left),
       ← c .before .before .before .before .before .judge-wish .ensures,
       ← c .before .before .before .before .judge-lines .ensures,
