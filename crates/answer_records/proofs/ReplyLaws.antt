@@ -15,7 +15,7 @@ use Rattle.admission.proofs.FaultLaws.{⊳-fine, must-fine}
 use Rattle.answer_records.specs.Answers.{outcomeLength, refusalLength, answerVersion}
 use Rattle.answer_records.specs.Replies.{isLength, lengthOfCode, answerFault}
 
-pub two-lengths : (n : ℕ) → isLength n ≡ true → (n ≡ outcomeLength) ⊎ (n ≡ refusalLength)
+two-lengths : (n : ℕ) → isLength n ≡ true → (n ≡ outcomeLength) ⊎ (n ≡ refusalLength)
 unfolding isLength
 two-lengths n h = ⊎-elim (λ e. inl (eqb-true _ _ e)) (λ e. inr (eqb-true _ _ e)) (or-cases (eqb n outcomeLength) (eqb n refusalLength) h)
 

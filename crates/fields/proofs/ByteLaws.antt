@@ -20,7 +20,7 @@ weight zero = lit< tt
 weight (suc w) = let h : 0 < 256 ^ w = weight w in let e : 256 ^ suc w ≡ 256 ^ w * 256 = pow-suc 256 w in omega arith
 
 -- a number's bytes, read behind the number n
-pub from-toBe : (n w x : ℕ) → beFrom n (toBe w x) ≡ n * 256 ^ w + x % 256 ^ w
+from-toBe : (n w x : ℕ) → beFrom n (toBe w x) ≡ n * 256 ^ w + x % 256 ^ w
 unfolding beFrom toBe
 from-toBe n zero x = omega arith
 from-toBe n (suc w) x = from-toBe (n * 256 + x / 256 ^ w % 256) w x ∙ rw (pow-succ' 256 w, mod-mul x (lit< tt) (weight w)) (simp (add-mul, mul-assoc, add-assoc))
@@ -30,7 +30,7 @@ unfolding be
 be-toBe w x h = from-toBe 0 w x ∙ rw (zero-mul, zero-add, mod-eq-of-lt h)
 
 -- what stands in front of bytes counts by their number
-pub from-be : (n : ℕ) (l : List ℕ) → beFrom n l ≡ n * 256 ^ length l + be l
+from-be : (n : ℕ) (l : List ℕ) → beFrom n l ≡ n * 256 ^ length l + be l
 unfolding be beFrom
 from-be n [] = omega arith
 from-be n (b ∷ l) = rw (from-be (n * 256 + b) l, from-be (0 + b) l, pow-succ' 256 (length l)) (simp (add-mul, mul-assoc, add-assoc, zero-add))
@@ -41,7 +41,7 @@ be-lt [] h = lit< tt
 be-lt (b ∷ l) h = rw (from-be (0 + b) l, zero-add, pow-succ' 256 (length l)) (digits-lt (h 0) (be-lt l λ i. h (suc i)))
 
 -- what stands above the w lowest bytes does not change them
-pub toBe-high : (w q x : ℕ) → toBe w (q * 256 ^ w + x) ≡ toBe w x
+toBe-high : (w q x : ℕ) → toBe w (q * 256 ^ w + x) ≡ toBe w x
 unfolding toBe
 toBe-high zero q x = refl
 toBe-high (suc w) q x =
