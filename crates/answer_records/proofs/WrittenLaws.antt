@@ -12,7 +12,7 @@ use Rattle.arithmetic.specs.Binary32.{if_then_else_}
 use Rattle.admission.specs.Faults.{fine, fault}
 use Rattle.fields.specs.Bytes.{toBe}
 use Rattle.answer_records.specs.declared.Answer.{Answer}
-use Rattle.answer_records.specs.Answers.{outcomeLength, refusalLength, answerVersion, answerBytes, refusalBytes, written, laid}
+use Rattle.answer_records.specs.Answers.{outcomeLength, refusalLength, answerVersion, longestAnswer, answerBytes, refusalBytes, written, laid}
 
 -- a word's two halves, one behind the other
 pub halves : (l : List ℕ) (at x : ℕ) → sets (sets l at (toBe 2 (x / 65536))) (at + 2) (toBe 2 (x % 65536)) ≡ sets l at (toBe 4 x)
@@ -33,11 +33,11 @@ module _ (bytes l : List ℕ) where
   room h = rw (le-leb (length bytes) (length l) h, sets-eq bytes l 0 (rw zero-add h), zero-add)
 
 module _ (a : Answer) (l : List ℕ) where
-  pub no-room : length l < 18 → written (fault 10) l ≡ laid (answerBytes a) l
+  pub no-room : length l < longestAnswer → written (fault 10) l ≡ laid (answerBytes a) l
   unfolding answerBytes toBe
   no-room = too-short (answerBytes a) l
 
-  pub stored : (named placed-x placed-y placed-line whole : List ℕ) → 18 ≤ length l → named ≡ sets l 0 (toBe 2 outcomeLength) → placed-x ≡ sets (set (set named 2 answerVersion) 3 (a .code)) 4 (toBe 4 (a .x))
+  pub stored : (named placed-x placed-y placed-line whole : List ℕ) → longestAnswer ≤ length l → named ≡ sets l 0 (toBe 2 outcomeLength) → placed-x ≡ sets (set (set named 2 answerVersion) 3 (a .code)) 4 (toBe 4 (a .x))
       → placed-y ≡ sets placed-x 8 (toBe 4 (a .y)) → placed-line ≡ sets placed-y 12 (toBe 2 (a .failed)) → whole ≡ sets placed-line 14 (toBe 4 (a .probes)) → written fine whole ≡ laid (answerBytes a) l
   unfolding answerBytes toBe
   stored named placed-x placed-y placed-line whole h by-length by-x by-y by-line by-probes = rw (by-probes, by-line, by-y, by-x, by-length) (room (answerBytes a) l h)

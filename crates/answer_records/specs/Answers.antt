@@ -19,6 +19,10 @@ refusalLength = 2
 abbrev pub answerVersion : ℕ
 answerVersion = 1
 
+-- "answer buffer shorter than 18 bytes": an outcome's record is the longest answer
+abbrev pub longestAnswer : ℕ
+longestAnswer = 18
+
 -- "Answer: length 16, version 1, outcome, x, y, failed line (2 bytes, FFFF for none), probes (4 bytes)"
 unfoldable pub answerBytes : Answer → List ℕ
 answerBytes a = toBe 2 outcomeLength ++ answerVersion ∷ a .code ∷ toBe 4 (a .x) ++ toBe 4 (a .y) ++ toBe 2 (a .failed) ++ toBe 4 (a .probes)

@@ -18,7 +18,7 @@ use Rattle.fields.specs.Bytes.{toBe}
 use Rattle.fields.specs.Got.{Got, refused, got}
 use Rattle.scene_records.specs.declared.SceneRead.{SceneRead}
 use Rattle.scene_records.specs.Records.{readAs}
-use Rattle.answer_records.specs.Answers.{answerBytes, refusalBytes, Written, written, laid}
+use Rattle.answer_records.specs.Answers.{longestAnswer, answerBytes, refusalBytes, Written, written, laid}
 use Rattle.records.specs.Answered.{Answered, answer, refusal, ofOutcome, ofReading, answered, laidAnswer, answerTo, replyBytes, replyTo}
 use Rattle.records.specs.Steps.{put, putAt}
 
@@ -41,13 +41,13 @@ read-solved (got s at) r e j = ap (λ (x : SceneRead). ofOutcome (sceneOutcome (
 -- ---- the first fault
 
 module _ (bytes buffer : List ℕ) where
-  pub no-room : length buffer < 18 → written (fault 10) buffer ≡ answerTo bytes buffer
+  pub no-room : length buffer < longestAnswer → written (fault 10) buffer ≡ answerTo bytes buffer
   unfolding answerTo if_then_else_
-  no-room h = rw (lt-leb 18 (length buffer) h)
+  no-room h = rw (lt-leb longestAnswer (length buffer) h)
 
-  pub some-room : 18 ≤ length buffer → answerTo bytes buffer ≡ laidAnswer (answered bytes) buffer
+  pub some-room : longestAnswer ≤ length buffer → answerTo bytes buffer ≡ laidAnswer (answered bytes) buffer
   unfolding answerTo if_then_else_
-  some-room h = rw (le-leb 18 (length buffer) h)
+  some-room h = rw (le-leb longestAnswer (length buffer) h)
 
 -- ---- the reply's bytes
 
@@ -55,14 +55,14 @@ pub laid-there : (bytes out : List ℕ) → length bytes ≤ length out → laid
 unfolding laid if_then_else_
 laid-there bytes out h = rw (le-leb (length bytes) (length out) h)
 
-laid-outcome : (a : Answered) (out l : List ℕ) → 18 ≤ length out → written fine l ≡ laidAnswer a out → put 18 l ≡ putAt 0 (replyBytes a) out
+laid-outcome : (a : Answered) (out l : List ℕ) → longestAnswer ≤ length out → written fine l ≡ laidAnswer a out → put longestAnswer l ≡ putAt 0 (replyBytes a) out
 unfolding answerBytes toBe
-laid-outcome (answer a) out l h e = ap (λ (w : Written). put 18 (w .contents)) (e ∙ laid-there (answerBytes a) out h)
+laid-outcome (answer a) out l h e = ap (λ (w : Written). put longestAnswer (w .contents)) (e ∙ laid-there (answerBytes a) out h)
 laid-outcome (refusal r) out l h e =
     let z : _≡_ {A = Fault} fine (fault r) = ap (λ (w : Written). w .told) e in
     absurd (let y : _≡_ {A = ℕ} 0 1 = cc in omega arith)
 
-laid-refusal : (a : Answered) (n : ℕ) (f : Fault) (out l m : List ℕ) → 18 ≤ length out → written (fault n) l ≡ laidAnswer a out → written f m ≡ laid (refusalBytes n) l → put 4 m ≡ putAt 0 (replyBytes a) out
+laid-refusal : (a : Answered) (n : ℕ) (f : Fault) (out l m : List ℕ) → longestAnswer ≤ length out → written (fault n) l ≡ laidAnswer a out → written f m ≡ laid (refusalBytes n) l → put 4 m ≡ putAt 0 (replyBytes a) out
 unfolding answerBytes refusalBytes toBe
 laid-refusal (answer a) n f out l m h e w =
     let z : _≡_ {A = Fault} (fault n) fine = ap (λ (x : Written). x .told) (e ∙ laid-there (answerBytes a) out h) in
@@ -73,8 +73,8 @@ laid-refusal (refusal r) n f out l m h e w =
     let room : 4 ≤ length l = rw same (omega arith) in
     rw (← number, ← same) (ap (λ (x : Written). put 4 (x .contents)) (w ∙ laid-there (refusalBytes n) l room))
 
-module _ (bytes out l : List ℕ) (h : 18 ≤ length out) where
-  pub replied : written fine l ≡ answerTo bytes out → put 18 l ≡ putAt 0 (replyTo bytes) out
+module _ (bytes out l : List ℕ) (h : longestAnswer ≤ length out) where
+  pub replied : written fine l ≡ answerTo bytes out → put longestAnswer l ≡ putAt 0 (replyTo bytes) out
   unfolding replyTo
   replied e = laid-outcome (answered bytes) out l h (e ∙ some-room bytes out h)
 
@@ -100,7 +100,7 @@ answer-untouched (refusal r) buffer = told-untouched r buffer
 
 answered-untouched : (bytes buffer : List ℕ) → Untouched buffer (answerTo bytes buffer)
 unfolding answerTo
-answered-untouched bytes buffer = if-all (Untouched buffer) (leb 18 (length buffer)) (answer-untouched (answered bytes) buffer) (told-untouched 10 buffer)
+answered-untouched bytes buffer = if-all (Untouched buffer) (leb longestAnswer (length buffer)) (answer-untouched (answered bytes) buffer) (told-untouched 10 buffer)
 
 -- Where a record is refused, the buffer holds what it held.
 pub refused-untouched : (bytes buffer : List ℕ) (n : ℕ) → answerTo bytes buffer .told ≡ fault n → answerTo bytes buffer .contents ≡ buffer

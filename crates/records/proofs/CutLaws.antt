@@ -32,9 +32,9 @@ module _ (b a : List ℕ) (skip : ℕ) where
         let more : k ≤ length (a ++ b) = rw length-append (omega arith) in
         behind-cut k [] (skip - k) (worked room (skip - k) (drop k a)) (skip-some skip k (a ++ b) one fits more ∙ rw (drop-append-le k a b there)) (next k one there room (skip - k))
     part-cut (overlong n) (names z two far e) =
-        behind-cut 2 (refusalBytes 4) n (worked (less room 4) n (drop 2 a))
+        behind-cut 2 (refusalBytes 4) n (worked (less room (length (refusalBytes 4))) n (drop 2 a))
         (work-freely skip (a ++ b) ∙ rw (overlong-stays skip a b (names z two far e), drop-append-le 2 a b two))
-        (next 2 (omega arith) two (less room 4) n)
+        (next 2 (omega arith) two (less room (length (refusalBytes 4))) n)
     part-cut (whole k) (holds z two near there e) =
         let left = less room (length (replyTo (take k a))) in
         behind-cut k (replyTo (take k a)) 0 (worked left 0 (drop k a))

@@ -14,7 +14,7 @@ use Rattle.fields.specs.Got.{Got, refused, got}
 use Rattle.fields.proofs.Spans.{word-fits}
 use Rattle.scene_records.specs.Records.{sceneIn}
 use Rattle.scene_records.proofs.Taken.{number-taken, vector-taken, cart-taken, fields-taken, scene-taken}
-use Rattle.answer_records.specs.Answers.{refusalBytes}
+use Rattle.answer_records.specs.Answers.{longestAnswer, refusalBytes}
 use Rattle.records.specs.Answered.{ofOutcome, ofReading, answered, replyBytes, replyTo}
 use Rattle.records.specs.Parts.{Part, skipped, overlong, whole, cutShort, partIn}
 use Rattle.records.specs.Streams.{unlimited, bytes, onward, worked}
@@ -48,8 +48,8 @@ reply-sparing b h = reading-sparing b (sceneIn b) refl h
 
 -- ---- room enough
 
-part-free : (n skip : ℕ) (l : List ℕ) (q : Part) → Lies skip l q → 2 * length l + 18 ≤ n →
-    ((k : ℕ) → 1 ≤ k → k ≤ length l → (m s : ℕ) → 2 * length (drop k l) + 18 ≤ m → worked (bytes m) s (drop k l) ≡ worked unlimited s (drop k l)) →
+part-free : (n skip : ℕ) (l : List ℕ) (q : Part) → Lies skip l q → 2 * length l + longestAnswer ≤ n →
+    ((k : ℕ) → 1 ≤ k → k ≤ length l → (m s : ℕ) → 2 * length (drop k l) + longestAnswer ≤ m → worked (bytes m) s (drop k l) ≡ worked unlimited s (drop k l)) →
     onward worked (bytes n) skip l q ≡ onward worked unlimited skip l q
 unfolding refusalBytes toBe
 part-free n skip l (skipped k) (skips one fits there) h next = rw (next k one there n (skip - k) (rw length-drop (omega arith)))
@@ -61,9 +61,9 @@ part-free n skip l (whole k) (holds z two near there e) h next =
 part-free n skip l cutShort (none few) h next = refl
 
 -- With two bytes of output for each of the input and 18 more, the work is that with unlimited room.
-pub room-enough : (n skip : ℕ) (l : List ℕ) → 2 * length l + 18 ≤ n → worked (bytes n) skip l ≡ worked unlimited skip l
+pub room-enough : (n skip : ℕ) (l : List ℕ) → 2 * length l + longestAnswer ≤ n → worked (bytes n) skip l ≡ worked unlimited skip l
 unfolding if_then_else_
 room-enough n skip l =
-    by-parts (λ (l : List ℕ). (n skip : ℕ) → 2 * length l + 18 ≤ n → worked (bytes n) skip l ≡ worked unlimited skip l)
-    (λ l next n skip h. work-on (bytes n) skip l ∙ rw (le-leb 18 n (omega arith), part-free n skip l (partIn skip l) (lies skip l) h next) (sym (work-freely skip l)))
+    by-parts (λ (l : List ℕ). (n skip : ℕ) → 2 * length l + longestAnswer ≤ n → worked (bytes n) skip l ≡ worked unlimited skip l)
+    (λ l next n skip h. work-on (bytes n) skip l ∙ rw (le-leb longestAnswer n (omega arith), part-free n skip l (partIn skip l) (lies skip l) h next) (sym (work-freely skip l)))
     l n skip

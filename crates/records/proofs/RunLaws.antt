@@ -27,7 +27,7 @@ behind-within k x l w h v = record { fits = let f : w .used ≤ length l - k = r
 part-within : (room : Room) (skip : ℕ) (l : List ℕ) (q : Part) → Lies skip l q → ((k : ℕ) → 1 ≤ k → k ≤ length l → (r : Room) (s : ℕ) → Within (drop k l) (worked r s (drop k l))) →
     Within l (onward worked room skip l q)
 part-within room skip l (skipped k) (skips one fits there) next = behind-within k [] l _ there (next k one there room (skip - k))
-part-within room skip l (overlong n) (names z two far e) next = behind-within 2 (refusalBytes 4) l _ two (next 2 (omega arith) two (less room 4) n)
+part-within room skip l (overlong n) (names z two far e) next = behind-within 2 (refusalBytes 4) l _ two (next 2 (omega arith) two (less room (length (refusalBytes 4))) n)
 part-within room skip l (whole k) (holds z two near there e) next = behind-within k (replyTo (take k l)) l _ there (next k (omega arith) there (less room (length (replyTo (take k l)))) 0)
 part-within room skip l cutShort (none few) next = record { fits = omega arith }
 

@@ -11,7 +11,7 @@ use borrow.Rule.Slice.PartMut.{putMid, postOf}
 use Rattle.arithmetic.specs.Binary32.{if_then_else_}
 use Rattle.admission.specs.Faults.{Fault}
 use Rattle.fields.specs.Bytes.{toBe}
-use Rattle.answer_records.specs.Answers.{answerBytes, refusalBytes, Written, written, laid}
+use Rattle.answer_records.specs.Answers.{longestAnswer, answerBytes, refusalBytes, Written, written, laid}
 use Rattle.records.specs.declared.Place.{Place}
 use Rattle.records.specs.declared.Part.{Part as PartCode}
 use Rattle.records.specs.declared.Part.the-variants as code
@@ -35,26 +35,26 @@ put-behind n bytes out part h e =
 
 -- ---- replies
 
-pub reply-bytes : (a : Answered) → length (replyBytes a) ≤ 18
+pub reply-bytes : (a : Answered) → length (replyBytes a) ≤ longestAnswer
 unfolding answerBytes refusalBytes toBe
 reply-bytes (answer a) = omega arith
 reply-bytes (refusal r) = omega arith
 
-pub reply-length : (bytes : List ℕ) → length (replyTo bytes) ≤ 18
+pub reply-length : (bytes : List ℕ) → length (replyTo bytes) ≤ longestAnswer
 unfolding replyTo
 reply-length bytes = reply-bytes (answered bytes)
 
 -- ---- steps
 
 module _ (s out : List ℕ) (p : Place) where
-  pub no-room : length out - p .put < 18 → stops out ≡ stepOver s out p
+  pub no-room : length out - p .put < longestAnswer → stops out ≡ stepOver s out p
   unfolding stepOver if_then_else_
-  no-room h = rw (lt-leb 18 (length out - p .put) h)
+  no-room h = rw (lt-leb longestAnswer (length out - p .put) h)
 
-  module _ (room : 18 ≤ length out - p .put) (q : PartCode) (there : partOf q ≡ partIn (p .skip) (take (length s - p .used) (drop (p .used) s))) where
+  module _ (room : longestAnswer ≤ length out - p .put) (q : PartCode) (there : partOf q ≡ partIn (p .skip) (take (length s - p .used) (drop (p .used) s))) where
     by-part : stepOver s out p ≡ stepBy s out p (partOf q)
     unfolding stepOver if_then_else_
-    by-part = rw (le-leb 18 (length out - p .put) room, there, rest-of (p .used) s)
+    by-part = rw (le-leb longestAnswer (length out - p .put) room, there, rest-of (p .used) s)
 
     known : Lies (p .skip) (drop (p .used) s) (partOf q)
     known = rw (there, rest-of (p .used) s) (lies (p .skip) (drop (p .used) s))

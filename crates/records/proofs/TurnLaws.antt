@@ -11,7 +11,7 @@ use borrow.Author.Tests.{leb-true, le-leb}
 use Rattle.arithmetic.specs.Binary32.{if_then_else_}
 use Rattle.arithmetic.proofs.Choice.{if-case}
 use Rattle.fields.specs.Bytes.{toBe}
-use Rattle.answer_records.specs.Answers.{refusalBytes}
+use Rattle.answer_records.specs.Answers.{longestAnswer, refusalBytes}
 use Rattle.records.specs.declared.Place.{Place}
 use Rattle.records.specs.Answered.{replyTo}
 use Rattle.records.specs.Parts.{Part, skipped, overlong, whole, cutShort, partIn}
@@ -53,9 +53,9 @@ module _ (n : ℕ) (r out : List ℕ) (h : n + length r ≤ length out) where
   put-behind : drop (n + length r) (putAt n r out .contents) ≡ drop (n + length r) out
   put-behind = drop-at (take n out ++ r) (drop (n + length r) out) (n + length r) front
 
-module _ (s out : List ℕ) (p : Place) (room : 18 ≤ length out - p .put) (ahead : p .used ≤ length s) where
+module _ (s out : List ℕ) (p : Place) (room : longestAnswer ≤ length out - p .put) (ahead : p .used ≤ length s) where
   -- an answer of at most 18 bytes to k bytes
-  answered-turn : (k skip : ℕ) (r : List ℕ) → 1 ≤ k → k ≤ length (drop (p .used) s) → length r ≤ 18 →
+  answered-turn : (k skip : ℕ) (r : List ℕ) → 1 ≤ k → k ≤ length (drop (p .used) s) → length r ≤ longestAnswer →
       worked (bytes (length out - p .put)) (p .skip) (drop (p .used) s) ≡ after k r (worked (bytes (length out - p .put - length r)) skip (drop k (drop (p .used) s))) →
       Turned s out p (placeAt (p .used + k) (putAt (p .put) r out) skip) (putAt (p .put) r out .contents)
   answered-turn k skip r one there short e =
@@ -97,7 +97,7 @@ module _ (s out : List ℕ) (p : Place) (room : 18 ≤ length out - p .put) (ahe
   module _ (q : Part) (e : partIn (p .skip) (drop (p .used) s) ≡ q) where
     with-part : worked (bytes (length out - p .put)) (p .skip) (drop (p .used) s) ≡ onward worked (bytes (length out - p .put)) (p .skip) (drop (p .used) s) q
     unfolding if_then_else_
-    with-part = work-on (bytes (length out - p .put)) (p .skip) (drop (p .used) s) ∙ rw (le-leb 18 (length out - p .put) room, e)
+    with-part = work-on (bytes (length out - p .put)) (p .skip) (drop (p .used) s) ∙ rw (le-leb longestAnswer (length out - p .put) room, e)
 
   by-part : (q : Part) → Lies (p .skip) (drop (p .used) s) q → partIn (p .skip) (drop (p .used) s) ≡ q → Does s out p (stepBy s out p q)
   unfolding refusalBytes toBe
@@ -109,8 +109,8 @@ module _ (s out : List ℕ) (p : Place) (room : 18 ≤ length out - p .put) (ahe
 pub does : (s out : List ℕ) (p : Place) → p .used ≤ length s → Does s out p (stepOver s out p)
 unfolding stepOver if_then_else_
 does s out p h =
-    if-case (Does s out p) (leb 18 (length out - p .put))
-    (λ room. by-part s out p (leb-true 18 (length out - p .put) room) h (partIn (p .skip) (drop (p .used) s)) (lies (p .skip) (drop (p .used) s)) refl)
+    if-case (Does s out p) (leb longestAnswer (length out - p .put))
+    (λ room. by-part s out p (leb-true longestAnswer (length out - p .put) room) h (partIn (p .skip) (drop (p .used) s)) (lies (p .skip) (drop (p .used) s)) refl)
     (λ full. halts (work-on (bytes (length out - p .put)) (p .skip) (drop (p .used) s) ∙ rw full))
 
 -- ---- the end of the loop

@@ -9,6 +9,7 @@ use lib.ListN.{length, take, drop, length-drop}
 use lib.Seq.{drop-drop}
 use native.Mathlib.Decide.{decLt}
 use Rattle.arithmetic.specs.Binary32.{if_then_else_}
+use Rattle.answer_records.specs.Answers.{refusalBytes}
 use Rattle.records.specs.Answered.{replyTo}
 use Rattle.records.specs.Parts.{Part, skipped, overlong, whole, cutShort, partIn}
 use Rattle.records.specs.Streams.{Room, unlimited, hasRoom, less, Worked, stopped, after, onward, parts, worked}
@@ -26,7 +27,7 @@ after-after j k x y w = rw (add-assoc, append-assoc)
 onward-agrees : (f g : Room → ℕ → List ℕ → Worked) (room : Room) (skip : ℕ) (l : List ℕ) (q : Part) → Lies skip l q →
     ((r : Room) (s k : ℕ) → 1 ≤ k → k ≤ length l → f r s (drop k l) ≡ g r s (drop k l)) → onward f room skip l q ≡ onward g room skip l q
 onward-agrees f g room skip l (skipped k) (skips a b c) same = rw (same room (skip - k) k a c)
-onward-agrees f g room skip l (overlong n) (names z two far e) same = rw (same (less room 4) n 2 (omega arith) two)
+onward-agrees f g room skip l (overlong n) (names z two far e) same = rw (same (less room (length (refusalBytes 4))) n 2 (omega arith) two)
 onward-agrees f g room skip l (whole k) (holds z two near there e) same = rw (same (less room (length (replyTo (take k l)))) 0 k (omega arith) there)
 onward-agrees f g room skip l cutShort (none few) same = refl
 

@@ -13,7 +13,7 @@ use Rattle.dodgy_2d.specs.Outcomes.{SceneOutcome, outcome, refusedScene, sceneO
 use Rattle.fields.specs.Got.{Got, refused, got}
 use Rattle.scene_records.specs.Records.{sceneIn}
 use Rattle.answer_records.specs.declared.Answer.{Answer}
-use Rattle.answer_records.specs.Answers.{answerBytes, refusalBytes, Written, written, laid}
+use Rattle.answer_records.specs.Answers.{longestAnswer, answerBytes, refusalBytes, Written, written, laid}
 
 -- what is answered to one record: an outcome, or the number of a refusal
 pub data Answered : Type 0 where
@@ -51,7 +51,7 @@ laidAnswer (refusal r) buffer = written (fault r) buffer
 
 -- "Record: 10;" comes first, then the record's own faults, then the scene's
 unfoldable pub answerTo : List ℕ → List ℕ → Written
-answerTo bytes buffer = if leb 18 (length buffer) then laidAnswer (answered bytes) buffer else written (fault 10) buffer
+answerTo bytes buffer = if leb longestAnswer (length buffer) then laidAnswer (answered bytes) buffer else written (fault 10) buffer
 
 -- "The program writes a refused scene as 00 02 01 and 128 + number."
 abbrev pub replyBytes : Answered → List ℕ

@@ -4,7 +4,7 @@ use mathlib.Core.List.{List, _++_}
 use lib.Dec.{leb}
 use lib.ListN.{length, take, drop}
 use Rattle.arithmetic.specs.Binary32.{if_then_else_}
-use Rattle.answer_records.specs.Answers.{refusalBytes}
+use Rattle.answer_records.specs.Answers.{longestAnswer, refusalBytes}
 use Rattle.records.specs.declared.Place.{Place}
 use Rattle.records.specs.declared.Step.{Step}
 use Rattle.records.specs.declared.Step.the-variants as step
@@ -44,6 +44,6 @@ stepBy s out p (skipped k) = goesWith (p .used + k) (put (p .put) out) (p .skip 
 stepBy s out p (overlong n) = goesWith (p .used + 2) (putAt (p .put) (refusalBytes 4) out) n
 stepBy s out p (whole k) = goesWith (p .used + k) (putAt (p .put) (replyTo (take k (drop (p .used) s))) out) 0
 
--- a part is worked where there is room for an answer of 18 bytes
+-- a part is worked where there is room for the longest answer
 unfoldable pub stepOver : List ℕ → List ℕ → Place → Stepped
-stepOver s out p = if leb 18 (length out - p .put) then stepBy s out p (partIn (p .skip) (drop (p .used) s)) else stops out
+stepOver s out p = if leb longestAnswer (length out - p .put) then stepBy s out p (partIn (p .skip) (drop (p .used) s)) else stops out

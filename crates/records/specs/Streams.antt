@@ -5,7 +5,7 @@ use mathlib.Core.List.{List, [], _∷_, _++_}
 use lib.Dec.{eqb, leb, ltb}
 use lib.ListN.{length, take, drop}
 use Rattle.arithmetic.specs.Binary32.{if_then_else_}
-use Rattle.answer_records.specs.Answers.{refusalBytes}
+use Rattle.answer_records.specs.Answers.{longestAnswer, refusalBytes}
 use Rattle.records.specs.declared.Place.{Place}
 use Rattle.records.specs.Answered.{replyTo}
 use Rattle.records.specs.Steps.{Put, put, putAt}
@@ -18,10 +18,10 @@ pub data Room : Type 0 where
   unlimited : Room
   bytes : ℕ → Room
 
--- a part is worked where there is room for an answer of 18 bytes
+-- a part is worked where there is room for the longest answer
 abbrev pub hasRoom : Room → Bool
 hasRoom unlimited = true
-hasRoom (bytes n) = leb 18 n
+hasRoom (bytes n) = leb longestAnswer n
 
 abbrev pub less : Room → ℕ → Room
 less unlimited k = unlimited
@@ -44,7 +44,7 @@ after k answer w = record { used = k + w .used; answers = answer ++ w .answers; 
 abbrev pub onward : (Room → ℕ → List ℕ → Worked) → Room → ℕ → List ℕ → Part → Worked
 onward next room skip s cutShort = stopped skip
 onward next room skip s (skipped k) = after k [] (next room (skip - k) (drop k s))
-onward next room skip s (overlong n) = after 2 (refusalBytes 4) (next (less room 4) n (drop 2 s))
+onward next room skip s (overlong n) = after 2 (refusalBytes 4) (next (less room (length (refusalBytes 4))) n (drop 2 s))
 onward next room skip s (whole k) = after k (replyTo (take k s)) (next (less room (length (replyTo (take k s)))) 0 (drop k s))
 
 -- at most so many parts

@@ -9,6 +9,7 @@ use answer_records::Answer;
 ghost use mathlib.Core.Path.{_≡_};
 ghost use Prim.Native.Nat.{_≤_};
 ghost use lib.ListN.{length};
+ghost use Rattle.answer_records.specs.Answers.{longestAnswer};
 ghost use Rattle.records.specs.Answered.{replyTo};
 ghost use Rattle.records.specs.Steps.{put, putAt, steppedOf, stepOver};
 
@@ -53,7 +54,7 @@ pub(crate) fn step(input: &[u8], output: &mut [u8], place: Place) -> Step
 
 // The answer to a whole record at the output's start, and how many bytes it has: 18 for an outcome, 4 for a refusal.
 fn reply(bytes: &[u8], output: &mut [u8]) -> usize
-    requires { ⌜ 18 ≤ length (now output) ⌝ }
+    requires { ⌜ longestAnswer ≤ length (now output) ⌝ }
     ensures { λ r. ⌜ put r (now (output .exit)) ≡ putAt 0 (replyTo (now (bytes .entry))) (now (output .entry)) ⌝ }
 {
     let judged = answer_record(bytes, output);
