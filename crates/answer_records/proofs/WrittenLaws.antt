@@ -4,8 +4,8 @@ use native.Mathlib.Omega.{arith}
 use native.Mathlib.Nat.{zero-add, div-one}
 use native.Mathlib.Numerals.{towards-suc}
 use mathlib.Core.Path.{_≡_}
-use mathlib.Core.List.{List}
-use lib.ListN.{length, set}
+use mathlib.Core.List.{List, _++_}
+use lib.ListN.{length, drop, set}
 use lib.Seq.{sets, sets-eq}
 use borrow.Author.Tests.{le-leb, lt-leb}
 use Rattle.arithmetic.specs.Binary32.{if_then_else_}
@@ -28,9 +28,12 @@ module _ (bytes l : List ℕ) where
   unfolding laid if_then_else_
   too-short h = rw (lt-leb (length bytes) (length l) h)
 
-  room : length bytes ≤ length l → written fine (sets l 0 bytes) ≡ laid bytes l
+  pub laid-there : length bytes ≤ length l → laid bytes l ≡ written fine (bytes ++ drop (length bytes) l)
   unfolding laid if_then_else_
-  room h = rw (le-leb (length bytes) (length l) h, sets-eq bytes l 0 (rw zero-add h), zero-add)
+  laid-there h = rw (le-leb (length bytes) (length l) h)
+
+  room : length bytes ≤ length l → written fine (sets l 0 bytes) ≡ laid bytes l
+  room h = rw (laid-there h, sets-eq bytes l 0 (rw zero-add h), zero-add)
 
 module _ (a : Answer) (l : List ℕ) where
   pub no-room : length l < longestAnswer → written (fault 10) l ≡ laid (answerBytes a) l

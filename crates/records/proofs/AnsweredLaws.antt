@@ -2,15 +2,15 @@
 use Prim.Native.Nat.{ℕ, _≤_, _<_}
 use native.Mathlib.Omega.{arith}
 use mathlib.Core.Path.{_≡_, refl, sym, ap, _∙_}
-use mathlib.Core.List.{List, _++_}
+use mathlib.Core.List.{List}
 use lib.Dec.{leb}
-use lib.ListN.{length, drop}
+use lib.ListN.{length}
 use borrow.Author.Tests.{le-leb, lt-leb}
 use Rattle.arithmetic.specs.Binary32.{if_then_else_}
 use Rattle.arithmetic.proofs.Choice.{if-all}
 use Rattle.admission.specs.declared.Judged.{Judged}
 use Rattle.admission.specs.declared.Judged.the-variants as judged
-use Rattle.admission.specs.Faults.{Fault, fine, fault}
+use Rattle.admission.specs.Faults.{Fault, fine, fault, faultOf}
 use Rattle.admission.proofs.FaultLaws.{no-fault}
 use Rattle.dodgy_2d.specs.declared.Scene.{Scene}
 use Rattle.dodgy_2d.specs.Outcomes.{sceneOutcome}
@@ -19,6 +19,7 @@ use Rattle.fields.specs.Got.{Got, refused, got}
 use Rattle.scene_records.specs.declared.SceneRead.{SceneRead}
 use Rattle.scene_records.specs.Records.{readAs}
 use Rattle.answer_records.specs.Answers.{longestAnswer, answerBytes, refusalBytes, Written, written, laid}
+use Rattle.answer_records.proofs.WrittenLaws.{laid-there}
 use Rattle.records.specs.Answered.{Answered, answer, refusal, ofOutcome, ofReading, answered, laidAnswer, answerTo, replyBytes, replyTo}
 use Rattle.records.specs.Steps.{put, putAt}
 
@@ -28,14 +29,10 @@ pub read-refused : (g : Got Scene) (r : SceneRead) (n : ℕ) → r ≡ readAs g 
 read-refused (refused m) r n e j =
     let z : _≡_ {A = Judged} (judged.Fault m) (judged.Fault n) = sym (ap (λ (x : SceneRead). x .judged) e) ∙ j in
     cc
-read-refused (got s at) r n e j =
-    let z : _≡_ {A = Judged} judged.Fine (judged.Fault n) = sym (ap (λ (x : SceneRead). x .judged) e) ∙ j in
-    absurd (let y : _≡_ {A = ℕ} 0 1 = cc in omega arith)
+read-refused (got s at) r n e j = absurd (no-fault n (ap faultOf (sym (ap (λ (x : SceneRead). x .judged) e) ∙ j)))
 
 pub read-solved : (g : Got Scene) (r : SceneRead) → r ≡ readAs g → r .judged ≡ judged.Fine → ofReading g ≡ ofOutcome (sceneOutcome (r .scene))
-read-solved (refused m) r e j =
-    let z : _≡_ {A = Judged} (judged.Fault m) judged.Fine = sym (ap (λ (x : SceneRead). x .judged) e) ∙ j in
-    absurd (let y : _≡_ {A = ℕ} 0 1 = cc in omega arith)
+read-solved (refused m) r e j = absurd (no-fault m (ap faultOf (sym j ∙ ap (λ (x : SceneRead). x .judged) e)))
 read-solved (got s at) r e j = ap (λ (x : SceneRead). ofOutcome (sceneOutcome (x .scene))) (sym e)
 
 -- ---- the first fault
@@ -51,22 +48,14 @@ module _ (bytes buffer : List ℕ) where
 
 -- ---- the reply's bytes
 
-pub laid-there : (bytes out : List ℕ) → length bytes ≤ length out → laid bytes out ≡ written fine (bytes ++ drop (length bytes) out)
-unfolding laid if_then_else_
-laid-there bytes out h = rw (le-leb (length bytes) (length out) h)
-
 laid-outcome : (a : Answered) (out l : List ℕ) → longestAnswer ≤ length out → written fine l ≡ laidAnswer a out → put longestAnswer l ≡ putAt 0 (replyBytes a) out
 unfolding answerBytes toBe
 laid-outcome (answer a) out l h e = ap (λ (w : Written). put longestAnswer (w .contents)) (e ∙ laid-there (answerBytes a) out h)
-laid-outcome (refusal r) out l h e =
-    let z : _≡_ {A = Fault} fine (fault r) = ap (λ (w : Written). w .told) e in
-    absurd (let y : _≡_ {A = ℕ} 0 1 = cc in omega arith)
+laid-outcome (refusal r) out l h e = absurd (no-fault r (ap (λ (w : Written). w .told) e))
 
 laid-refusal : (a : Answered) (n : ℕ) (f : Fault) (out l m : List ℕ) → longestAnswer ≤ length out → written (fault n) l ≡ laidAnswer a out → written f m ≡ laid (refusalBytes n) l → put 4 m ≡ putAt 0 (replyBytes a) out
 unfolding answerBytes refusalBytes toBe
-laid-refusal (answer a) n f out l m h e w =
-    let z : _≡_ {A = Fault} (fault n) fine = ap (λ (x : Written). x .told) (e ∙ laid-there (answerBytes a) out h) in
-    absurd (let y : _≡_ {A = ℕ} 0 1 = cc in omega arith)
+laid-refusal (answer a) n f out l m h e w = absurd (no-fault n (sym (ap (λ (x : Written). x .told) (e ∙ laid-there (answerBytes a) out h))))
 laid-refusal (refusal r) n f out l m h e w =
     let number : n ≡ r = (let z : _≡_ {A = Fault} (fault n) (fault r) = ap (λ (x : Written). x .told) e in cc) in
     let same : l ≡ out = ap (λ (x : Written). x .contents) e in

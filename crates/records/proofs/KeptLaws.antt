@@ -12,7 +12,8 @@ use lib.Seq.{take-suc, take-at, drop-at, drop-drop, getD-drop, getD-append-add, 
 use borrow.Author.Tests.{eq-eqb, ne-eqb, le-leb, leb-true}
 use Rattle.arithmetic.specs.Binary32.{if_then_else_}
 use Rattle.arithmetic.proofs.Choice.{if-case}
-use Rattle.admission.specs.Faults.{Fault, fine, fault}
+use Rattle.admission.specs.Faults.{fine, fault}
+use Rattle.admission.proofs.FaultLaws.{no-fault}
 use Rattle.fields.specs.Bytes.{toBe}
 use Rattle.answer_records.specs.Answers.{refusalBytes, Written, written, laid}
 use Rattle.records.specs.Steps.{Put, put}
@@ -44,15 +45,11 @@ module _ (from i : ℕ) (l : List ℕ) (fits : from + suc i ≤ length l) where
 told-fine : (b : Bool) (n : ℕ) (l held out : List ℕ) → written fine l ≡ (if b then written fine held else written (fault 10) out) → put n l ≡ (if b then put n held else put 0 out)
 unfolding if_then_else_
 told-fine true n l held out e = ap (λ (w : Written). put n (w .contents)) e
-told-fine false n l held out e =
-    let z : _≡_ {A = Fault} fine (fault 10) = ap (λ (w : Written). w .told) e in
-    absurd (let y : _≡_ {A = ℕ} 0 1 = cc in omega arith)
+told-fine false n l held out e = absurd (no-fault 10 (ap (λ (w : Written). w .told) e))
 
 told-fault : (b : Bool) (n r : ℕ) (l held out : List ℕ) → written (fault r) l ≡ (if b then written fine held else written (fault 10) out) → put 0 l ≡ (if b then put n held else put 0 out)
 unfolding if_then_else_
-told-fault true n r l held out e =
-    let z : _≡_ {A = Fault} (fault r) fine = ap (λ (w : Written). w .told) e in
-    absurd (let y : _≡_ {A = ℕ} 0 1 = cc in omega arith)
+told-fault true n r l held out e = absurd (no-fault r (sym (ap (λ (w : Written). w .told) e)))
 told-fault false n r l held out e = ap (λ (w : Written). put 0 (w .contents)) e
 
 module _ (left : ℕ) (out : List ℕ) where

@@ -12,13 +12,13 @@ use Rattle.arithmetic.specs.Binary32.{if_then_else_}
 use Rattle.admission.specs.Faults.{Fault}
 use Rattle.fields.specs.Bytes.{toBe}
 use Rattle.answer_records.specs.Answers.{longestAnswer, answerBytes, refusalBytes, Written, written, laid}
+use Rattle.answer_records.proofs.WrittenLaws.{laid-there}
 use Rattle.records.specs.declared.Place.{Place}
 use Rattle.records.specs.declared.Part.{Part as PartCode}
 use Rattle.records.specs.declared.Part.the-variants as code
 use Rattle.records.specs.Answered.{Answered, answer, refusal, answered, replyBytes, replyTo}
 use Rattle.records.specs.Parts.{partOf, partIn}
 use Rattle.records.specs.Steps.{Put, put, putAt, goesOn, stops, stepBy, stepOver}
-use Rattle.records.proofs.AnsweredLaws.{laid-there}
 use Rattle.records.proofs.PartLaws.{Lies, lies, skip-lies, hold-lies}
 
 -- ---- parts of lists
@@ -26,9 +26,9 @@ use Rattle.records.proofs.PartLaws.{Lies, lies, skip-lies, hold-lies}
 rest-of : (n : ℕ) (l : List ℕ) → take (length l - n) (drop n l) ≡ drop n l
 rest-of n l = take-all (length l - n) (drop n l) (rw length-drop (omega arith))
 
-put-behind : (n : ℕ) (bytes out part : List ℕ) → n ≤ length out → part ≡ bytes ++ drop (length bytes) (drop n out) →
+put-in-part : (n : ℕ) (bytes out part : List ℕ) → n ≤ length out → part ≡ bytes ++ drop (length bytes) (drop n out) →
     putMid n (length out - n) out part ≡ take n out ++ bytes ++ drop (n + length bytes) out
-put-behind n bytes out part h e =
+put-in-part n bytes out part h e =
     let short : length (drop n out) ≤ length out - n = rw length-drop (omega arith) in
     let none : postOf n (length out - n) out ≡ [] = drop-of-length-le (drop n out) short in
     rw (none, append-nil, e, drop-drop) (sym (append-assoc (take n out) bytes (drop (n + length bytes) out)))
@@ -76,7 +76,7 @@ module _ (s out : List ℕ) (p : Place) where
       overlong-step f part h w =
           let w′ : written f part ≡ laid (refusalBytes 4) (drop (p .put) out) = rw (rest-of (p .put) out) at w in
           let held = ap (λ (x : Written). x .contents) (w′ ∙ laid-there (refusalBytes 4) (drop (p .put) out) (rw length-drop (omega arith))) in
-          rw (put-behind (p .put) (refusalBytes 4) out part h held) (sym (rw e at by-part))
+          rw (put-in-part (p .put) (refusalBytes 4) out part h held) (sym (rw e at by-part))
 
     module _ (k : ℕ) (e : q ≡ code.Whole k) where
       pub whole-step : (r : ℕ) (part : List ℕ) → p .put ≤ length out →
@@ -88,7 +88,7 @@ module _ (s out : List ℕ) (p : Place) where
           let w′ : put r part ≡ putAt 0 reply (drop (p .put) out) = rw (count, rest-of (p .put) out) at w in
           let long : r ≡ length reply = rw zero-add at (ap (λ (x : Put). x .count) w′) in
           let held : part ≡ reply ++ drop (length reply) (drop (p .put) out) = rw zero-add at (ap (λ (x : Put). x .contents) w′) in
-          rw (put-behind (p .put) reply out part h held, long) (sym (rw e at by-part))
+          rw (put-in-part (p .put) reply out part h held, long) (sym (rw e at by-part))
 
       pub whole-fits : (2 ≤ k) × (k ≤ length s - p .used)
       whole-fits = rw length-drop at (hold-lies (rw e at known))
