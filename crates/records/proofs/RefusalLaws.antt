@@ -146,15 +146,16 @@ unfolding admitted
 admitted-numbered nothing ls = lined
 admitted-numbered (made l) ls = fault-numbered (lineFault l) l ls
 
-add-numbered : (agent : Agent) (kind n : ℕ) (vs : List Vec2) (margin horizon : Float) (a : Answer) (i : ℕ) → NumberedLines a → NumberedLines (addEdge agent kind n vs margin horizon a i)
-unfolding addEdge
-add-numbered agent kind n vs margin horizon (lines ls) i h = admitted-numbered _ ls
-add-numbered agent kind n vs margin horizon (walls.refused r) i h = h
+module _ (agent : Agent) (kind n : ℕ) (vs : List Vec2) (margin horizon : Float) where
+  add-numbered : (a : Answer) (i : ℕ) → NumberedLines a → NumberedLines (addEdge agent kind n vs margin horizon a i)
+  unfolding addEdge
+  add-numbered (lines ls) i h = admitted-numbered _ ls
+  add-numbered (walls.refused r) i h = h
 
-edges-numbered : (agent : Agent) (kind n : ℕ) (vs : List Vec2) (margin horizon : Float) (k : ℕ) → NumberedLines (linesUpTo agent kind n vs margin horizon k)
-unfolding linesUpTo
-edges-numbered agent kind n vs margin horizon zero = lined
-edges-numbered agent kind n vs margin horizon (suc k) = add-numbered agent kind n vs margin horizon _ k (edges-numbered agent kind n vs margin horizon k)
+  edges-numbered : (k : ℕ) → NumberedLines (linesUpTo agent kind n vs margin horizon k)
+  unfolding linesUpTo
+  edges-numbered zero = lined
+  edges-numbered (suc k) = add-numbered _ k (edges-numbered k)
 
 -- a rule with such a number, then an answer
 must-numbered : (b : Bool) (r : ℕ) (f : Fault) (a : Answer) → Numbered r → NumberedLines (f orRefused a) → NumberedLines ((must b r ⊳ f) orRefused a)

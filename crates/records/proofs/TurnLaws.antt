@@ -21,9 +21,13 @@ use Rattle.records.proofs.PartLaws.{Lies, skips, names, holds, none, li
 use Rattle.records.proofs.StepLaws.{reply-length}
 use Rattle.records.proofs.WorkLaws.{after-nothing, after-after, work-on}
 
+-- the work that is left at a place
+abbrev pub leftAt : List ℕ → List ℕ → Place → Worked
+leftAt s out p = worked (bytes (length out - p .put)) (p .skip) (drop (p .used) s)
+
 -- what is done at a place, and the work that is left there
 abbrev pub doneAt : List ℕ → List ℕ → Place → Worked
-doneAt s out p = after (p .used) (take (p .put) out) (worked (bytes (length out - p .put)) (p .skip) (drop (p .used) s))
+doneAt s out p = after (p .used) (take (p .put) out) (leftAt s out p)
 
 -- a part was worked: the place moves on, bytes behind the answers stay, and with the work that is left it comes to the same
 pub record Turned (s out : List ℕ) (p next : Place) (held : List ℕ) : Type 0 where
@@ -37,7 +41,7 @@ pub record Turned (s out : List ℕ) (p next : Place) (held : List ℕ) : Type 0
 
 pub data Does (s out : List ℕ) (p : Place) : Stepped → Type 0 where
   turns : {next : Place} {held : List ℕ} → Turned s out p next held → Does s out p (goesOn next held)
-  halts : worked (bytes (length out - p .put)) (p .skip) (drop (p .used) s) ≡ stopped (p .skip) → Does s out p (stops out)
+  halts : leftAt s out p ≡ stopped (p .skip) → Does s out p (stops out)
 
 -- bytes put behind the n that stand
 module _ (n : ℕ) (r out : List ℕ) (h : n + length r ≤ length out) where
@@ -56,7 +60,7 @@ module _ (n : ℕ) (r out : List ℕ) (h : n + length r ≤ length out) where
 module _ (s out : List ℕ) (p : Place) (room : longestAnswer ≤ length out - p .put) (ahead : p .used ≤ length s) where
   -- an answer of at most 18 bytes to k bytes
   answered-turn : (k skip : ℕ) (r : List ℕ) → 1 ≤ k → k ≤ length (drop (p .used) s) → length r ≤ longestAnswer →
-      worked (bytes (length out - p .put)) (p .skip) (drop (p .used) s) ≡ after k r (worked (bytes (length out - p .put - length r)) skip (drop k (drop (p .used) s))) →
+      leftAt s out p ≡ after k r (worked (bytes (length out - p .put - length r)) skip (drop k (drop (p .used) s))) →
       Turned s out p (placeAt (p .used + k) (putAt (p .put) r out) skip) (putAt (p .put) r out .contents)
   answered-turn k skip r one there short e =
       let inner : k ≤ length s - p .used = rw length-drop at there in
@@ -80,7 +84,7 @@ module _ (s out : List ℕ) (p : Place) (room : longestAnswer ≤ length out - p
 
   -- bytes skipped
   skipped-turn : (k : ℕ) → 1 ≤ k → k ≤ length (drop (p .used) s) →
-      worked (bytes (length out - p .put)) (p .skip) (drop (p .used) s) ≡ after k [] (worked (bytes (length out - p .put)) (p .skip - k) (drop k (drop (p .used) s))) →
+      leftAt s out p ≡ after k [] (worked (bytes (length out - p .put)) (p .skip - k) (drop k (drop (p .used) s))) →
       Turned s out p (placeAt (p .used + k) (put (p .put) out) (p .skip - k)) out
   skipped-turn k one there e =
       let inner : k ≤ length s - p .used = rw length-drop at there in
@@ -95,7 +99,7 @@ module _ (s out : List ℕ) (p : Place) (room : longestAnswer ≤ length out - p
       }
 
   module _ (q : Part) (e : partIn (p .skip) (drop (p .used) s) ≡ q) where
-    with-part : worked (bytes (length out - p .put)) (p .skip) (drop (p .used) s) ≡ onward worked (bytes (length out - p .put)) (p .skip) (drop (p .used) s) q
+    with-part : leftAt s out p ≡ onward worked (bytes (length out - p .put)) (p .skip) (drop (p .used) s) q
     unfolding if_then_else_
     with-part = work-on (bytes (length out - p .put)) (p .skip) (drop (p .used) s) ∙ rw (le-leb longestAnswer (length out - p .put) room, e)
 
@@ -122,7 +126,7 @@ drop-more m n a b h e =
 
 -- where nothing is left to work, what was done is what the whole work comes to
 finished : (s out held : List ℕ) (skip : ℕ) (p : Place) → p .put ≤ length held → drop (p .put) held ≡ drop (p .put) out → worked (bytes (length out)) skip s ≡ doneAt s held p →
-    worked (bytes (length held - p .put)) (p .skip) (drop (p .used) s) ≡ stopped (p .skip) → standing p held ≡ workedOver s out skip
+    leftAt s held p ≡ stopped (p .skip) → standing p held ≡ workedOver s out skip
 unfolding workedOver
 finished s out held skip p fits behind same nothing =
     let all : worked (bytes (length out)) skip s ≡ record { used = p .used; answers = take (p .put) held; skip = p .skip } =
@@ -154,7 +158,7 @@ module _ (s out : List ℕ) (skip : ℕ) (held : List ℕ) (p : Place) (g : Goin
   turned-by : {next : Place} {l : List ℕ} → Does s held p (goesOn next l) → Turned s held p next l
   turned-by (turns t) = t
 
-  halted-by : {l : List ℕ} → Does s held p (stops l) → (l ≡ held) × (worked (bytes (length held - p .put)) (p .skip) (drop (p .used) s) ≡ stopped (p .skip))
+  halted-by : {l : List ℕ} → Does s held p (stops l) → (l ≡ held) × (leftAt s held p ≡ stopped (p .skip))
   halted-by (halts e) = (refl, e)
 
   pub turn : (next : Place) (l : List ℕ) → goesOn next l ≡ stepOver s held p → Turned s held p next l
