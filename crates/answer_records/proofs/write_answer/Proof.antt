@@ -23,16 +23,34 @@ put-word-requires : tie.Need-put-word-requires
 put-word-requires c κs = simp length-set (omega arith)
 
 put-word-requires-2 : tie.Need-put-word-requires-2
-put-word-requires-2 c κs = omega (arith, simp length-set at (c .before .before .before .put-word .kept .0), c .before .before .before .before .before .before .before .put-pair .kept .0, c .before .before .before .before .before .before .before .before .before .if1 .left)
+put-word-requires-2 c κs =
+    let first = c .before .before .before in
+    let named = first .before .before .before .before in
+    omega (arith, simp length-set at (first .put-word .kept .0), named .put-pair .kept .0, named .before .before .if1 .left)
 
 put-pair-requires-2 : tie.Need-put-pair-requires-2
-put-pair-requires-2 c κs = omega (arith, c .before .before .before .put-word2 .kept .0, simp length-set at (c .before .before .before .before .before .before .before .put-word .kept .0), c .before .before .before .before .before .before .before .before .before .before .before .put-pair .kept .0, c .before .before .before .before .before .before .before .before .before .before .before .before .before .if1 .left)
+put-pair-requires-2 c κs =
+    let second = c .before .before .before in
+    let first = second .before .before .before .before in
+    let named = first .before .before .before .before in
+    omega (arith, second .put-word2 .kept .0, simp length-set at (first .put-word .kept .0), named .put-pair .kept .0, named .before .before .if1 .left)
 
 put-word-requires-3 : tie.Need-put-word-requires-3
-put-word-requires-3 c κs = omega (arith, c .before .before .before .put-pair2 .kept .0, c .before .before .before .before .before .before .before .put-word2 .kept .0, simp length-set at (c .before .before .before .before .before .before .before .before .before .before .before .put-word .kept .0), c .before .before .before .before .before .before .before .before .before .before .before .before .before .before .before .put-pair .kept .0, c .before .before .before .before .before .before .before .before .before .before .before .before .before .before .before .before .before .if1 .left)
+put-word-requires-3 c κs =
+    let failed = c .before .before .before in
+    let second = failed .before .before .before .before in
+    let first = second .before .before .before .before in
+    let named = first .before .before .before .before in
+    omega (arith, failed .put-pair2 .kept .0, second .put-word2 .kept .0, simp length-set at (first .put-word .kept .0), named .put-pair .kept .0, named .before .before .if1 .left)
 
 same-length : tie.Need-same-length
-same-length c = omega (arith, c .before .before .put-word3 .kept .0, c .before .before .before .before .before .before .put-pair2 .kept .0, c .before .before .before .before .before .before .before .before .before .before .put-word2 .kept .0, simp length-set at (c .before .before .before .before .before .before .before .before .before .before .before .before .before .before .put-word .kept .0), c .before .before .before .before .before .before .before .before .before .before .before .before .before .before .before .before .before .before .put-pair .kept .0)
+same-length c =
+    let probes = c .before .before in
+    let failed = probes .before .before .before .before in
+    let second = failed .before .before .before .before in
+    let first = second .before .before .before .before in
+    let named = first .before .before .before .before in
+    omega (arith, probes .put-word3 .kept .0, failed .put-pair2 .kept .0, second .put-word2 .kept .0, simp length-set at (first .put-word .kept .0), named .put-pair .kept .0)
 
 returns-2 : tie.Need-returns-2
 returns-2 c =
