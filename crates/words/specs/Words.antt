@@ -1,4 +1,4 @@
--- Big-endian words in a list of bytes. Definitions only. Assumes nothing.
+-- Big-endian words of four bytes and pairs of two in a list of bytes. Definitions only. Assumes nothing.
 use Prim.Native.Nat.{ℕ, _+_, _*_}
 use mathlib.Core.List.{List}
 use lib.ListN.{getD}

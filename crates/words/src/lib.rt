@@ -1,4 +1,4 @@
-// Big-endian words in lent bytes, and binary32 numbers by their pattern.
+// Big-endian words of four bytes and pairs of two in lent bytes, and binary32 numbers by their pattern.
 ghost use mathlib.Core.Path.{_≡_};
 ghost use Prim.Native.Nat.{_+_, _<_};
 ghost use lib.ListN.{getD};
