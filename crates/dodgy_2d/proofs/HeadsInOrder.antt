@@ -3,16 +3,16 @@ use Prim.Native.Nat.{ℕ, _+_, _*_, _≤_, _<_}
 use mathlib.Core.Path.{_≡_, sym, ap, _∙_}
 use mathlib.Core.List.{List, [], _∷_}
 use native.Mathlib.Omega.{arith}
-use lib.Dec.{leb}
 use lib.ListN.{length, take, drop, getD}
 use lib.Seq.{drop-drop, drop-at, take-add, length-take-le}
 use lib.Ieee.{Float}
-use borrow.Author.Tests.{leb-true}
-use Rattle.arithmetic.proofs.Choice.{and-left, and-right}
+use Rattle.admission.specs.declared.Head.{Head}
 use Rattle.admission.specs.Faults.{Fault, fine, fault, must, _⊳_}
+use Rattle.admission.specs.Heads.{headOf, isKind, roomFor}
 use Rattle.admission.proofs.FaultLaws.{⊳-fine, ⊳-assoc, must-fine}
+use Rattle.admission.proofs.HeadLaws.{room-within}
 use Rattle.lines.proofs.Fold.{left-next, left-none}
-use Rattle.dodgy_2d.specs.Scenes.{Head, headOf, headsOf, numbersFault, isKind, roomFor, headFault, obstaclesFault}
+use Rattle.dodgy_2d.specs.Scenes.{headsOf, numbersFault, headFault, obstaclesFault}
 
 -- ---- the heads from the i-th up to the n-th
 
@@ -32,12 +32,11 @@ module _ (ks cs : List ℕ) (n i : ℕ) (kinds : n ≤ length ks) (counts : n �
 
 -- a head that passes leaves room for its vertices
 pub head-room : (total : ℕ) (h : Head) → headFault total h ≡ fine → (h .count ≤ 64) × (total + h .count ≤ 192)
-unfolding headFault roomFor
+unfolding headFault
 head-room total h e =
     let a = ⊳-fine (must (isKind (h .kind)) 3) e in
     let b = ⊳-fine (must (roomFor total (h .count)) 4) (a .1) in
-    let c = must-fine (roomFor total (h .count)) 4 (b .0) in
-    (leb-true _ _ (and-left (leb (h .count) 64) (leb (total + h .count) 192) c), leb-true _ _ (and-right (leb (h .count) 64) (leb (total + h .count) 192) c))
+    room-within total (h .count) (must-fine (roomFor total (h .count)) 4 (b .0))
 
 -- the numbers of `count` vertices behind `total`
 pub part-of : (v : List Float) (total count : ℕ) → total + count ≤ 192 → length v ≡ 384 → drop (2 * total) (take (2 * (total + count)) v) ≡ take (2 * count) (drop (2 * total) v)

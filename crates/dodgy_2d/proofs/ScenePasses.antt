@@ -9,6 +9,7 @@ use lib.Seq.{paste, take-paste, length-paste-head, length-take-le}
 use lib.Ieee.{Float}
 use borrow.Author.Tests.{leb-true, le-leb}
 use Rattle.arithmetic.specs.Binary32.{0ᶠ}
+use Rattle.admission.specs.declared.Head.{Head}
 use Rattle.admission.specs.Faults.{fine, must, within, inside}
 use Rattle.admission.proofs.FaultLaws.{⊳-fine, must-fine}
 use Rattle.common.specs.declared.Vec2.{Vec2}
@@ -25,7 +26,7 @@ use Rattle.obstacles.specs.Obstacles.{Answer, lines, refused}
 use Rattle.obstacles.proofs.EdgesInOrder as edges
 use Rattle.obstacles.proofs.HandedOver.{call-sound, sound-admitted}
 use Rattle.dodgy_2d.specs.declared.Scene.{Scene}
-use Rattle.dodgy_2d.specs.Scenes.{Head, headsIn, neighboursIn, shortestHorizon, longestHorizon, numbersFault, vectorFault, agentFault, headFault, obstaclesFault, sceneFault}
+use Rattle.dodgy_2d.specs.Scenes.{headsIn, neighboursIn, shortestHorizon, longestHorizon, numbersFault, vectorFault, agentFault, headFault, obstaclesFault, sceneFault}
 use Rattle.dodgy_2d.specs.Outcomes.{joined, edgeLines, edgesAt, solvedOver, passAt}
 use Rattle.dodgy_2d.proofs.SceneFaults.{neighbours-there}
 use Rattle.dodgy_2d.proofs.HeadsInOrder.{head-room}

@@ -4,6 +4,7 @@ use mathlib.Core.List.{List, [], _∷_, _++_}
 use lib.ListN.{length}
 use lib.Ieee.{Float}
 use Rattle.arithmetic.specs.Binary32.{0ᶠ}
+use Rattle.admission.specs.declared.Head.{Head}
 use Rattle.admission.specs.Faults.{Fault, fine, fault}
 use Rattle.common.specs.declared.Vec2.{Vec2}
 use Rattle.common.specs.Vectors.{vec}
@@ -12,7 +13,7 @@ use Rattle.linear_programming.specs.Whole.{Failed, Outcome, stands, refusal, so
 use Rattle.obstacles.specs.declared.Agent.{Agent}
 use Rattle.obstacles.specs.Obstacles.{Answer, lines, refused, obstacleCall}
 use Rattle.dodgy_2d.specs.declared.Scene.{Scene}
-use Rattle.dodgy_2d.specs.Scenes.{Head, headsIn, neighboursIn, sceneFault}
+use Rattle.dodgy_2d.specs.Scenes.{headsIn, neighboursIn, sceneFault}
 
 -- the outcome 1 to 5, its velocity, the failed line of the last pass run and the probes of all passes; or the number of a refusal
 pub data SceneOutcome : Type 0 where

@@ -1,8 +1,8 @@
 // An obstacle's vertices, lent as numbers, two a vertex: which are convex, and the edge from each to the next.
 use crate::Edge;
 use crate::EdgeVertex;
-use crate::ObstacleLines;
 use crate::Outer;
+use admission::Head;
 use common::Vec2;
 ghost use mathlib.Core.Path.{_≡_};
 ghost use Prim.Native.Nat.{_+_, _*_, _/_, _<_};
@@ -54,7 +54,7 @@ fn is_end(kind: u8, count: usize, i: usize) -> bool
     requires { ⌜ i < count ⌝ }
     ensures { λ r. ⌜ r ≡ isEnd kind count i ⌝ }
 {
-    if kind != ObstacleLines::OPEN {
+    if kind != Head::OPEN {
         return false;
     }
     if i == 0 {
@@ -88,7 +88,7 @@ fn outer_vertex(kind: u8, vertices: &[f32], i: usize, end: usize, beyond: usize)
     requires { ⌜ beyond < length (now vertices) / 2 ⌝ }
     ensures { λ r. ⌜ neighbourOf r ≡ outerAt kind (verticesOf (now (vertices .entry))) i end beyond ⌝ }
 {
-    if kind != ObstacleLines::OPEN {
+    if kind != Head::OPEN {
         return Outer::At(vertex_at(vertices, beyond));
     }
     if i == end {

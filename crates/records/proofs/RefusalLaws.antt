@@ -2,13 +2,15 @@
 use Prim.Native.Nat.{ℕ, zero, suc, _+_, _-_, _/_, _≤_}
 use native.Mathlib.Omega.{arith}
 use mathlib.Core.Path.{_≡_, refl, sym, _∙_}
-use mathlib.Core.Bool.{Bool, true, false, not, _||_}
+use mathlib.Core.Bool.{Bool, true, false, not}
 use mathlib.Core.List.{List, [], _∷_}
 use lib.Dec.{leb, eqb}
 use lib.ListN.{length}
 use lib.Ieee.{Float, binary32, ofBits}
 use Rattle.arithmetic.specs.Binary32.{finite}
+use Rattle.admission.specs.declared.Head.{Head}
 use Rattle.admission.specs.Faults.{Fault, fine, fault, must, _⊳_, inside}
+use Rattle.admission.specs.Heads.{mostVertices, isKind, roomFor, isEmptyOpen}
 use Rattle.admission.proofs.FaultLaws.{no-fault}
 use Rattle.common.specs.declared.Vec2.{Vec2}
 use Rattle.lines.specs.declared.Line.{Line}
@@ -17,10 +19,9 @@ use Rattle.common.specs.Vectors.{lengthSquaredOf}
 use Rattle.obstacles.specs.declared.Agent.{Agent}
 use Rattle.obstacles.specs.Edges.{EdgeLine, nothing, made}
 use Rattle.obstacles.specs.Obstacles as walls
-use Rattle.obstacles.specs.Obstacles.{Answer, lines, unlessFault, admitted, behind, addEdge, linesUpTo, obstacleLines, mostVertices, isEmptyOpen, obstacleFault, _orRefused_, obstacleCall}
-use Rattle.obstacles.specs.Vertices.{closedKind, openKind}
+use Rattle.obstacles.specs.Obstacles.{Answer, lines, unlessFault, admitted, behind, addEdge, linesUpTo, obstacleLines, obstacleFault, _orRefused_, obstacleCall}
 use Rattle.dodgy_2d.specs.declared.Scene.{Scene}
-use Rattle.dodgy_2d.specs.Scenes.{Head, headsIn, isKind, roomFor, sceneFault}
+use Rattle.dodgy_2d.specs.Scenes.{headsIn, sceneFault}
 use Rattle.dodgy_2d.specs.Outcomes.{SceneOutcome, outcome, refusedScene, joined, edgeLines, edgesAt, sceneOutcome}
 use Rattle.dodgy_2d.proofs.SceneTold.{Told, answered, at-fault, by-edge, scene-told}
 use Rattle.fields.specs.Got.{Got, refused, got, then, guard, word, many}
@@ -164,7 +165,7 @@ last-sound false r a h s = refusing h
 call-sound : (agent : Agent) (kind : ℕ) (xs : List Float) (offset n : ℕ) (margin horizon : Float) → Sound (obstacleCall agent kind xs offset n margin horizon)
 unfolding obstacleCall obstacleFault obstacleLines
 call-sound agent kind xs offset n margin horizon =
-    must-sound (eqb kind closedKind || eqb kind openKind) 3 _ _ (omega arith, omega arith) (
+    must-sound (isKind kind) 3 _ _ (omega arith, omega arith) (
     must-sound (leb n mostVertices) 4 _ _ (omega arith, omega arith) (
     must-sound (not (isEmptyOpen kind n)) 5 _ _ (omega arith, omega arith) (
     last-sound (leb (offset + n) (length xs / 2)) 2 _ (omega arith, omega arith) (edges-sound agent kind n _ margin horizon _))))

@@ -12,6 +12,7 @@ use lib.Ieee.Bits.{toBits-ofBits}
 use Rattle.arithmetic.specs.Binary32.{finite}
 use Rattle.arithmetic.specs.Ends.{absOf}
 use Rattle.admission.specs.Faults.{within, inside}
+use Rattle.admission.proofs.HeadLaws.{room-within}
 use Rattle.common.specs.declared.Vec2.{Vec2}
 use Rattle.lines.specs.declared.Line.{Line}
 use Rattle.lines.specs.LineFaults.{lineReach}
@@ -27,7 +28,7 @@ use Rattle.scene_records.specs.Parts.{cart, verticesAt, Obstacle, sizeOf
 use Rattle.scene_records.specs.Records.{sceneIn}
 use Rattle.scene_records.specs.SceneBytes.{numberBytes, vectorBytes, cartBytes, obstacleBytes, lineBytes, bodyBytes, recordBytes, sceneBytes}
 use Rattle.scene_records.proofs.Taken.{number-taken, vector-taken, cart-taken, obstacle-taken, line-taken, fields-taken, scene-taken}
-use Rattle.scene_records.proofs.WallLaws.{length-coordinates, room-within}
+use Rattle.scene_records.proofs.WallLaws.{length-coordinates}
 use Rattle.scene_records.proofs.SceneParts.{obstacles-back, neighbours-back}
 
 -- ---- a NaN passes no rule, so the pattern of a number that passed is its own
@@ -70,7 +71,7 @@ obstacles-total s (suc n) total at os m t e =
     then-got (obstacle s total at) _ e λ o a p r.
     cons-got o (obstacles s n (total + sizeOf o) a) r λ rest q u.
     obstacle-taken s total at o a p λ b d read-k known read-n room some read-vs.
-    let fits : total + sizeOf o ≤ 192 = room-within total (sizeOf o) room in
+    let fits : total + sizeOf o ≤ 192 = room-within total (sizeOf o) room .1 in
     let ih : 2 * (total + sizeOf o) + length (each numbersIn rest) ≤ 384 = obstacles-total s n (total + sizeOf o) a rest m fits q in
     rw (u, length-append (numbersIn o) (each numbersIn rest), length-coordinates (o .vertices)) (omega arith)
 

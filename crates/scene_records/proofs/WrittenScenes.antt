@@ -11,8 +11,11 @@ use lib.Ieee.{Float, binary32, fits}
 use borrow.Author.Tests.{leb-true}
 use Rattle.arithmetic.specs.Binary32.{0ᶠ, finite}
 use Rattle.arithmetic.proofs.Lists.{All, none, more, all-take, all-drop}
+use Rattle.admission.specs.declared.Head.{Head}
 use Rattle.admission.specs.Faults.{_⊳_, fine, must, within, inside}
+use Rattle.admission.specs.Heads.{isKind, roomFor, isEmptyOpen}
 use Rattle.admission.proofs.FaultLaws.{⊳-fine, must-fine}
+use Rattle.admission.proofs.HeadLaws.{room-within}
 use Rattle.common.specs.declared.Vec2.{Vec2}
 use Rattle.common.specs.Vectors.{lengthSquaredOf}
 use Rattle.lines.specs.declared.Line.{Line}
@@ -20,15 +23,13 @@ use Rattle.lines.specs.Lines.{linesOf}
 use Rattle.lines.specs.LineFaults.{lineReach, bandLow, bandHigh, lineFault, linesFault}
 use Rattle.linear_programming.specs.Admit.{reach, longest}
 use Rattle.lines.proofs.Rows.{count}
-use Rattle.obstacles.specs.Obstacles.{isEmptyOpen}
 use Rattle.obstacles.specs.Vertices.{verticesOf}
 use Rattle.dodgy_2d.specs.declared.Scene.{Scene}
-use Rattle.dodgy_2d.specs.Scenes.{Head, headsOf, headsIn, neighboursIn, shortestHorizon, longestHorizon, isKind, roomFor, numbersFault, vectorFault, agentFault, headFault, obstaclesFault, sceneFault}
+use Rattle.dodgy_2d.specs.Scenes.{headsOf, headsIn, neighboursIn, shortestHorizon, longestHorizon, numbersFault, vectorFault, agentFault, headFault, obstaclesFault, sceneFault}
 use Rattle.fields.specs.Got.{got}
 use Rattle.fields.proofs.Backs.{Every}
 use Rattle.scene_records.specs.Records.{sceneOf, sceneIn}
 use Rattle.scene_records.specs.SceneBytes.{cartIn, withVertices, obstaclesIn, sceneBytes}
-use Rattle.scene_records.proofs.WallLaws.{room-within}
 use Rattle.scene_records.proofs.BytesRead.{Good, GoodVector, GoodCart, GoodObstacle, GoodLine, GoodParts, onTotal, parts-read}
 
 -- ---- what every value of the code's type has: its numbers are f32, and its arrays have their lengths
@@ -123,7 +124,7 @@ good-obstacles total (k ∷ hs) xs l h e =
     let a = ⊳-fine (must (isKind (k .kind)) 3) (head-fine .0) in
     let b = ⊳-fine (must (roomFor total (k .count)) 4) (a .1) in
     let room : roomFor total (k .count) ≡ true = must-fine (roomFor total (k .count)) 4 (b .0) in
-    let fit : total + k .count ≤ 192 = room-within total (k .count) room in
+    let fit : total + k .count ≤ 192 = room-within total (k .count) room .1 in
     let front : length (take (2 * k .count) xs) ≡ 2 * k .count = length-take-le (2 * k .count) xs (omega arith) in
     let size : length (verticesOf (take (2 * k .count) xs)) ≡ k .count = vertices-long (take (2 * k .count) xs) (k .count) front in
     let behind : 2 * (total + k .count) + length (drop (2 * k .count) xs) ≡ 384 = rw length-drop (omega arith) in (
