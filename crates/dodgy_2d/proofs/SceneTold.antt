@@ -3,7 +3,8 @@ use Prim.Native.Nat.{ℕ, _≤_}
 use mathlib.Core.Path.{_≡_, refl}
 use mathlib.Core.List.{_++_}
 use native.Mathlib.Omega.{arith}
-use Rattle.admission.specs.Faults.{Fault, fine, fault}
+use Rattle.admission.specs.Faults.{fine, fault}
+use Rattle.admission.proofs.FaultLaws.{unless-case}
 use Rattle.common.specs.declared.Vec2.{Vec2}
 use Rattle.linear_programming.specs.Whole.{Phase, solving, relaxing, rigidFailure, Failed, Outcome, stands, refusal}
 use Rattle.lines.proofs.JudgeLaws.{faults-append}
@@ -11,7 +12,7 @@ use Rattle.linear_programming.proofs.Bounds.NeverRefused.{Stood, stood, never-r
 use Rattle.obstacles.specs.Obstacles.{Answer, lines, refused}
 use Rattle.dodgy_2d.specs.declared.Scene.{Scene}
 use Rattle.dodgy_2d.specs.Scenes.{neighboursIn, sceneFault}
-use Rattle.dodgy_2d.specs.Outcomes.{SceneOutcome, outcome, refusedScene, edgesAt, solvedOver, passAt, atRest, secondPass, firstPass, unlessFault, sceneOutcome}
+use Rattle.dodgy_2d.specs.Outcomes.{SceneOutcome, outcome, refusedScene, edgesAt, solvedOver, passAt, atRest, secondPass, firstPass, sceneOutcome}
 use Rattle.dodgy_2d.proofs.ScenePasses.{Fair, refuses, fair, parts, scene-fair}
 
 -- ---- a pass stands, or an edge line of it is refused
@@ -51,10 +52,6 @@ first-told s (stands (relaxing p depth) f m) h passed = answered {code = 2} (ome
 first-told s (stands (rigidFailure k p) f m) h passed = second-told s m (passAt s atRest) h (pass-told s atRest h)
 first-told s (refusal r) h (edge-refused v e) = by-edge v h e
 
-unless-told : (s : Scene) (f : Fault) → sceneFault s ≡ f → (sceneFault s ≡ fine → Told s (firstPass s (passAt s (s .agent .velocity)))) → Told s (unlessFault f (firstPass s (passAt s (s .agent .velocity))))
-unless-told s fine e h = h e
-unless-told s (fault r) e h = at-fault e
-
 pub scene-told : (s : Scene) → Told s (sceneOutcome s)
 unfolding sceneOutcome
-scene-told s = unless-told s (sceneFault s) refl (λ e. first-told s _ e (pass-told s (s .agent .velocity) e))
+scene-told s = unless-case (Told s) refusedScene (sceneFault s) (λ e. first-told s _ e (pass-told s (s .agent .velocity) e)) (λ r e. at-fault e)

@@ -5,7 +5,7 @@ use lib.ListN.{length}
 use lib.Ieee.{Float}
 use Rattle.arithmetic.specs.Binary32.{0ᶠ}
 use Rattle.admission.specs.declared.Head.{Head}
-use Rattle.admission.specs.Faults.{Fault, fine, fault}
+use Rattle.admission.specs.Faults.{unlessFault}
 use Rattle.common.specs.declared.Vec2.{Vec2}
 use Rattle.common.specs.Vectors.{vec}
 use Rattle.lines.specs.declared.Line.{Line}
@@ -65,9 +65,5 @@ firstPass s (stands (relaxing p depth) f n) = outcome 2 p f n
 firstPass s (stands (rigidFailure k p) f n) = secondPass n (passAt s atRest)
 firstPass s (refusal r) = refusedScene r
 
-abbrev pub unlessFault : Fault → SceneOutcome → SceneOutcome
-unlessFault fine o = o
-unlessFault (fault r) o = refusedScene r
-
 unfoldable pub sceneOutcome : Scene → SceneOutcome
-sceneOutcome s = unlessFault (sceneFault s) (firstPass s (passAt s (s .agent .velocity)))
+sceneOutcome s = unlessFault refusedScene (sceneFault s) (firstPass s (passAt s (s .agent .velocity)))

@@ -13,26 +13,26 @@ use Rattle.arithmetic.proofs.Lists.{All, none, all-snoc}
 use Rattle.common.specs.declared.Vec2.{Vec2}
 use Rattle.lines.specs.declared.Line.{Line}
 use Rattle.lines.specs.LineFaults.{lineFault}
-use Rattle.admission.specs.Faults.{Fault, fine, fault}
+use Rattle.admission.specs.Faults.{fine}
+use Rattle.admission.proofs.FaultLaws.{unless-case}
 use Rattle.obstacles.specs.declared.Agent.{Agent}
 use Rattle.obstacles.specs.Edges.{EdgeLine, nothing, made}
 use Rattle.obstacles.specs.Vertices.{edgeAt}
 use Rattle.obstacles.specs.EdgeLines.{lineForEdge}
-use Rattle.obstacles.specs.Obstacles.{Answer, lines, refused, Admitted, kept, nothingKept, notAdmitted, unlessFault, admitted, behind, addEdge, linesUpTo, edgeCount, obstacleLines}
+use Rattle.obstacles.specs.Obstacles.{Answer, lines, refused, Admitted, kept, nothingKept, notAdmitted, admitted, behind, addEdge, linesUpTo, edgeCount, obstacleLines}
 
 -- the answer refuses, or its lines are at most n and each is admitted
 pub data Sound (n : ℕ) : Answer → Type 0 where
   refuses : {r : ℕ} → Sound n (refused r)
   stands : {ls : List Line} → length ls ≤ n → All (λ (l : Line). lineFault l ≡ fine) ls → Sound n (lines ls)
 
-unless-sound : (n : ℕ) (ls : List Line) (l : Line) (f : Fault) → lineFault l ≡ f → length ls ≤ n → All (λ (x : Line). lineFault x ≡ fine) ls → Sound (suc n) (behind ls (unlessFault f l))
-unless-sound n ls l fine e short all = stands {ls = ls ++ (l ∷ [])} (rw length-append (omega arith)) (all-snoc all e)
-unless-sound n ls l (fault r) e short all = refuses
-
 behind-sound : (n : ℕ) (ls : List Line) (e : EdgeLine) → length ls ≤ n → All (λ (x : Line). lineFault x ≡ fine) ls → Sound (suc n) (behind ls (admitted e))
 unfolding admitted
 behind-sound n ls nothing short all = stands {ls = ls} (omega arith) all
-behind-sound n ls (made l) short all = unless-sound n ls l (lineFault l) refl short all
+behind-sound n ls (made l) short all =
+    unless-case (λ (a : Admitted). Sound (suc n) (behind ls a)) (λ (r : ℕ). notAdmitted 9) (lineFault l)
+    (λ e. stands {ls = ls ++ (l ∷ [])} (rw length-append (omega arith)) (all-snoc all e))
+    (λ r e. refuses)
 
 sound-more : (n m : ℕ) (a : Answer) → n ≤ m → Sound n a → Sound m a
 sound-more n m (refused r) h refuses = refuses

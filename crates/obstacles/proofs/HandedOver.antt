@@ -11,21 +11,18 @@ use Rattle.arithmetic.proofs.Lists.{All, none, more}
 use Rattle.lines.specs.declared.Line.{Line}
 use Rattle.lines.specs.Lines.{linesOf, numbersOf}
 use Rattle.lines.specs.LineFaults.{lineFault, linesFault}
-use Rattle.admission.specs.Faults.{Fault, fine, fault}
+use Rattle.admission.specs.Faults.{fine}
+use Rattle.admission.proofs.FaultLaws.{unless-case}
 use Rattle.obstacles.specs.declared.Agent.{Agent}
-use Rattle.obstacles.specs.Obstacles.{Answer, lines, refused, _orRefused_, obstacleFault, obstacleCall}
+use Rattle.obstacles.specs.Obstacles.{Answer, lines, refused, obstacleFault, obstacleCall}
 use Rattle.obstacles.specs.Read.{answerAs}
 use Rattle.obstacles.proofs.EdgesInOrder.{Sound, refuses, stands, lines-sound}
 use Rattle.lines.proofs.Numbers.{numbers-long, lines-back}
 
-or-refused-sound : (n : ℕ) (f : Fault) (a : Answer) → Sound n a → Sound n (f orRefused a)
-or-refused-sound n fine a s = s
-or-refused-sound n (fault r) a s = refuses
-
 -- an obstacle of count vertices has at most count lines, and each is admitted
 pub call-sound : (agent : Agent) (kind : ℕ) (xs : List Float) (offset count : ℕ) (margin horizon : Float) → Sound count (obstacleCall agent kind xs offset count margin horizon)
 unfolding obstacleCall
-call-sound agent kind xs offset count margin horizon = or-refused-sound count (obstacleFault kind _ offset count) _ (lines-sound agent kind count _ margin horizon)
+call-sound agent kind xs offset count margin horizon = unless-case (Sound count) refused (obstacleFault kind _ offset count) (λ e. lines-sound agent kind count _ margin horizon) (λ r e. refuses)
 
 all-fine : (ls : List Line) → All (λ (l : Line). lineFault l ≡ fine) ls → linesFault ls ≡ fine
 unfolding linesFault

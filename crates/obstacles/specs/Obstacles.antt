@@ -9,7 +9,7 @@ use Rattle.arithmetic.specs.Binary32.{if_then_else_}
 use Rattle.common.specs.declared.Vec2.{Vec2}
 use Rattle.lines.specs.declared.Line.{Line}
 use Rattle.lines.specs.LineFaults.{lineFault}
-use Rattle.admission.specs.Faults.{Fault, fine, fault, must, _⊳_}
+use Rattle.admission.specs.Faults.{Fault, must, _⊳_, unlessFault}
 use Rattle.admission.specs.Heads.{openKind, mostVertices, isKind, isEmptyOpen}
 use Rattle.obstacles.specs.declared.Agent.{Agent}
 use Rattle.obstacles.specs.Edges.{EdgeLine, nothing, made}
@@ -28,13 +28,9 @@ pub data Admitted : Type 0 where
   notAdmitted : ℕ → Admitted
 
 -- "a produced edge line breaks the admission of lines": 9, whatever fault it has
-abbrev pub unlessFault : Fault → Line → Admitted
-unlessFault fine l = kept l
-unlessFault (fault r) l = notAdmitted 9
-
 unfoldable pub admitted : EdgeLine → Admitted
 admitted nothing = nothingKept
-admitted (made l) = unlessFault (lineFault l) l
+admitted (made l) = unlessFault (λ (r : ℕ). notAdmitted 9) (lineFault l) (kept l)
 
 -- the line stands behind those made earlier
 abbrev pub behind : List Line → Admitted → Answer
@@ -70,13 +66,8 @@ obstacleFault kind have offset count =
     ⊳ must (not (isEmptyOpen kind count)) 5
     ⊳ must (leb (offset + count) have) 2
 
-infix 15 _orRefused_
-abbrev pub _orRefused_ : Fault → Answer → Answer
-fine orRefused a = a
-fault r orRefused a = refused r
-
 -- the obstacle whose vertices are the count from the vertex offset on, two numbers each
 unfoldable pub obstacleCall : Agent → ℕ → List Float → ℕ → ℕ → Float → Float → Answer
 obstacleCall agent kind xs offset count margin horizon =
-    obstacleFault kind (length xs / 2) offset count
-    orRefused obstacleLines agent kind count (verticesOf (take (2 * count) (drop (2 * offset) xs))) margin horizon
+    unlessFault refused (obstacleFault kind (length xs / 2) offset count)
+    (obstacleLines agent kind count (verticesOf (take (2 * count) (drop (2 * offset) xs))) margin horizon)

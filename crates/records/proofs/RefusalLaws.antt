@@ -9,9 +9,9 @@ use lib.ListN.{length}
 use lib.Ieee.{Float, binary32, ofBits}
 use Rattle.arithmetic.specs.Binary32.{finite}
 use Rattle.admission.specs.declared.Head.{Head}
-use Rattle.admission.specs.Faults.{Fault, fine, fault, must, _⊳_, inside}
+use Rattle.admission.specs.Faults.{Fault, fine, must, _⊳_, unlessFault, inside}
 use Rattle.admission.specs.Heads.{mostVertices, isKind, roomFor, isEmptyOpen}
-use Rattle.admission.proofs.FaultLaws.{no-fault}
+use Rattle.admission.proofs.FaultLaws.{no-fault, unless-case}
 use Rattle.common.specs.declared.Vec2.{Vec2}
 use Rattle.lines.specs.declared.Line.{Line}
 use Rattle.lines.specs.LineFaults.{bandLow, bandHigh, lineFault}
@@ -19,7 +19,7 @@ use Rattle.common.specs.Vectors.{lengthSquaredOf}
 use Rattle.obstacles.specs.declared.Agent.{Agent}
 use Rattle.obstacles.specs.Edges.{EdgeLine, nothing, made}
 use Rattle.obstacles.specs.Obstacles as walls
-use Rattle.obstacles.specs.Obstacles.{Answer, lines, unlessFault, admitted, behind, addEdge, linesUpTo, obstacleLines, obstacleFault, _orRefused_, obstacleCall}
+use Rattle.obstacles.specs.Obstacles.{Answer, lines, Admitted, notAdmitted, admitted, behind, addEdge, linesUpTo, obstacleLines, obstacleFault, obstacleCall}
 use Rattle.dodgy_2d.specs.declared.Scene.{Scene}
 use Rattle.dodgy_2d.specs.Scenes.{headsIn, sceneFault}
 use Rattle.dodgy_2d.specs.Outcomes.{SceneOutcome, outcome, refusedScene, joined, edgeLines, edgesAt, sceneOutcome}
@@ -134,14 +134,11 @@ data Sound : Answer → Type 0 where
   lined : {ls : List Line} → Sound (lines ls)
   refusing : {r : ℕ} → Numbered r → Sound (walls.refused r)
 
-fault-sound : (f : Fault) (l : Line) (ls : List Line) → Sound (behind ls (unlessFault f l))
-fault-sound fine l ls = lined
-fault-sound (fault r) l ls = refusing {r = 9} (omega arith, omega arith)
-
 admitted-sound : (e : EdgeLine) (ls : List Line) → Sound (behind ls (admitted e))
 unfolding admitted
 admitted-sound nothing ls = lined
-admitted-sound (made l) ls = fault-sound (lineFault l) l ls
+admitted-sound (made l) ls =
+    unless-case (λ (a : Admitted). Sound (behind ls a)) (λ (r : ℕ). notAdmitted 9) (lineFault l) (λ e. lined) (λ r e. refusing {r = 9} (omega arith, omega arith))
 
 add-sound : (agent : Agent) (kind n : ℕ) (vs : List Vec2) (margin horizon : Float) (a : Answer) (i : ℕ) → Sound a → Sound (addEdge agent kind n vs margin horizon a i)
 unfolding addEdge
@@ -154,11 +151,11 @@ edges-sound agent kind n vs margin horizon zero = lined
 edges-sound agent kind n vs margin horizon (suc k) = add-sound agent kind n vs margin horizon _ k (edges-sound agent kind n vs margin horizon k)
 
 -- a rule with a number that has a code, then an answer
-must-sound : (b : Bool) (r : ℕ) (f : Fault) (a : Answer) → Numbered r → Sound (f orRefused a) → Sound ((must b r ⊳ f) orRefused a)
+must-sound : (b : Bool) (r : ℕ) (f : Fault) (a : Answer) → Numbered r → Sound (unlessFault walls.refused f a) → Sound (unlessFault walls.refused (must b r ⊳ f) a)
 must-sound true r f a h s = s
 must-sound false r f a h s = refusing h
 
-last-sound : (b : Bool) (r : ℕ) (a : Answer) → Numbered r → Sound a → Sound (must b r orRefused a)
+last-sound : (b : Bool) (r : ℕ) (a : Answer) → Numbered r → Sound a → Sound (unlessFault walls.refused (must b r) a)
 last-sound true r a h s = s
 last-sound false r a h s = refusing h
 
