@@ -10,10 +10,11 @@ use Rattle.linear_programming.specs.Whole.{Phase, solving, relaxing, rigidFailu
 use Rattle.lines.proofs.JudgeLaws.{faults-append}
 use Rattle.linear_programming.proofs.Bounds.NeverRefused.{Stood, stood, never-refused}
 use Rattle.obstacles.specs.Obstacles.{Answer, lines, refused}
+use Rattle.obstacles.proofs.EdgesInOrder.{FewAdmitted, refuses, few-admitted}
 use Rattle.dodgy_2d.specs.declared.Scene.{Scene}
 use Rattle.dodgy_2d.specs.Scenes.{neighboursIn, sceneFault}
 use Rattle.dodgy_2d.specs.Outcomes.{SceneOutcome, outcome, refusedScene, edgesAt, solvedOver, passAt, atRest, secondPass, firstPass, sceneOutcome}
-use Rattle.dodgy_2d.proofs.ScenePasses.{Fair, refuses, fair, parts, scene-fair}
+use Rattle.dodgy_2d.proofs.ScenePasses.{parts, scene-few-admitted}
 
 -- ---- a pass stands, or an edge line of it is refused
 data PassTold (s : Scene) : Outcome → Type 0 where
@@ -23,15 +24,15 @@ data PassTold (s : Scene) : Outcome → Type 0 where
 stood-passed : {s : Scene} {o : Outcome} → Stood o → PassTold s o
 stood-passed stood = passed
 
-solved-told : (s : Scene) (v : Vec2) (a : Answer) → sceneFault s ≡ fine → edgesAt s v ≡ a → Fair 192 a → PassTold s (solvedOver (s .wish) (s .limit) (neighboursIn s) a)
+solved-told : (s : Scene) (v : Vec2) (a : Answer) → sceneFault s ≡ fine → edgesAt s v ≡ a → FewAdmitted 192 a → PassTold s (solvedOver (s .wish) (s .limit) (neighboursIn s) a)
 solved-told s v (refused r) h e refuses = edge-refused v e
-solved-told s v (lines l) h e (fair few all) =
+solved-told s v (lines l) h e (few-admitted few all) =
     let p = parts s h in
     stood-passed (never-refused _ (s .wish) (s .limit) (l ++ neighboursIn s) (p .wish) (rw (faults-append l (neighboursIn s), all, p .lines)))
 
 pass-told : (s : Scene) (v : Vec2) → sceneFault s ≡ fine → PassTold s (passAt s v)
 unfolding passAt
-pass-told s v h = solved-told s v (edgesAt s v) h refl (scene-fair s v h)
+pass-told s v h = solved-told s v (edgesAt s v) h refl (scene-few-admitted s v h)
 
 -- ---- the scene
 

@@ -40,6 +40,7 @@ Numbered r = (1 ≤ r) × (r ≤ 10)
 
 -- ---- the reader's
 
+-- a reading, or a refusal that has a code
 data Fair {A : Type 0} : Got A → Type 0 where
   told : {r : ℕ} → Numbered r → Fair (refused r)
   read : {a : A} {m : ℕ} → Fair (got a m)
@@ -130,58 +131,59 @@ module _ (s : List ℕ) where
 
 -- ---- the edge lines'
 
-data Sound : Answer → Type 0 where
-  lined : {ls : List Line} → Sound (lines ls)
-  refusing : {r : ℕ} → Numbered r → Sound (walls.refused r)
+-- lines, or a refusal that has a code
+data NumberedAnswer : Answer → Type 0 where
+  lined : {ls : List Line} → NumberedAnswer (lines ls)
+  refusing : {r : ℕ} → Numbered r → NumberedAnswer (walls.refused r)
 
-admitted-sound : (e : EdgeLine) (ls : List Line) → Sound (behind ls (admitted e))
+admitted-numbered : (e : EdgeLine) (ls : List Line) → NumberedAnswer (behind ls (admitted e))
 unfolding admitted
-admitted-sound nothing ls = lined
-admitted-sound (made l) ls =
-    unless-case (λ (a : Admitted). Sound (behind ls a)) (λ (r : ℕ). notAdmitted 9) (lineFault l) (λ e. lined) (λ r e. refusing {r = 9} (omega arith, omega arith))
+admitted-numbered nothing ls = lined
+admitted-numbered (made l) ls =
+    unless-case (λ (a : Admitted). NumberedAnswer (behind ls a)) (λ (r : ℕ). notAdmitted 9) (lineFault l) (λ e. lined) (λ r e. refusing {r = 9} (omega arith, omega arith))
 
-add-sound : (agent : Agent) (kind n : ℕ) (vs : List Vec2) (margin horizon : Float) (a : Answer) (i : ℕ) → Sound a → Sound (addEdge agent kind n vs margin horizon a i)
+add-numbered : (agent : Agent) (kind n : ℕ) (vs : List Vec2) (margin horizon : Float) (a : Answer) (i : ℕ) → NumberedAnswer a → NumberedAnswer (addEdge agent kind n vs margin horizon a i)
 unfolding addEdge
-add-sound agent kind n vs margin horizon (lines ls) i h = admitted-sound _ ls
-add-sound agent kind n vs margin horizon (walls.refused r) i h = h
+add-numbered agent kind n vs margin horizon (lines ls) i h = admitted-numbered _ ls
+add-numbered agent kind n vs margin horizon (walls.refused r) i h = h
 
-edges-sound : (agent : Agent) (kind n : ℕ) (vs : List Vec2) (margin horizon : Float) (k : ℕ) → Sound (linesUpTo agent kind n vs margin horizon k)
+edges-numbered : (agent : Agent) (kind n : ℕ) (vs : List Vec2) (margin horizon : Float) (k : ℕ) → NumberedAnswer (linesUpTo agent kind n vs margin horizon k)
 unfolding linesUpTo
-edges-sound agent kind n vs margin horizon zero = lined
-edges-sound agent kind n vs margin horizon (suc k) = add-sound agent kind n vs margin horizon _ k (edges-sound agent kind n vs margin horizon k)
+edges-numbered agent kind n vs margin horizon zero = lined
+edges-numbered agent kind n vs margin horizon (suc k) = add-numbered agent kind n vs margin horizon _ k (edges-numbered agent kind n vs margin horizon k)
 
 -- a rule with a number that has a code, then an answer
-must-sound : (b : Bool) (r : ℕ) (f : Fault) (a : Answer) → Numbered r → Sound (unlessFault walls.refused f a) → Sound (unlessFault walls.refused (must b r ⊳ f) a)
-must-sound true r f a h s = s
-must-sound false r f a h s = refusing h
+must-numbered : (b : Bool) (r : ℕ) (f : Fault) (a : Answer) → Numbered r → NumberedAnswer (unlessFault walls.refused f a) → NumberedAnswer (unlessFault walls.refused (must b r ⊳ f) a)
+must-numbered true r f a h s = s
+must-numbered false r f a h s = refusing h
 
-last-sound : (b : Bool) (r : ℕ) (a : Answer) → Numbered r → Sound a → Sound (unlessFault walls.refused (must b r) a)
-last-sound true r a h s = s
-last-sound false r a h s = refusing h
+last-numbered : (b : Bool) (r : ℕ) (a : Answer) → Numbered r → NumberedAnswer a → NumberedAnswer (unlessFault walls.refused (must b r) a)
+last-numbered true r a h s = s
+last-numbered false r a h s = refusing h
 
-call-sound : (agent : Agent) (kind : ℕ) (xs : List Float) (offset n : ℕ) (margin horizon : Float) → Sound (obstacleCall agent kind xs offset n margin horizon)
+call-numbered : (agent : Agent) (kind : ℕ) (xs : List Float) (offset n : ℕ) (margin horizon : Float) → NumberedAnswer (obstacleCall agent kind xs offset n margin horizon)
 unfolding obstacleCall obstacleFault obstacleLines
-call-sound agent kind xs offset n margin horizon =
-    must-sound (isKind kind) 3 _ _ (omega arith, omega arith) (
-    must-sound (leb n mostVertices) 4 _ _ (omega arith, omega arith) (
-    must-sound (not (isEmptyOpen kind n)) 5 _ _ (omega arith, omega arith) (
-    last-sound (leb (offset + n) (length xs / 2)) 2 _ (omega arith, omega arith) (edges-sound agent kind n _ margin horizon _))))
+call-numbered agent kind xs offset n margin horizon =
+    must-numbered (isKind kind) 3 _ _ (omega arith, omega arith) (
+    must-numbered (leb n mostVertices) 4 _ _ (omega arith, omega arith) (
+    must-numbered (not (isEmptyOpen kind n)) 5 _ _ (omega arith, omega arith) (
+    last-numbered (leb (offset + n) (length xs / 2)) 2 _ (omega arith, omega arith) (edges-numbered agent kind n _ margin horizon _))))
 
-joined-sound : (a b : Answer) → Sound a → Sound b → Sound (joined a b)
-joined-sound (lines l) (lines m) p q = lined
-joined-sound (lines l) (walls.refused r) p q = q
-joined-sound (walls.refused r) b p q = p
+joined-numbered : (a b : Answer) → NumberedAnswer a → NumberedAnswer b → NumberedAnswer (joined a b)
+joined-numbered (lines l) (lines m) p q = lined
+joined-numbered (lines l) (walls.refused r) p q = q
+joined-numbered (walls.refused r) b p q = p
 
-walls-sound : (agent : Agent) (margin horizon : Float) (xs : List Float) (offset : ℕ) (hs : List Head) → Sound (edgeLines agent margin horizon xs offset hs)
+walls-numbered : (agent : Agent) (margin horizon : Float) (xs : List Float) (offset : ℕ) (hs : List Head) → NumberedAnswer (edgeLines agent margin horizon xs offset hs)
 unfolding edgeLines
-walls-sound agent margin horizon xs offset [] = lined
-walls-sound agent margin horizon xs offset (h ∷ hs) = joined-sound _ _ (call-sound agent _ xs offset _ margin horizon) (walls-sound agent margin horizon xs _ hs)
+walls-numbered agent margin horizon xs offset [] = lined
+walls-numbered agent margin horizon xs offset (h ∷ hs) = joined-numbered _ _ (call-numbered agent _ xs offset _ margin horizon) (walls-numbered agent margin horizon xs _ hs)
 
-scene-sound : (c : Scene) (velocity : Vec2) → Sound (edgesAt c velocity)
-scene-sound c velocity = walls-sound (record { position = c .agent .position; velocity = velocity }) (c .margin) (c .horizon) (c .vertices) 0 (headsIn c)
+scene-numbered : (c : Scene) (velocity : Vec2) → NumberedAnswer (edgesAt c velocity)
+scene-numbered c velocity = walls-numbered (record { position = c .agent .position; velocity = velocity }) (c .margin) (c .horizon) (c .vertices) 0 (headsIn c)
 
-refused-sound : {r : ℕ} → Sound (walls.refused r) → Numbered r
-refused-sound (refusing h) = h
+refused-numbered : {r : ℕ} → NumberedAnswer (walls.refused r) → Numbered r
+refused-numbered (refusing h) = h
 
 -- ---- a record's
 
@@ -194,7 +196,7 @@ same-number m r e = cc
 solve-numbered : (c : Scene) → sceneFault c ≡ fine → (o : SceneOutcome) → Told c o → (r : ℕ) → one.ofOutcome o ≡ one.refusal r → Numbered r
 solve-numbered c f (outcome code p l n) (answered h) r e = absurd (let z : _≡_ {A = ℕ} 0 1 = cc in omega arith)
 solve-numbered c f (refusedScene m) (at-fault g) r e = absurd (no-fault m (sym f ∙ g))
-solve-numbered c f (refusedScene m) (by-edge v g h) r e = rw (← same-number m r e) (refused-sound (rw h at (scene-sound c v)))
+solve-numbered c f (refusedScene m) (by-edge v g h) r e = rw (← same-number m r e) (refused-numbered (rw h at (scene-numbered c v)))
 
 reading-numbered : (s : List ℕ) (g : Got Scene) → sceneIn s ≡ g → Fair g → (r : ℕ) → one.ofReading g ≡ one.refusal r → Numbered r
 reading-numbered s (refused m) z h r e = rw (← same-number m r e) (read-numbered h)
