@@ -19,6 +19,10 @@ pub must-fine : (b : Bool) (r : ℕ) → must b r ≡ fine → b ≡ true
 must-fine true r e = refl
 must-fine false r e = let z : _≡_ {A = ℕ} 0 1 = cc in absurd (omega arith)
 
+pub ⊳-none : (f : Fault) → (f ⊳ fine) ≡ f
+⊳-none fine = refl
+⊳-none (fault r) = refl
+
 pub ⊳-assoc : (f g h : Fault) → (f ⊳ (g ⊳ h)) ≡ ((f ⊳ g) ⊳ h)
 ⊳-assoc fine g h = refl
 ⊳-assoc (fault r) g h = refl

@@ -19,7 +19,7 @@ use Rattle.lines.specs.LineFaults.{linesFault}
 use Rattle.linear_programming.specs.Admit.{reach, longest, wishFault, judgedList, listCall}
 use Rattle.linear_programming.specs.Whole.{Phase, Failed, stands, wholeList}
 use Rattle.lines.proofs.JudgeLaws.{faults-append}
-use Rattle.lines.proofs.Rows.{count}
+use Rattle.lines.proofs.Rows.{count, lines-take}
 use Rattle.linear_programming.proofs.WholeProbes.{whole-fits}
 use Rattle.obstacles.specs.declared.Agent.{Agent}
 use Rattle.obstacles.specs.Obstacles.{Answer, lines, refused}
@@ -28,7 +28,6 @@ use Rattle.obstacles.proofs.HandedOver.{call-few-admitted}
 use Rattle.dodgy_2d.specs.declared.Scene.{Scene}
 use Rattle.dodgy_2d.specs.Scenes.{headsIn, neighboursIn, shortestHorizon, longestHorizon, numbersFault, vectorFault, agentFault, headFault, obstaclesFault, sceneFault}
 use Rattle.dodgy_2d.specs.Outcomes.{joined, edgeLines, edgesAt, solvedOver, passAt}
-use Rattle.dodgy_2d.proofs.SceneFaults.{neighbours-there}
 use Rattle.dodgy_2d.proofs.HeadsInOrder.{head-room}
 use Rattle.dodgy_2d.proofs.EdgesJoined.{copied-lines}
 
@@ -124,7 +123,7 @@ pass-solved s velocity b rigid h size fits e =
     let own = linesOf (take (4 * rigid) b) in
     let xs = take (4 * (rigid + s .neighbours)) (paste b (4 * rigid) (s .lines) (4 * s .neighbours)) in
     let both = few-and-admitted {n = 192} {ls = own} (rw e (scene-few-admitted s velocity h)) in
-    let all : linesOf xs ≡ own ++ neighboursIn s = copied-lines b (s .lines) rigid (s .neighbours) fits (omega arith) ∙ ap (λ (l : List Line). own ++ l) (neighbours-there (s .lines) (s .neighbours)) in
+    let all : linesOf xs ≡ own ++ neighboursIn s = copied-lines b (s .lines) rigid (s .neighbours) fits (omega arith) ∙ ap (λ (l : List Line). own ++ l) (lines-take (s .lines) (s .neighbours)) in
     let sum : 4 * (rigid + s .neighbours) ≡ 4 * rigid + 4 * s .neighbours = omega arith in
     let long : length xs ≡ 4 * rigid + 4 * s .neighbours = rw (sum, take-paste b (4 * rigid) (s .lines) (4 * s .neighbours) fits (omega arith)) (length-paste-head b (4 * rigid) (s .lines) (4 * s .neighbours) fits (omega arith)) in
     let few : length (linesOf xs) ≤ 256 = rw (all, length-append) (omega (arith, both .0, few-neighbours s near)) in

@@ -24,6 +24,7 @@ use Rattle.lines.specs.LineFaults.{lineReach, bandLow, bandHigh, lineFault, lin
 use Rattle.linear_programming.specs.Admit.{reach, longest}
 use Rattle.lines.proofs.Rows.{count}
 use Rattle.obstacles.specs.Vertices.{verticesOf}
+use Rattle.obstacles.proofs.VertexNumbers.{vertices-long}
 use Rattle.dodgy_2d.specs.declared.Scene.{Scene}
 use Rattle.dodgy_2d.specs.Scenes.{headsOf, headsIn, neighboursIn, shortestHorizon, longestHorizon, numbersFault, vectorFault, agentFault, headFault, obstaclesFault, sceneFault}
 use Rattle.fields.specs.Got.{got}
@@ -59,8 +60,7 @@ pub record Typed (c : Scene) : Type 0 where
   pub lines : length (c .lines) ≡ 256
   pub lineNumbers : All Fit (c .lines)
 
--- ---- numbers by fours and by twos
-
+-- numbers by fours
 fit-lines : (xs : List Float) → All Fit xs → All FitLine (linesOf xs)
 unfolding linesOf
 fit-lines [] h = none
@@ -68,13 +68,6 @@ fit-lines (a ∷ []) h = none
 fit-lines (a ∷ b ∷ []) h = none
 fit-lines (a ∷ b ∷ c ∷ []) h = none
 fit-lines (a ∷ b ∷ c ∷ d ∷ xs) (more p (more q (more r (more t h)))) = more (record { point = record { x = p; y = q }; direction = record { x = r; y = t } }) (fit-lines xs h)
-
-vertices-long : (xs : List Float) (n : ℕ) → length xs ≡ 2 * n → length (verticesOf xs) ≡ n
-unfolding verticesOf
-vertices-long [] n h = omega arith
-vertices-long (x ∷ []) n h = absurd (omega arith)
-vertices-long (x ∷ y ∷ xs) zero h = absurd (omega arith)
-vertices-long (x ∷ y ∷ xs) (suc n) h = ap suc (vertices-long xs n (omega arith))
 
 -- ---- without a fault, each rule passed
 

@@ -4,7 +4,7 @@ use mathlib.Core.Path.{_≡_, _∙_}
 use native.Mathlib.Omega.{arith}
 use denote.Ref.{now}
 use Rattle.obstacles.specs.Obstacles.{obstacleCall}
-use Rattle.obstacles.proofs.Corners.{part-size}
+use Rattle.obstacles.proofs.VertexNumbers.{part-size}
 use Rattle.obstacles.proofs.Faults.{few-there}
 use borrow.Author.Needs.{needs}
 use Rattle.obstacles.proofs.get_lines_for_agent_to_obstacle.Statement.{statement}
