@@ -11,7 +11,7 @@ use Rattle.admission.specs.Heads.{openKind}
 use Rattle.common.specs.declared.Vec2.{Vec2}
 use Rattle.common.specs.Vectors.{vec, subOf, determinantOf}
 use Rattle.obstacles.specs.declared.EdgeVertex.{EdgeVertex}
-use Rattle.obstacles.specs.Edges.{Neighbour, none, at, Edge}
+use Rattle.obstacles.specs.Edges.{OuterVertex, none, at, Edge}
 
 -- two numbers a vertex
 unfoldable pub verticesOf : List Float → List Vec2
@@ -46,7 +46,7 @@ edgeVertexAt kind n vs i = record {
 }
 
 -- "with no outer neighbour": beyond the end of an open obstacle there is none
-unfoldable pub outerAt : ℕ → List Vec2 → ℕ → ℕ → ℕ → Neighbour
+unfoldable pub outerAt : ℕ → List Vec2 → ℕ → ℕ → ℕ → OuterVertex
 outerAt kind vs i end beyond = if eqb kind openKind && eqb i end then none else at (vertexAt vs beyond)
 
 -- the edge from the vertex i of n to the next, with the vertices beyond them

@@ -8,7 +8,7 @@ ghost use mathlib.Core.Path.{_≡_};
 ghost use Prim.Native.Nat.{_+_, _*_, _/_, _<_};
 ghost use lib.ListN.{length};
 ghost use Rattle.obstacles.specs.Vertices.{verticesOf, vertexAt, nextOf, previousOf, isEnd, convexAt, edgeVertexAt, outerAt, edgeAt};
-ghost use Rattle.obstacles.specs.Read.{neighbourOf, edgeOf};
+ghost use Rattle.obstacles.specs.Read.{outerOf, edgeOf};
 
 fn vertex_at(vertices: &[f32], i: usize) -> Vec2
     requires { ⌜ i < length (now vertices) / 2 ⌝ }
@@ -86,7 +86,7 @@ fn edge_vertex(kind: u8, vertices: &[f32], i: usize) -> EdgeVertex
 // The vertex beyond an edge's vertex: none beyond an open obstacle's end.
 fn outer_vertex(kind: u8, vertices: &[f32], i: usize, end: usize, beyond: usize) -> Outer
     requires { ⌜ beyond < length (now vertices) / 2 ⌝ }
-    ensures { λ r. ⌜ neighbourOf r ≡ outerAt kind (verticesOf (now (vertices .entry))) i end beyond ⌝ }
+    ensures { λ r. ⌜ outerOf r ≡ outerAt kind (verticesOf (now (vertices .entry))) i end beyond ⌝ }
 {
     if kind != Head::OPEN {
         return Outer::At(vertex_at(vertices, beyond));
