@@ -11,6 +11,7 @@ use Rattle.lines.specs.declared.Line.{Line}
 use Rattle.lines.specs.Lines.{linesOf, numbersOf}
 use Rattle.admission.proofs.FaultLaws.{unless-case}
 use Rattle.obstacles.specs.declared.Agent.{Agent}
+use Rattle.obstacles.specs.declared.ObstacleLines.{ObstacleLines}
 use Rattle.obstacles.specs.Obstacles.{Answer, lines, refused, obstacleFault, obstacleCall}
 use Rattle.obstacles.specs.Read.{answerAs}
 use Rattle.obstacles.proofs.EdgesInOrder.{FewAdmitted, refuses, few-admitted, lines-few-admitted}
@@ -20,18 +21,18 @@ handed-few : (n : ℕ) (a : Answer) → FewAdmitted n a → answerAs a .count �
 handed-few n (refused r) refuses = omega arith
 handed-few n (lines ls) (few-admitted few all) = few
 
-module _ (agent : Agent) (kind : ℕ) (xs : List Float) (offset count : ℕ) (margin horizon : Float) where
-  -- an obstacle of count vertices has at most count lines, and each is admitted
-  pub call-few-admitted : FewAdmitted count (obstacleCall agent kind xs offset count margin horizon)
-  unfolding obstacleCall
-  call-few-admitted = unless-case (FewAdmitted count) refused (obstacleFault kind _ offset count) (λ e. lines-few-admitted agent kind count _ margin horizon) (λ r e. refuses)
+-- an obstacle of count vertices has at most count lines, and each is admitted
+pub call-few-admitted : (agent : Agent) (kind : ℕ) (xs : List Float) (offset count : ℕ) (margin horizon : Float) → FewAdmitted count (obstacleCall agent kind xs offset count margin horizon)
+unfolding obstacleCall
+call-few-admitted agent kind xs offset count margin horizon =
+    unless-case (FewAdmitted count) refused (obstacleFault kind _ offset count) (λ e. lines-few-admitted agent kind count _ margin horizon) (λ r e. refuses)
 
-  pub call-few : answerAs (obstacleCall agent kind xs offset count margin horizon) .count ≤ count
-  call-few = handed-few count _ call-few-admitted
+pub call-few : (agent : Agent) (kind : ℕ) (xs : List Float) (offset count : ℕ) (margin horizon : Float) {found : ObstacleLines} → found ≡ answerAs (obstacleCall agent kind xs offset count margin horizon) → found .count ≤ count
+call-few agent kind xs offset count margin horizon e = rw e (handed-few count _ (call-few-admitted agent kind xs offset count margin horizon))
 
 -- ---- the numbers that are handed over
 
-pub handed-numbers : (ls : List Line) → take (4 * length ls) (answerAs (lines ls) .lines) ≡ numbersOf ls
+handed-numbers : (ls : List Line) → take (4 * length ls) (answerAs (lines ls) .lines) ≡ numbersOf ls
 handed-numbers ls = take-at (numbersOf ls) (replicate (256 - 4 * length ls) 0ᶠ) (4 * length ls) (numbers-long ls)
 
 pub handed-lines : (ls : List Line) → linesOf (take (4 * length ls) (answerAs (lines ls) .lines)) ≡ ls

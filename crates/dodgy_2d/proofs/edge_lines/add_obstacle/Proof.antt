@@ -33,19 +33,19 @@ mul-copy c = search needs
 mul-copy-2 : tie.Need-mul-copy-2
 mul-copy-2 c =
     let a = c .before .before .before .before .before .before .before .args in
-    let few = rw (← c .before .before .before .before .get-lines-for-agent-to-obstacle .ensures) at (call-few (a .agent) (a .head .kind) (now (a .vertices)) (a .offset) (a .head .count) (a .margin) (a .horizon)) in
+    let few = call-few _ _ _ _ _ _ _ (c .before .before .before .before .get-lines-for-agent-to-obstacle .ensures) in
     omega (arith, few)
 
 copy-requires : tie.Need-copy-requires
 copy-requires c κs =
     let a = c .before .before .before .before .before .before .before .args in
-    let few = rw (← c .before .before .before .before .get-lines-for-agent-to-obstacle .ensures) at (call-few (a .agent) (a .head .kind) (now (a .vertices)) (a .offset) (a .head .count) (a .margin) (a .horizon)) in
+    let few = call-few _ _ _ _ _ _ _ (c .before .before .before .before .get-lines-for-agent-to-obstacle .ensures) in
     (omega (arith, few), omega (arith, few))
 
 add-t17 : tie.Need-add-t17
 add-t17 c =
     let a = c .before .before .before .before .before .before .before .before .before .before .args in
-    let few = rw (← c .before .before .before .before .before .before .before .get-lines-for-agent-to-obstacle .ensures) at (call-few (a .agent) (a .head .kind) (now (a .vertices)) (a .offset) (a .head .count) (a .margin) (a .horizon)) in
+    let few = call-few _ _ _ _ _ _ _ (c .before .before .before .before .before .before .before .get-lines-for-agent-to-obstacle .ensures) in
     omega (arith, few)
 
 same-length : tie.Need-same-length
@@ -55,7 +55,7 @@ returns-2 : tie.Need-returns-2
 returns-2 c =
     let a = c .before .before .before .before .before .before .before .before .before .before .args in
     let found = c .before .before .before .before .before .before .before .get-lines-for-agent-to-obstacle in
-    let few = rw (← found .ensures) at (call-few (a .agent) (a .head .kind) (now (a .vertices)) (a .offset) (a .head .count) (a .margin) (a .horizon)) in
+    let few = call-few _ _ _ _ _ _ _ (found .ensures) in
     let size : length (found .result .lines) ≡ 256 = search needs in
     (search needs, omega (arith, few), rw (c .before .before .copy .ensures) (added-lines (now (a .numbers)) (a .count) (found .result) (obstacleCall (a .agent) (a .head .kind) (now (a .vertices)) (a .offset) (a .head .count) (a .margin) (a .horizon)) (found .ensures) (c .before .before .before .before .before .enum-told .given .1) (omega arith) (omega (arith, few, size))))
 
