@@ -34,6 +34,7 @@ use Rattle.dodgy_2d.proofs.EdgesJoined.{copied-lines}
 -- ---- the parts of a scene without a fault
 
 pub record Parts (s : Scene) : Type 0 where
+  pub agent : agentFault s ≡ fine
   pub wish : wishFault (s .wish) (s .limit) ≡ fine
   pub obstacles : s .obstacles ≤ 16
   pub walls : obstaclesFault 0 (headsIn s) (s .vertices) ≡ fine
@@ -60,6 +61,7 @@ parts s e =
     let c = ⊳-fine (obstaclesFault 0 (headsIn s) (s .vertices)) (b .1) in
     let d = ⊳-fine (must (leb (s .neighbours) 64) 4) (c .1) in
     record {
+      agent = a .0;
       wish = wish-fine s (a .0);
       obstacles = leb-true _ _ (must-fine (leb (s .obstacles) 16) 4 (b .0));
       walls = c .0;
