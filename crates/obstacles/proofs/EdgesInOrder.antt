@@ -38,7 +38,7 @@ more-few-admitted : (n m : ℕ) (a : Answer) → n ≤ m → FewAdmitted n a →
 more-few-admitted n m (refused r) h refuses = refuses
 more-few-admitted n m (lines ls) h (few-admitted few all) = few-admitted {ls = ls} (omega arith) all
 
-pub few-edges : (kind n : ℕ) → edgeCount kind n ≤ n
+few-edges : (kind n : ℕ) → edgeCount kind n ≤ n
 unfolding edgeCount
 few-edges kind n = if-all (λ (m : ℕ). m ≤ n) (eqb kind 2) (omega arith) (omega arith)
 

@@ -99,7 +99,7 @@ module _ (s : List ℕ) where
         let l : length vs ≡ m = vertices-count s m d vs at p in
         rw (z .1, z .0, ← l) (behind ks cs xs i total k vs (obstacles s n (total + length vs) at))
 
-    pub walls-step : told d (headOf k m) ≡ from c (head s total) → told e xs' ≡ stored coordinates xs (2 * total) (from d (verticesAt s m))
+    walls-step : told d (headOf k m) ≡ from c (head s total) → told e xs' ≡ stored coordinates xs (2 * total) (from d (verticesAt s m))
         → storedWalls (walls ks cs xs) i total (from c (obstacles s (suc n) total)) ≡ storedWalls (walls (set ks i k) (set cs i m) xs') (i + 1) (total + m) (from e (obstacles s n (total + m)))
     unfolding obstacles many obstacle
     walls-step p q =

@@ -30,7 +30,7 @@ use Rattle.fields.specs.Got.{got}
 use Rattle.fields.proofs.Backs.{Every}
 use Rattle.scene_records.specs.Records.{sceneOf, sceneIn}
 use Rattle.scene_records.specs.SceneBytes.{cartIn, withVertices, obstaclesIn, sceneBytes}
-use Rattle.scene_records.proofs.BytesRead.{Good, GoodVector, GoodCart, GoodObstacle, GoodLine, GoodParts, onTotal, parts-read}
+use Rattle.scene_records.proofs.WrittenParts.{Good, GoodVector, GoodCart, GoodObstacle, GoodLine, GoodParts, onTotal, parts-read}
 
 -- ---- what every value of the code's type has: its numbers are f32, and its arrays have their lengths
 

@@ -176,7 +176,7 @@ length-obstacles total (o ∷ os) h ok =
     omega arith
 
 module _ (x : Cart) (os : List Obstacle) (ls : List Line) (ok : GoodParts x os ls) where
-  pub length-body : length (bodyBytes x os ls) ≤ 2631
+  length-body : length (bodyBytes x os ls) ≤ 2631
   unfolding bodyBytes
   length-body =
       let r = length-obstacles 0 os (omega arith) (ok .obstacles) in
