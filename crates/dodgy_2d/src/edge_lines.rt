@@ -1,6 +1,6 @@
 // The obstacles' lines, obstacle behind obstacle, filled into lent numbers, four a line.
 use crate::EdgeLines;
-use crate::judge::index;
+use crate::judge::wide;
 use admission::Head;
 use admission::Judged;
 use obstacles::Agent;
@@ -80,7 +80,7 @@ pub(crate) fn edge_lines(
     while i < n {
         let head = Head {
             kind: kinds[i],
-            count: index(counts[i]),
+            count: wide(counts[i]),
         };
         let added = add_obstacle(
             agent,

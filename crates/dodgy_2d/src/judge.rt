@@ -73,10 +73,11 @@ fn judge_head(total: usize, head: Head) -> Judged
     first_of(known, first_of(fits, some))
 }
 
-pub(crate) fn index(count: u8) -> usize
-    ensures { λ r. ⌜ (r ≡ count) × (r < 256) ⌝ }
+// A byte as a size.
+pub(crate) fn wide(byte: u8) -> usize
+    ensures { λ r. ⌜ (r ≡ byte) × (r < 256) ⌝ }
 {
-    count as usize
+    byte as usize
 }
 
 // An obstacle behind `total` vertices: its head, then its own vertices.
@@ -101,7 +102,7 @@ fn judge_obstacles(kinds: [u8; 16], counts: [u8; 16], n: usize, vertices: &[f32]
     while i < n {
         let head = Head {
             kind: kinds[i],
-            count: index(counts[i]),
+            count: wide(counts[i]),
         };
         let judged = judge_obstacle(total, head, vertices);
         let Judged::Fine = judged else {
