@@ -23,6 +23,13 @@ shortestHorizon = bits 0x3A80_0000
 abbrev pub longestHorizon : Float
 longestHorizon = bits 0x4480_0000
 
+-- "At most 16 obstacles", "64 neighbour lines"
+abbrev pub mostObstacles : ℕ
+mostObstacles = 16
+
+abbrev pub mostNeighbours : ℕ
+mostNeighbours = 64
+
 -- ---- the parts
 
 -- the obstacles' heads
@@ -73,7 +80,7 @@ obstaclesFault total (h ∷ hs) xs =
 unfoldable pub sceneFault : Scene → Fault
 sceneFault s =
     agentFault s
-    ⊳ must (leb (s .obstacles) 16) 4
+    ⊳ must (leb (s .obstacles) mostObstacles) 4
     ⊳ obstaclesFault 0 (headsIn s) (s .vertices)
-    ⊳ must (leb (s .neighbours) 64) 4
+    ⊳ must (leb (s .neighbours) mostNeighbours) 4
     ⊳ linesFault (neighboursIn s)
