@@ -16,7 +16,7 @@ use Rattle.lines.specs.LineFaults.{linesFault}
 use Rattle.linear_programming.specs.Admit.{reach, longest}
 use Rattle.dodgy_2d.specs.declared.Scene.{Scene}
 
--- 1/1,024 and 1,024
+-- "Horizon: 1/1,024 to 1,024"
 abbrev pub shortestHorizon : Float
 shortestHorizon = bits 0x3A80_0000
 
@@ -47,6 +47,7 @@ neighboursIn s = take (s .neighbours) (linesOf (s .lines))
 
 -- ---- the first fault
 
+-- "Position, velocity, wish and vertex components: magnitude at most 65,536"
 unfoldable pub numbersFault : List Float → Fault
 numbersFault [] = fine
 numbersFault (x ∷ xs) = must (within reach x) 6 ⊳ numbersFault xs

@@ -1,4 +1,4 @@
--- The edges in order: one edge more, a refusal that stays, and what every fault-free answer has. Assumes nothing.
+-- The edges in order: one edge more, a refusal that stays; and every answer refuses or has few lines, all admitted. Assumes nothing.
 use Prim.Native.Nat.{ℕ, zero, suc, _+_, _-_, _≤_}
 use mathlib.Core.Path.{_≡_, refl}
 use mathlib.Core.List.{List, [], _∷_, _++_}
