@@ -27,7 +27,7 @@ use Rattle.dodgy_2d.proofs.SceneTold.{Told, answered, at-fault, by-edge, scene-
 use Rattle.fields.specs.Got.{Got, refused, got, then, guard, word, many}
 use Rattle.scene_records.specs.Steps.{version, count, number, vector, ended}
 use Rattle.scene_records.specs.Parts.{cart, head, verticesAt, obstacle, obstacles, neighbour, neighbours}
-use Rattle.scene_records.specs.Records.{announced, fieldsIn, sceneIn}
+use Rattle.scene_records.specs.Records.{longestRest, announced, fieldsIn, sceneIn}
 use Rattle.scene_records.proofs.ReadAdmitted.{read-admitted}
 use Rattle.answer_records.specs.declared.Reply.the-variants as reply
 use Rattle.answer_records.specs.Replies.{answerIn}
@@ -119,7 +119,7 @@ module _ (s : List ℕ) where
   unfolding sceneIn announced fieldsIn version ended
   scene-fair =
       then-fair (announced s) _
-      (then-fair (word 2 s 0) _ (word-fair 2 0) λ n a. guard-fair (leb n 2631) 4 _ (omega arith, omega arith) (guard-fair (eqb n (length s - 2)) 2 _ (omega arith, omega arith) read))
+      (then-fair (word 2 s 0) _ (word-fair 2 0) λ n a. guard-fair (leb n longestRest) 4 _ (omega arith, omega arith) (guard-fair (eqb n (length s - 2)) 2 _ (omega arith, omega arith) read))
       λ u a.
       then-fair (version s a) _ (byte-fair a _ λ v b. guard-fair (eqb v 1) 1 _ (omega arith, omega arith) read) λ v b.
       then-fair (cart s b) _ (cart-fair b) λ c d.

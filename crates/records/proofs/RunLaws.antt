@@ -9,7 +9,8 @@ use Rattle.arithmetic.specs.Binary32.{if_then_else_}
 use Rattle.arithmetic.proofs.Choice.{if-all}
 use Rattle.answer_records.specs.Answers.{refusalBytes}
 use Rattle.records.specs.Answered.{replyTo}
-use Rattle.records.specs.Parts.{Part, skipped, overlong, whole, cutShort, longest, partIn}
+use Rattle.scene_records.specs.Records.{longestRest}
+use Rattle.records.specs.Parts.{Part, skipped, overlong, whole, cutShort, partIn}
 use Rattle.records.specs.Streams.{Room, unlimited, hasRoom, less, Worked, stopped, after, onward, parts, worked, lastAnswer, ended, answersFrom, answersTo, run, joined}
 use Rattle.records.proofs.PartLaws.{Lies, skips, names, holds, none, lies}
 use Rattle.records.proofs.WorkLaws.{work-on, work-freely}
@@ -68,14 +69,14 @@ module _ (skip : ℕ) (l : List ℕ) (still : worked unlimited skip l ≡ stoppe
   unmoved : (q : Part) → partIn skip l ≡ q → onward worked unlimited skip l q .used ≡ 0
   unmoved q e = ap (λ (w : Worked). w .used) (ap (onward worked unlimited skip l) (sym e) ∙ sym (work-freely skip l) ∙ still)
 
-  few-left : (q : Part) → Lies skip l q → partIn skip l ≡ q → length l ≤ 1 + longest
+  few-left : (q : Part) → Lies skip l q → partIn skip l ≡ q → length l ≤ 1 + longestRest
   few-left (skipped k) (skips one fits there) e = absurd (omega (arith, unmoved (skipped k) e))
   few-left (overlong n) (names z two far f) e = absurd (omega (arith, unmoved (overlong n) e))
   few-left (whole k) (holds z two near there f) e = absurd (omega (arith, unmoved (whole k) e))
   few-left cutShort (none few) e = few
 
 -- What the work leaves is shorter than the longest record: 2,632 bytes at most are kept for the next read.
-pub kept-short : (skip : ℕ) (a : List ℕ) → length (drop (worked unlimited skip a .used) a) ≤ 1 + longest
+pub kept-short : (skip : ℕ) (a : List ℕ) → length (drop (worked unlimited skip a .used) a) ≤ 1 + longestRest
 kept-short skip a =
     let s = worked unlimited skip a .skip in
     let l = drop (worked unlimited skip a .used) a in

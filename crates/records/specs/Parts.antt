@@ -4,6 +4,7 @@ use mathlib.Core.List.{List}
 use lib.Dec.{eqb, ltb}
 use lib.ListN.{length}
 use Rattle.arithmetic.specs.Binary32.{if_then_else_}
+use Rattle.scene_records.specs.Records.{longestRest}
 use Rattle.answer_records.specs.Replies.{pairOf}
 use Rattle.records.specs.declared.Part.{Part as PartCode}
 use Rattle.records.specs.declared.Part.the-variants as code
@@ -21,10 +22,6 @@ partOf (code.Overlong n) = overlong n
 partOf (code.Whole k) = whole k
 partOf code.Cut = cutShort
 
--- "a record's length field is over 2,631"
-abbrev pub longest : ℕ
-longest = 2631
-
 -- as many of the bytes to be skipped as are there
 unfoldable pub skippedOf : ℕ → ℕ → Part
 skippedOf skip n = if eqb n 0 then cutShort else (if ltb n skip then skipped n else skipped skip)
@@ -34,6 +31,6 @@ unfoldable pub partIn : ℕ → List ℕ → Part
 partIn skip s =
     if ltb 0 skip then skippedOf skip (length s)
     else (if ltb (length s) 2 then cutShort
-    else (if ltb longest (pairOf s 0) then overlong (pairOf s 0)
+    else (if ltb longestRest (pairOf s 0) then overlong (pairOf s 0)
     else (if ltb (length s) (2 + pairOf s 0) then cutShort
     else whole (2 + pairOf s 0))))

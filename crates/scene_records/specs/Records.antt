@@ -63,9 +63,13 @@ fieldsIn s at =
     then (ended s g) λ v h.
     got (sceneOf c n os m ls) h
 
+-- "a record's length field is over 2,631"
+abbrev pub longestRest : ℕ
+longestRest = 2631
+
 -- "fewer than two bytes, 2; length field over 2,631, 4; length not matching the rest, 2"
 unfoldable pub announced : List ℕ → Got (Unit {0})
-announced s = then (word 2 s 0) λ n a. guard (leb n 2631) 4 (guard (eqb n (length s - 2)) 2 (got tt a))
+announced s = then (word 2 s 0) λ n a. guard (leb n longestRest) 4 (guard (eqb n (length s - 2)) 2 (got tt a))
 
 unfoldable pub sceneIn : List ℕ → Got Scene
 sceneIn s = then (announced s) λ u a. fieldsIn s a
