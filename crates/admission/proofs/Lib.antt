@@ -1,2 +1,3 @@
--- The laws of `admission`: of faults and of judgements.
+-- The laws of `admission`: of faults and of judgements, and of an obstacle's head.
 pub mod FaultLaws
+pub mod HeadLaws

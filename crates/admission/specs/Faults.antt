@@ -22,6 +22,11 @@ abbrev pub _⊳_ : Fault → Fault → Fault
 fine ⊳ f = f
 fault r ⊳ f = fault r
 
+-- what there is without a fault, or a refusal with its number
+abbrev pub unlessFault : {A : Type 0} → (ℕ → A) → Fault → A → A
+unlessFault refuse fine a = a
+unlessFault refuse (fault r) a = refuse r
+
 -- "Ends are admitted"; a NaN is not, nor an infinity where the bound is finite
 unfoldable pub within : Float → Float → Bool
 within bound x = absOf x ≤ᶠ bound

@@ -1,6 +1,7 @@
 // Judgements of what is admitted (01, "What is admitted", "Refusal numbers"): fine, or the number of the first fault.
 ghost use mathlib.Core.Path.{_≡_};
 ghost use Rattle.admission.specs.Faults.{_⊳_, must, within, inside, faultOf};
+ghost use Rattle.admission.specs.Heads.{isKind, roomFor, isEmptyOpen};
 
 pub enum Judged {
     Fine,
@@ -38,5 +39,47 @@ pub fn first_of(first: Judged, second: Judged) -> Judged
     match first {
         Judged::Fine => second,
         Judged::Fault(number) => Judged::Fault(number),
+    }
+}
+
+// An obstacle's kind, and how many vertices it has.
+pub struct Head {
+    pub kind: u8,
+    pub count: usize,
+}
+
+impl Head {
+    // The kinds of an obstacle.
+    pub const CLOSED: u8 = 1;
+
+    pub const OPEN: u8 = 2;
+
+    // The most vertices of one obstacle, and of all obstacles of a scene together.
+    pub const MOST: usize = 64;
+
+    pub const MOST_TOGETHER: usize = 192;
+
+    // Whether a number is the kind of an obstacle.
+    pub fn is_kind(kind: u8) -> bool
+        ensures { λ r. ⌜ r ≡ isKind kind ⌝ }
+    {
+        kind == Head::CLOSED || kind == Head::OPEN
+    }
+
+    // Whether an obstacle may have as many vertices as `count`, behind the `total` vertices of the obstacles before it. No sum is made that could overflow.
+    pub fn has_room(total: usize, count: usize) -> bool
+        ensures { λ r. ⌜ r ≡ roomFor total count ⌝ }
+    {
+        if count > Head::MOST {
+            return false;
+        }
+        total <= Head::MOST_TOGETHER - count
+    }
+
+    // Whether an obstacle is open and has no vertices, which no record may say. A closed one may have none.
+    pub fn is_empty_open(kind: u8, count: usize) -> bool
+        ensures { λ r. ⌜ r ≡ isEmptyOpen kind count ⌝ }
+    {
+        kind == Head::OPEN && count == 0
     }
 }

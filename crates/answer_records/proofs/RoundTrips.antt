@@ -12,11 +12,11 @@ use Rattle.arithmetic.specs.Binary32.{if_then_else_}
 use Rattle.words.specs.Words.{pairOf, wordOf}
 use Rattle.fields.specs.Bytes.{be, beFrom, toBe, AllBytes}
 use Rattle.fields.proofs.ByteLaws.{be-toBe}
-use Rattle.admission.specs.Faults.{Fault, fine, fault}
+use Rattle.admission.specs.Faults.{Fault, fine, fault, unlessFault}
 use Rattle.answer_records.specs.declared.Answer.{Answer}
 use Rattle.answer_records.specs.declared.Reply.the-variants as reply
 use Rattle.answer_records.specs.Answers.{outcomeLength, refusalLength, answerBytes, refusalBytes}
-use Rattle.answer_records.specs.Replies.{isLength, lengthOfCode, answerFault, outcomeIn, unlessFault, answerIn}
+use Rattle.answer_records.specs.Replies.{isLength, lengthOfCode, answerFault, outcomeIn, answerIn}
 use Rattle.answer_records.proofs.ReplyLaws.{Faultless, faultless, has-code}
 
 -- ---- numbers and their bytes
@@ -104,14 +104,14 @@ module _ (n : ℕ) (least : 1 ≤ n) (most : n ≤ 10) where
 -- ---- what is read is written again
 
 -- an outcome, a refusal or a fault: what each says of the bytes
-read-outcome : {C : Type 0} (f : Fault) (below : Bool) (o : Answer) (n : ℕ) (a : Answer) → unlessFault f (if below then reply.Outcome o else reply.Refusal n) ≡ reply.Outcome a →
+read-outcome : {C : Type 0} (f : Fault) (below : Bool) (o : Answer) (n : ℕ) (a : Answer) → unlessFault reply.Fault f (if below then reply.Outcome o else reply.Refusal n) ≡ reply.Outcome a →
     (f ≡ fine → below ≡ true → o ≡ a → C) → C
 unfolding if_then_else_
 read-outcome fine true o n a e go = go refl refl cc
 read-outcome fine false o n a e go = absurd (let z : _≡_ {A = ℕ} 0 1 = cc in omega arith)
 read-outcome (fault r) below o n a e go = absurd (let z : _≡_ {A = ℕ} 0 1 = cc in omega arith)
 
-read-refusal : {C : Type 0} (f : Fault) (below : Bool) (o : Answer) (n m : ℕ) → unlessFault f (if below then reply.Outcome o else reply.Refusal n) ≡ reply.Refusal m →
+read-refusal : {C : Type 0} (f : Fault) (below : Bool) (o : Answer) (n m : ℕ) → unlessFault reply.Fault f (if below then reply.Outcome o else reply.Refusal n) ≡ reply.Refusal m →
     (f ≡ fine → below ≡ false → n ≡ m → C) → C
 unfolding if_then_else_
 read-refusal fine true o n m e go = absurd (let z : _≡_ {A = ℕ} 0 1 = cc in omega arith)

@@ -6,7 +6,7 @@ use lib.Dec.{eqb, leb, ltb}
 use lib.ListN.{length, getD}
 use Rattle.arithmetic.specs.Binary32.{if_then_else_}
 use Rattle.words.specs.Words.{pairOf, wordOf}
-use Rattle.admission.specs.Faults.{Fault, fine, fault, must, _⊳_}
+use Rattle.admission.specs.Faults.{Fault, must, _⊳_, unlessFault}
 use Rattle.answer_records.specs.declared.Answer.{Answer}
 use Rattle.answer_records.specs.declared.Reply.{Reply}
 use Rattle.answer_records.specs.declared.Reply.the-variants as reply
@@ -32,10 +32,6 @@ answerFault s =
 unfoldable pub outcomeIn : List ℕ → Answer
 outcomeIn s = record { code = getD s 3 0; x = wordOf s 4; y = wordOf s 8; failed = pairOf s 12; probes = wordOf s 14 }
 
-abbrev pub unlessFault : Fault → Reply → Reply
-unlessFault fine r = r
-unlessFault (fault n) r = reply.Fault n
-
 -- an outcome's code lies below 128, a refusal's is 128 and its number
 unfoldable pub answerIn : List ℕ → Reply
-answerIn s = unlessFault (answerFault s) (if ltb (getD s 3 0) 128 then reply.Outcome (outcomeIn s) else reply.Refusal (getD s 3 0 - 128))
+answerIn s = unlessFault reply.Fault (answerFault s) (if ltb (getD s 3 0) 128 then reply.Outcome (outcomeIn s) else reply.Refusal (getD s 3 0 - 128))

@@ -53,7 +53,7 @@ pub told-refused : (a : Answer) (r : ℕ) → answerAs a .judged ≡ judgedAs (f
 told-refused (lines l) r e = absurd (no-fault r (ap faultOf e))
 told-refused (refused s) r e = ap refused (fault-same (ap faultOf e))
 
-pub told-lines : (a : Answer) → answerAs a .judged ≡ judgedAs fine → a ≡ lines (linesOf (take (4 * answerAs a .count) (answerAs a .lines)))
+told-lines : (a : Answer) → answerAs a .judged ≡ judgedAs fine → a ≡ lines (linesOf (take (4 * answerAs a .count) (answerAs a .lines)))
 told-lines (lines l) e = ap lines (sym (handed-lines l))
 told-lines (refused s) e = absurd (no-fault s (sym (ap faultOf e)))
 

@@ -1,18 +1,19 @@
 -- A scene's obstacles in order: what a loop over them has left, and what their faults say of each. Assumes nothing.
 use Prim.Native.Nat.{ℕ, _+_, _*_, _≤_, _<_}
 use mathlib.Core.Path.{_≡_, sym, ap, _∙_}
+use mathlib.Core.Bool.{true, not}
 use mathlib.Core.List.{List, [], _∷_}
 use native.Mathlib.Omega.{arith}
-use lib.Dec.{leb}
 use lib.ListN.{length, take, drop, getD}
 use lib.Seq.{drop-drop, drop-at, take-add, length-take-le}
 use lib.Ieee.{Float}
-use borrow.Author.Tests.{leb-true}
-use Rattle.arithmetic.proofs.Choice.{and-left, and-right}
+use Rattle.admission.specs.declared.Head.{Head}
 use Rattle.admission.specs.Faults.{Fault, fine, fault, must, _⊳_}
+use Rattle.admission.specs.Heads.{headOf, isKind, roomFor, isEmptyOpen}
 use Rattle.admission.proofs.FaultLaws.{⊳-fine, ⊳-assoc, must-fine}
+use Rattle.admission.proofs.HeadLaws.{room-within}
 use Rattle.lines.proofs.Fold.{left-next, left-none}
-use Rattle.dodgy_2d.specs.Scenes.{Head, headOf, headsOf, numbersFault, isKind, roomFor, headFault, obstaclesFault}
+use Rattle.dodgy_2d.specs.Scenes.{headsOf, numbersFault, headFault, obstaclesFault}
 
 -- ---- the heads from the i-th up to the n-th
 
@@ -30,14 +31,16 @@ module _ (ks cs : List ℕ) (n i : ℕ) (kinds : n ≤ length ks) (counts : n �
 
 -- ---- one head's fault
 
--- a head that passes leaves room for its vertices
-pub head-room : (total : ℕ) (h : Head) → headFault total h ≡ fine → (h .count ≤ 64) × (total + h .count ≤ 192)
-unfolding headFault roomFor
-head-room total h e =
+-- a head without a fault passes each test
+pub head-passed : (total : ℕ) (h : Head) → headFault total h ≡ fine → (isKind (h .kind) ≡ true) × (roomFor total (h .count) ≡ true) × (not (isEmptyOpen (h .kind) (h .count)) ≡ true)
+unfolding headFault
+head-passed total h e =
     let a = ⊳-fine (must (isKind (h .kind)) 3) e in
     let b = ⊳-fine (must (roomFor total (h .count)) 4) (a .1) in
-    let c = must-fine (roomFor total (h .count)) 4 (b .0) in
-    (leb-true _ _ (and-left (leb (h .count) 64) (leb (total + h .count) 192) c), leb-true _ _ (and-right (leb (h .count) 64) (leb (total + h .count) 192) c))
+    (must-fine _ 3 (a .0), must-fine _ 4 (b .0), must-fine _ 5 (b .1))
+
+pub head-room : (total : ℕ) (h : Head) → headFault total h ≡ fine → (h .count ≤ 64) × (total + h .count ≤ 192)
+head-room total h e = room-within total (h .count) (head-passed total h e .1)
 
 -- the numbers of `count` vertices behind `total`
 pub part-of : (v : List Float) (total count : ℕ) → total + count ≤ 192 → length v ≡ 384 → drop (2 * total) (take (2 * (total + count)) v) ≡ take (2 * count) (drop (2 * total) v)

@@ -1,5 +1,5 @@
--- The laws of `dodgy_2d`: of a scene's faults, of its obstacles in order, of its passes, what is refused, and that two answers of one promise agree.
-pub mod SceneFaults
+-- The laws of `dodgy_2d`: of numbers and of obstacles judged in order, of the obstacles' lines joined, of the passes, of what is told, and that two answers of one promise agree.
+pub mod NumbersInOrder
 pub mod HeadsInOrder
 pub mod EdgesJoined
 pub mod ScenePasses

@@ -9,6 +9,7 @@ use lib.Seq.{paste, take-paste, length-paste-head, length-take-le}
 use lib.Ieee.{Float}
 use borrow.Author.Tests.{leb-true, le-leb}
 use Rattle.arithmetic.specs.Binary32.{0ᶠ}
+use Rattle.admission.specs.declared.Head.{Head}
 use Rattle.admission.specs.Faults.{fine, must, within, inside}
 use Rattle.admission.proofs.FaultLaws.{⊳-fine, must-fine}
 use Rattle.common.specs.declared.Vec2.{Vec2}
@@ -18,22 +19,22 @@ use Rattle.lines.specs.LineFaults.{linesFault}
 use Rattle.linear_programming.specs.Admit.{reach, longest, wishFault, judgedList, listCall}
 use Rattle.linear_programming.specs.Whole.{Phase, Failed, stands, wholeList}
 use Rattle.lines.proofs.JudgeLaws.{faults-append}
-use Rattle.lines.proofs.Rows.{lines-long}
+use Rattle.lines.proofs.Rows.{lines-long, lines-take}
 use Rattle.linear_programming.proofs.WholeProbes.{whole-fits}
 use Rattle.obstacles.specs.declared.Agent.{Agent}
 use Rattle.obstacles.specs.Obstacles.{Answer, lines, refused}
-use Rattle.obstacles.proofs.EdgesInOrder as edges
-use Rattle.obstacles.proofs.HandedOver.{call-sound, sound-admitted}
+use Rattle.obstacles.proofs.EdgesInOrder.{FewAdmitted, refuses, few-admitted}
+use Rattle.obstacles.proofs.HandedOver.{call-few-admitted}
 use Rattle.dodgy_2d.specs.declared.Scene.{Scene}
-use Rattle.dodgy_2d.specs.Scenes.{Head, headsIn, neighboursIn, shortestHorizon, longestHorizon, numbersFault, vectorFault, agentFault, headFault, obstaclesFault, sceneFault}
+use Rattle.dodgy_2d.specs.Scenes.{headsIn, neighboursIn, shortestHorizon, longestHorizon, numbersFault, vectorFault, agentFault, headFault, obstaclesFault, sceneFault}
 use Rattle.dodgy_2d.specs.Outcomes.{joined, edgeLines, edgesAt, solvedOver, passAt}
-use Rattle.dodgy_2d.proofs.SceneFaults.{neighbours-there}
 use Rattle.dodgy_2d.proofs.HeadsInOrder.{head-room}
 use Rattle.dodgy_2d.proofs.EdgesJoined.{copied-lines}
 
 -- ---- the parts of a scene without a fault
 
 pub record Parts (s : Scene) : Type 0 where
+  pub agent : agentFault s ≡ fine
   pub wish : wishFault (s .wish) (s .limit) ≡ fine
   pub obstacles : s .obstacles ≤ 16
   pub walls : obstaclesFault 0 (headsIn s) (s .vertices) ≡ fine
@@ -60,6 +61,7 @@ parts s e =
     let c = ⊳-fine (obstaclesFault 0 (headsIn s) (s .vertices)) (b .1) in
     let d = ⊳-fine (must (leb (s .neighbours) 64) 4) (c .1) in
     record {
+      agent = a .0;
       wish = wish-fine s (a .0);
       obstacles = leb-true _ _ (must-fine (leb (s .obstacles) 16) 4 (b .0));
       walls = c .0;
@@ -69,39 +71,28 @@ parts s e =
 
 -- ---- the obstacles' lines: at most as many as the vertices, and admitted
 
--- a refusal, or at most n lines that pass the admission of a list
-pub data Fair (n : ℕ) : Answer → Type 0 where
-  refuses : {r : ℕ} → Fair n (refused r)
-  fair : {ls : List Line} → length ls ≤ n → linesFault ls ≡ fine → Fair n (lines ls)
+few-and-admitted : {n : ℕ} {ls : List Line} → FewAdmitted n (lines ls) → (length ls ≤ n) × (linesFault ls ≡ fine)
+few-and-admitted (few-admitted few all) = (few, all)
 
-fair-few : {n : ℕ} {ls : List Line} → Fair n (lines ls) → length ls ≤ n
-fair-few (fair few all) = few
+joined-few-admitted : (m n : ℕ) (a b : Answer) → FewAdmitted m a → FewAdmitted n b → FewAdmitted (m + n) (joined a b)
+joined-few-admitted m n (refused r) b refuses g = refuses
+joined-few-admitted m n (lines l) (refused r) (few-admitted few all) refuses = refuses
+joined-few-admitted m n (lines l) (lines k) (few-admitted few all) (few-admitted fewer rest) =
+    few-admitted {ls = l ++ k} (rw length-append (omega arith)) (rw (faults-append l k, all, rest))
 
-fair-admitted : {n : ℕ} {ls : List Line} → Fair n (lines ls) → linesFault ls ≡ fine
-fair-admitted (fair few all) = all
-
-of-sound : (n : ℕ) (a : Answer) → edges.Sound n a → Fair n a
-of-sound n (refused r) edges.refuses = refuses
-of-sound n (lines ls) (edges.stands few all) = fair {ls = ls} few (sound-admitted n ls (edges.stands few all))
-
-joined-fair : (m n : ℕ) (a b : Answer) → Fair m a → Fair n b → Fair (m + n) (joined a b)
-joined-fair m n (refused r) b refuses g = refuses
-joined-fair m n (lines l) (refused r) (fair few all) refuses = refuses
-joined-fair m n (lines l) (lines k) (fair few all) (fair few2 all2) = fair {ls = l ++ k} (rw length-append (omega arith)) (rw (faults-append l k, all, all2))
-
-edges-fair : (agent : Agent) (margin horizon : Float) (v xs : List Float) (offset : ℕ) (hs : List Head) → offset ≤ 192 → obstaclesFault offset hs xs ≡ fine → Fair (192 - offset) (edgeLines agent margin horizon v offset hs)
+edges-few-admitted : (agent : Agent) (margin horizon : Float) (v xs : List Float) (offset : ℕ) (hs : List Head) → offset ≤ 192 → obstaclesFault offset hs xs ≡ fine → FewAdmitted (192 - offset) (edgeLines agent margin horizon v offset hs)
 unfolding edgeLines obstaclesFault linesFault
-edges-fair agent margin horizon v xs offset [] few e = fair {ls = []} (omega arith) refl
-edges-fair agent margin horizon v xs offset (h ∷ hs) few e =
+edges-few-admitted agent margin horizon v xs offset [] few e = few-admitted {ls = []} (omega arith) refl
+edges-few-admitted agent margin horizon v xs offset (h ∷ hs) few e =
     let a = ⊳-fine (headFault offset h) e in
     let b = ⊳-fine (numbersFault _) (a .1) in
     let room = head-room offset h (a .0) .1 in
     let k : 192 - offset ≡ h .count + (192 - (offset + h .count)) = omega arith in
-    rw k (joined-fair (h .count) (192 - (offset + h .count)) _ _ (of-sound (h .count) _ (call-sound agent (h .kind) v offset (h .count) margin horizon)) (edges-fair agent margin horizon v _ (offset + h .count) hs room (b .1)))
+    rw k (joined-few-admitted (h .count) (192 - (offset + h .count)) _ _ (call-few-admitted agent (h .kind) v offset (h .count) margin horizon) (edges-few-admitted agent margin horizon v _ (offset + h .count) hs room (b .1)))
 
 -- 01, "192 together": the obstacles of a scene make at most 192 lines
-pub scene-fair : (s : Scene) (velocity : Vec2) → sceneFault s ≡ fine → Fair 192 (edgesAt s velocity)
-scene-fair s velocity e = edges-fair _ (s .margin) (s .horizon) (s .vertices) (s .vertices) 0 (headsIn s) (omega arith) (parts s e .walls)
+pub scene-few-admitted : (s : Scene) (velocity : Vec2) → sceneFault s ≡ fine → FewAdmitted 192 (edgesAt s velocity)
+scene-few-admitted s velocity e = edges-few-admitted _ (s .margin) (s .horizon) (s .vertices) (s .vertices) 0 (headsIn s) (omega arith) (parts s e .walls)
 
 -- ---- a pass
 
@@ -109,15 +100,15 @@ few-neighbours : (s : Scene) → s .neighbours ≤ 64 → length (neighboursIn s
 few-neighbours s h = rw length-take (omega arith)
 
 -- at most 192 obstacle lines and 64 neighbour lines, 256 together, and so every total of probes fits
-solved-fits : (s : Scene) (a : Answer) → s .neighbours ≤ 64 → Fair 192 a → {ph : Phase} {f : Failed} {n : ℕ} → solvedOver (s .wish) (s .limit) (neighboursIn s) a ≡ stands ph f n → n ≤ 16777216
-solved-fits s (lines l) few (fair short all) e =
+solved-fits : (s : Scene) (a : Answer) → s .neighbours ≤ 64 → FewAdmitted 192 a → {ph : Phase} {f : Failed} {n : ℕ} → solvedOver (s .wish) (s .limit) (neighboursIn s) a ≡ stands ph f n → n ≤ 16777216
+solved-fits s (lines l) few (few-admitted short all) e =
     let k = few-neighbours s few in
     whole-fits (length l) (s .wish) (s .limit) (l ++ neighboursIn s) (rw length-append (omega arith)) e
 solved-fits s (refused r) few refuses e = absurd (let z : _≡_ {A = ℕ} 0 1 = cc in omega arith)
 
 pub pass-fits : (s : Scene) (velocity : Vec2) → sceneFault s ≡ fine → {ph : Phase} {f : Failed} {n : ℕ} → stands ph f n ≡ passAt s velocity → n ≤ 16777216
 unfolding passAt
-pass-fits s velocity h e = solved-fits s (edgesAt s velocity) (parts s h .neighbours) (scene-fair s velocity h) (sym e)
+pass-fits s velocity h e = solved-fits s (edgesAt s velocity) (parts s h .neighbours) (scene-few-admitted s velocity h) (sym e)
 
 -- an admitted list's call is its solve
 called-whole : (rigid : ℕ) (wish : Vec2) (limit : Float) (xs : List Float) → length xs % 4 ≡ 0 → length (linesOf xs) ≤ 256 → wishFault wish limit ≡ fine → linesFault (linesOf xs) ≡ fine → listCall rigid wish limit xs ≡ wholeList rigid wish limit (linesOf xs)
@@ -133,11 +124,11 @@ pass-solved s velocity b rigid h size fits e =
     let near = p .neighbours in
     let own = linesOf (take (4 * rigid) b) in
     let xs = take (4 * (rigid + s .neighbours)) (paste b (4 * rigid) (s .lines) (4 * s .neighbours)) in
-    let sound : Fair 192 (lines own) = rw e (scene-fair s velocity h) in
-    let all : linesOf xs ≡ own ++ neighboursIn s = copied-lines b (s .lines) rigid (s .neighbours) fits (omega arith) ∙ ap (λ (l : List Line). own ++ l) (neighbours-there (s .lines) (s .neighbours)) in
+    let both = few-and-admitted {n = 192} {ls = own} (rw e (scene-few-admitted s velocity h)) in
+    let all : linesOf xs ≡ own ++ neighboursIn s = copied-lines b (s .lines) rigid (s .neighbours) fits (omega arith) ∙ ap (λ (l : List Line). own ++ l) (lines-take (s .lines) (s .neighbours)) in
     let sum : 4 * (rigid + s .neighbours) ≡ 4 * rigid + 4 * s .neighbours = omega arith in
     let long : length xs ≡ 4 * rigid + 4 * s .neighbours = rw (sum, take-paste b (4 * rigid) (s .lines) (4 * s .neighbours) fits (omega arith)) (length-paste-head b (4 * rigid) (s .lines) (4 * s .neighbours) fits (omega arith)) in
-    let few : length (linesOf xs) ≤ 256 = rw (all, length-append) (omega (arith, fair-few sound, few-neighbours s near)) in
-    let faults : linesFault (linesOf xs) ≡ fine = rw (all, faults-append own (neighboursIn s), fair-admitted sound, p .lines) in
+    let few : length (linesOf xs) ≤ 256 = rw (all, length-append) (omega (arith, both .0, few-neighbours s near)) in
+    let faults : linesFault (linesOf xs) ≡ fine = rw (all, faults-append own (neighboursIn s), both .1, p .lines) in
     let many : length own ≡ rigid = lines-long (take (4 * rigid) b) ∙ rw (length-take-le (4 * rigid) b fits) (omega arith) in
     called-whole rigid (s .wish) (s .limit) xs (rw long (omega arith)) few (p .wish) faults ∙ rw (all, ← e, many)

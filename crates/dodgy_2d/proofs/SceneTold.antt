@@ -3,16 +3,18 @@ use Prim.Native.Nat.{ℕ, _≤_}
 use mathlib.Core.Path.{_≡_, refl}
 use mathlib.Core.List.{_++_}
 use native.Mathlib.Omega.{arith}
-use Rattle.admission.specs.Faults.{Fault, fine, fault}
+use Rattle.admission.specs.Faults.{fine, fault}
+use Rattle.admission.proofs.FaultLaws.{unless-case}
 use Rattle.common.specs.declared.Vec2.{Vec2}
 use Rattle.linear_programming.specs.Whole.{Phase, solving, relaxing, rigidFailure, Failed, Outcome, stands, refusal}
 use Rattle.lines.proofs.JudgeLaws.{faults-append}
 use Rattle.linear_programming.proofs.Bounds.NeverRefused.{Stood, stood, never-refused}
 use Rattle.obstacles.specs.Obstacles.{Answer, lines, refused}
+use Rattle.obstacles.proofs.EdgesInOrder.{FewAdmitted, refuses, few-admitted}
 use Rattle.dodgy_2d.specs.declared.Scene.{Scene}
 use Rattle.dodgy_2d.specs.Scenes.{neighboursIn, sceneFault}
-use Rattle.dodgy_2d.specs.Outcomes.{SceneOutcome, outcome, refusedScene, edgesAt, solvedOver, passAt, atRest, secondPass, firstPass, unlessFault, sceneOutcome}
-use Rattle.dodgy_2d.proofs.ScenePasses.{Fair, refuses, fair, parts, scene-fair}
+use Rattle.dodgy_2d.specs.Outcomes.{SceneOutcome, outcome, refusedScene, edgesAt, solvedOver, passAt, atRest, secondPass, firstPass, sceneOutcome}
+use Rattle.dodgy_2d.proofs.ScenePasses.{parts, scene-few-admitted}
 
 -- ---- a pass stands, or an edge line of it is refused
 data PassTold (s : Scene) : Outcome → Type 0 where
@@ -22,15 +24,15 @@ data PassTold (s : Scene) : Outcome → Type 0 where
 stood-passed : {s : Scene} {o : Outcome} → Stood o → PassTold s o
 stood-passed stood = passed
 
-solved-told : (s : Scene) (v : Vec2) (a : Answer) → sceneFault s ≡ fine → edgesAt s v ≡ a → Fair 192 a → PassTold s (solvedOver (s .wish) (s .limit) (neighboursIn s) a)
+solved-told : (s : Scene) (v : Vec2) (a : Answer) → sceneFault s ≡ fine → edgesAt s v ≡ a → FewAdmitted 192 a → PassTold s (solvedOver (s .wish) (s .limit) (neighboursIn s) a)
 solved-told s v (refused r) h e refuses = edge-refused v e
-solved-told s v (lines l) h e (fair few all) =
+solved-told s v (lines l) h e (few-admitted few all) =
     let p = parts s h in
     stood-passed (never-refused _ (s .wish) (s .limit) (l ++ neighboursIn s) (p .wish) (rw (faults-append l (neighboursIn s), all, p .lines)))
 
 pass-told : (s : Scene) (v : Vec2) → sceneFault s ≡ fine → PassTold s (passAt s v)
 unfolding passAt
-pass-told s v h = solved-told s v (edgesAt s v) h refl (scene-fair s v h)
+pass-told s v h = solved-told s v (edgesAt s v) h refl (scene-few-admitted s v h)
 
 -- ---- the scene
 
@@ -51,10 +53,6 @@ first-told s (stands (relaxing p depth) f m) h passed = answered {code = 2} (ome
 first-told s (stands (rigidFailure k p) f m) h passed = second-told s m (passAt s atRest) h (pass-told s atRest h)
 first-told s (refusal r) h (edge-refused v e) = by-edge v h e
 
-unless-told : (s : Scene) (f : Fault) → sceneFault s ≡ f → (sceneFault s ≡ fine → Told s (firstPass s (passAt s (s .agent .velocity)))) → Told s (unlessFault f (firstPass s (passAt s (s .agent .velocity))))
-unless-told s fine e h = h e
-unless-told s (fault r) e h = at-fault e
-
 pub scene-told : (s : Scene) → Told s (sceneOutcome s)
 unfolding sceneOutcome
-scene-told s = unless-told s (sceneFault s) refl (λ e. first-told s _ e (pass-told s (s .agent .velocity) e))
+scene-told s = unless-case (Told s) refusedScene (sceneFault s) (λ e. first-told s _ e (pass-told s (s .agent .velocity) e)) (λ r e. at-fault e)

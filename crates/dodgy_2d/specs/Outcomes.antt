@@ -4,7 +4,8 @@ use mathlib.Core.List.{List, [], _∷_, _++_}
 use lib.ListN.{length}
 use lib.Ieee.{Float}
 use Rattle.arithmetic.specs.Binary32.{0ᶠ}
-use Rattle.admission.specs.Faults.{Fault, fine, fault}
+use Rattle.admission.specs.declared.Head.{Head}
+use Rattle.admission.specs.Faults.{unlessFault}
 use Rattle.common.specs.declared.Vec2.{Vec2}
 use Rattle.common.specs.Vectors.{vec}
 use Rattle.lines.specs.declared.Line.{Line}
@@ -12,7 +13,7 @@ use Rattle.linear_programming.specs.Whole.{Failed, Outcome, stands, refusal, so
 use Rattle.obstacles.specs.declared.Agent.{Agent}
 use Rattle.obstacles.specs.Obstacles.{Answer, lines, refused, obstacleCall}
 use Rattle.dodgy_2d.specs.declared.Scene.{Scene}
-use Rattle.dodgy_2d.specs.Scenes.{Head, headsIn, neighboursIn, sceneFault}
+use Rattle.dodgy_2d.specs.Scenes.{headsIn, neighboursIn, sceneFault}
 
 -- the outcome 1 to 5, its velocity, the failed line of the last pass run and the probes of all passes; or the number of a refusal
 pub data SceneOutcome : Type 0 where
@@ -64,9 +65,5 @@ firstPass s (stands (relaxing p depth) f n) = outcome 2 p f n
 firstPass s (stands (rigidFailure k p) f n) = secondPass n (passAt s atRest)
 firstPass s (refusal r) = refusedScene r
 
-abbrev pub unlessFault : Fault → SceneOutcome → SceneOutcome
-unlessFault fine o = o
-unlessFault (fault r) o = refusedScene r
-
 unfoldable pub sceneOutcome : Scene → SceneOutcome
-sceneOutcome s = unlessFault (sceneFault s) (firstPass s (passAt s (s .agent .velocity)))
+sceneOutcome s = unlessFault refusedScene (sceneFault s) (firstPass s (passAt s (s .agent .velocity)))

@@ -1,37 +1,38 @@
 -- A scene's parts, and its first fault in the order of the record's fields (01, "What is admitted", "Refusal numbers", "Records"). Definitions only. Assumes nothing.
 use Prim.Native.Nat.{ℕ, _+_, _*_}
-use mathlib.Core.Bool.{Bool, not, _&&_, _||_}
+use mathlib.Core.Bool.{not}
 use mathlib.Core.List.{List, [], _∷_}
-use lib.Dec.{eqb, leb}
+use lib.Dec.{leb}
 use lib.ListN.{take, drop}
 use lib.Ieee.{Float}
 use Rattle.arithmetic.specs.Binary32.{bits, 0ᶠ}
+use Rattle.admission.specs.declared.Head.{Head}
 use Rattle.admission.specs.Faults.{Fault, fine, must, _⊳_, within, inside}
+use Rattle.admission.specs.Heads.{headOf, isKind, roomFor, isEmptyOpen}
 use Rattle.common.specs.declared.Vec2.{Vec2}
 use Rattle.lines.specs.declared.Line.{Line}
 use Rattle.lines.specs.Lines.{linesOf}
 use Rattle.lines.specs.LineFaults.{linesFault}
 use Rattle.linear_programming.specs.Admit.{reach, longest}
-use Rattle.obstacles.specs.Obstacles.{isEmptyOpen}
 use Rattle.dodgy_2d.specs.declared.Scene.{Scene}
 
--- 1/1,024 and 1,024
+-- "Horizon: 1/1,024 to 1,024"
 abbrev pub shortestHorizon : Float
 shortestHorizon = bits 0x3A80_0000
 
 abbrev pub longestHorizon : Float
 longestHorizon = bits 0x4480_0000
 
+-- "At most 16 obstacles", "64 neighbour lines"
+abbrev pub mostObstacles : ℕ
+mostObstacles = 16
+
+abbrev pub mostNeighbours : ℕ
+mostNeighbours = 64
+
 -- ---- the parts
 
--- an obstacle's kind and how many vertices it has
-pub record Head : Type 0 where
-  pub kind : ℕ
-  pub count : ℕ
-
-abbrev pub headOf : ℕ → ℕ → Head
-headOf k c = record { kind = k; count = c }
-
+-- the obstacles' heads
 unfoldable pub headsOf : List ℕ → List ℕ → List Head
 headsOf [] cs = []
 headsOf (k ∷ ks) [] = []
@@ -46,6 +47,7 @@ neighboursIn s = take (s .neighbours) (linesOf (s .lines))
 
 -- ---- the first fault
 
+-- "Position, velocity, wish and vertex components: magnitude at most 65,536"
 unfoldable pub numbersFault : List Float → Fault
 numbersFault [] = fine
 numbersFault (x ∷ xs) = must (within reach x) 6 ⊳ numbersFault xs
@@ -63,12 +65,6 @@ agentFault s =
     ⊳ vectorFault (s .wish)
     ⊳ must (inside 0ᶠ longest (s .limit)) 6
 
-unfoldable pub isKind : ℕ → Bool
-isKind k = eqb k 1 || eqb k 2
-
-unfoldable pub roomFor : ℕ → ℕ → Bool
-roomFor total count = leb count 64 && leb (total + count) 192
-
 -- "neither 1 (closed) nor 2 (open)": 3; "64 vertices each, 192 together": 4; "open obstacle with no vertices": 5
 unfoldable pub headFault : ℕ → Head → Fault
 headFault total h =
@@ -85,7 +81,7 @@ obstaclesFault total (h ∷ hs) xs =
 unfoldable pub sceneFault : Scene → Fault
 sceneFault s =
     agentFault s
-    ⊳ must (leb (s .obstacles) 16) 4
+    ⊳ must (leb (s .obstacles) mostObstacles) 4
     ⊳ obstaclesFault 0 (headsIn s) (s .vertices)
-    ⊳ must (leb (s .neighbours) 64) 4
+    ⊳ must (leb (s .neighbours) mostNeighbours) 4
     ⊳ linesFault (neighboursIn s)

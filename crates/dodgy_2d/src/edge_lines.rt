@@ -1,7 +1,7 @@
 // The obstacles' lines, obstacle behind obstacle, filled into lent numbers, four a line.
 use crate::EdgeLines;
-use crate::Wall;
-use crate::judge::index;
+use crate::judge::wide;
+use admission::Head;
 use admission::Judged;
 use obstacles::Agent;
 ghost use mathlib.Core.Path.{_≡_};
@@ -30,22 +30,23 @@ pub(crate) fn copy(numbers: &mut [f32], at: usize, more: [f32; 256], n: usize)
 // The lines of one obstacle behind the `count` lines that stand.
 fn add_obstacle(
     agent: Agent,
-    wall: Wall,
+    head: Head,
+    offset: usize,
     vertices: &[f32],
     margin: f32,
     horizon: f32,
     numbers: &mut [f32],
     count: usize,
 ) -> EdgeLines
-    requires { ⌜ (length (now numbers) ≡ 1024) × (wall .count ≤ 64) × (count + wall .count ≤ 192) ⌝ }
-    ensures { λ r. ⌜ (length (now (numbers .exit)) ≡ 1024) × (countIn r ≤ count + wall .count) × (edgesOf r (now (numbers .exit)) ≡ joined (linesAre (linesOf (take (4 * count) (now (numbers .entry))))) (obstacleCall agent (wall .kind) (now (vertices .entry)) (wall .offset) (wall .count) margin horizon)) ⌝ }
+    requires { ⌜ (length (now numbers) ≡ 1024) × (head .count ≤ 64) × (count + head .count ≤ 192) ⌝ }
+    ensures { λ r. ⌜ (length (now (numbers .exit)) ≡ 1024) × (countIn r ≤ count + head .count) × (edgesOf r (now (numbers .exit)) ≡ joined (linesAre (linesOf (take (4 * count) (now (numbers .entry))))) (obstacleCall agent (head .kind) (now (vertices .entry)) offset (head .count) margin horizon)) ⌝ }
 {
     let found = obstacles::get_lines_for_agent_to_obstacle(
         agent,
-        wall.kind,
+        head.kind,
         vertices,
-        wall.offset,
-        wall.count,
+        offset,
+        head.count,
         margin,
         horizon,
     );
@@ -77,17 +78,25 @@ pub(crate) fn edge_lines(
     let mut offset = 0usize;
     let mut i = 0usize;
     while i < n {
-        let wall = Wall {
+        let head = Head {
             kind: kinds[i],
-            offset,
-            count: index(counts[i]),
+            count: wide(counts[i]),
         };
-        let added = add_obstacle(agent, wall, vertices, margin, horizon, numbers, count);
+        let added = add_obstacle(
+            agent,
+            head,
+            offset,
+            vertices,
+            margin,
+            horizon,
+            numbers,
+            count,
+        );
         let EdgeLines::Count(so_far) = added else {
             return added;
         };
         count = so_far;
-        offset += wall.count;
+        offset += head.count;
         i += 1;
     }
     EdgeLines::Count(count)

@@ -1,18 +1,17 @@
 // What is admitted of a scene: its first fault in the order of the record's fields.
 use crate::Scene;
+use admission::Head;
 use admission::Judged;
 use admission::fault_unless;
 use admission::first_of;
 use admission::is_inside;
 use admission::is_within;
 use common::Vec2;
-use obstacles::ObstacleLines;
 ghost use mathlib.Core.Path.{_≡_};
 ghost use Prim.Native.Nat.{_+_, _*_, _≤_, _<_};
 ghost use lib.ListN.{length, take, drop};
 ghost use Rattle.admission.specs.Faults.{_⊳_, faultOf};
-ghost use Rattle.obstacles.specs.Obstacles.{isEmptyOpen};
-ghost use Rattle.dodgy_2d.specs.Scenes.{headOf, headsOf, numbersFault, vectorFault, agentFault, isKind, roomFor, headFault, obstaclesFault, sceneFault};
+ghost use Rattle.dodgy_2d.specs.Scenes.{headsOf, numbersFault, vectorFault, agentFault, headFault, obstaclesFault, sceneFault};
 
 fn judge_vector(v: Vec2) -> Judged
     ensures { λ r. ⌜ faultOf r ≡ vectorFault v ⌝ }
@@ -64,54 +63,33 @@ fn judge_numbers(numbers: &[f32], from: usize, to: usize) -> Judged
     Judged::Fine
 }
 
-fn is_kind(kind: u8) -> bool
-    ensures { λ r. ⌜ r ≡ isKind kind ⌝ }
-{
-    kind == ObstacleLines::CLOSED || kind == ObstacleLines::OPEN
-}
-
-fn has_room(total: usize, count: usize) -> bool
-    requires { ⌜ (total ≤ 192) × (count < 256) ⌝ }
-    ensures { λ r. ⌜ r ≡ roomFor total count ⌝ }
-{
-    count <= ObstacleLines::MOST && total + count <= Scene::MOST_VERTICES
-}
-
-fn is_empty_open(kind: u8, count: usize) -> bool
-    ensures { λ r. ⌜ r ≡ isEmptyOpen kind count ⌝ }
-{
-    kind == ObstacleLines::OPEN && count == 0
-}
-
 // An obstacle's kind (3), its count with the vertices before it (4), open with no vertices (5).
-fn judge_head(total: usize, kind: u8, count: usize) -> Judged
-    requires { ⌜ (total ≤ 192) × (count < 256) ⌝ }
-    ensures { λ r. ⌜ faultOf r ≡ headFault total (headOf kind count) ⌝ }
+fn judge_head(total: usize, head: Head) -> Judged
+    ensures { λ r. ⌜ faultOf r ≡ headFault total head ⌝ }
 {
-    let known = fault_unless(is_kind(kind), 3);
-    let fits = fault_unless(has_room(total, count), 4);
-    if is_empty_open(kind, count) {
-        return first_of(known, first_of(fits, Judged::Fault(5)));
-    }
-    first_of(known, fits)
+    let known = fault_unless(Head::is_kind(head.kind), 3);
+    let fits = fault_unless(Head::has_room(total, head.count), 4);
+    let some = fault_unless(!Head::is_empty_open(head.kind, head.count), 5);
+    first_of(known, first_of(fits, some))
 }
 
-pub(crate) fn index(count: u8) -> usize
-    ensures { λ r. ⌜ (r ≡ count) × (r < 256) ⌝ }
+// A byte as a size.
+pub(crate) fn wide(byte: u8) -> usize
+    ensures { λ r. ⌜ (r ≡ byte) × (r < 256) ⌝ }
 {
-    count as usize
+    byte as usize
 }
 
 // An obstacle behind `total` vertices: its head, then its own vertices.
-fn judge_obstacle(total: usize, kind: u8, count: usize, vertices: &[f32]) -> Judged
-    requires { ⌜ (total ≤ 192) × (count < 256) × (length (now vertices) ≡ 384) ⌝ }
-    ensures { λ r. ⌜ faultOf r ≡ (headFault total (headOf kind count) ⊳ numbersFault (take (2 * count) (drop (2 * total) (now (vertices .entry))))) ⌝ }
+fn judge_obstacle(total: usize, head: Head, vertices: &[f32]) -> Judged
+    requires { ⌜ (total ≤ 192) × (head .count < 256) × (length (now vertices) ≡ 384) ⌝ }
+    ensures { λ r. ⌜ faultOf r ≡ (headFault total head ⊳ numbersFault (take (2 * head .count) (drop (2 * total) (now (vertices .entry))))) ⌝ }
 {
-    let head = judge_head(total, kind, count);
-    let Judged::Fine = head else {
-        return head;
+    let judged = judge_head(total, head);
+    let Judged::Fine = judged else {
+        return judged;
     };
-    judge_numbers(vertices, 2 * total, 2 * (total + count))
+    judge_numbers(vertices, 2 * total, 2 * (total + head.count))
 }
 
 // The first `n` obstacles, each behind the vertices of those before it.
@@ -122,12 +100,15 @@ fn judge_obstacles(kinds: [u8; 16], counts: [u8; 16], n: usize, vertices: &[f32]
     let mut total = 0usize;
     let mut i = 0usize;
     while i < n {
-        let count = index(counts[i]);
-        let judged = judge_obstacle(total, kinds[i], count, vertices);
+        let head = Head {
+            kind: kinds[i],
+            count: wide(counts[i]),
+        };
+        let judged = judge_obstacle(total, head, vertices);
         let Judged::Fine = judged else {
             return judged;
         };
-        total += count;
+        total += head.count;
         i += 1;
     }
     Judged::Fine

@@ -29,21 +29,11 @@ pub struct Scene {
 impl Scene {
     pub const MOST_OBSTACLES: usize = 16;
 
-    // The most vertices of all obstacles together.
-    pub const MOST_VERTICES: usize = 192;
-
     pub const MOST_NEIGHBOURS: usize = 64;
 
     pub const SHORTEST_HORIZON: f32 = 0.0009765625;
 
     pub const LONGEST_HORIZON: f32 = 1024.0;
-}
-
-// An obstacle's kind, and its vertices: `count` of them behind the `offset` vertices of the obstacles before it.
-pub(crate) struct Wall {
-    pub(crate) kind: u8,
-    pub(crate) offset: usize,
-    pub(crate) count: usize,
 }
 
 // How many lines the obstacles made, or the number of a refusal.

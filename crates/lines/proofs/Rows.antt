@@ -61,6 +61,22 @@ four-set (w ∷ x ∷ y ∷ z ∷ r) (suc i) k p q s t e h =
     let ih = four-set r i (4 * i) p q s t refl (omega arith) in
     rw (f, add-one, add-two, add-three) (ap (λ ls. line (vec w x) (vec y z) ∷ ls) (rw (add-one, add-two, add-three) at ih))
 
+-- the numbers of the first n lines are those lines
+four-more : (n : ℕ) → ((r : List Float) → linesOf (take (4 * n) r) ≡ take n (linesOf r)) → (b : List Float) → linesOf (take (suc (suc (suc (suc (4 * n))))) b) ≡ take (suc n) (linesOf b)
+unfolding linesOf
+four-more n h [] = refl
+four-more n h (w ∷ []) = refl
+four-more n h (w ∷ x ∷ []) = refl
+four-more n h (w ∷ x ∷ y ∷ []) = refl
+four-more n h (w ∷ x ∷ y ∷ z ∷ r) = ap (λ ls. line (vec w x) (vec y z) ∷ ls) (h r)
+
+pub lines-take : (b : List Float) (n : ℕ) → linesOf (take (4 * n) b) ≡ take n (linesOf b)
+unfolding linesOf
+lines-take b zero = refl
+lines-take b (suc n) =
+    let e : 4 * suc n ≡ suc (suc (suc (suc (4 * n)))) = omega arith in
+    rw e (four-more n (λ r. lines-take r n) b)
+
 -- numbers behind whole lines are the lines behind them
 pub lines-append : (b c : List Float) → length b % 4 ≡ 0 → linesOf (b ++ c) ≡ linesOf b ++ linesOf c
 unfolding linesOf

@@ -5,6 +5,7 @@ use mathlib.Core.List.{[], _∷_}
 use lib.Ieee.{binary32, round}
 use Rattle.common.specs.Vectors.{negOf, divOf, distanceSquaredOf, eqOf}
 use Rattle.admission.specs.Faults.{within, inside}
+use Rattle.admission.specs.Heads.{isKind, isEmptyOpen}
 use Rattle.lines.specs.LineFaults.{lineFault}
 use Rattle.lines.proofs.Computed.{computed as numbers}
 use Rattle.obstacles.specs.Vertices.{verticesOf, nextOf, previousOf, isEnd, convexAt, edgeVertexAt, outerAt, edgeAt}
@@ -13,7 +14,7 @@ use Rattle.obstacles.specs.Collision.{shapeOf, inUnit, reaches, cornerLi
 use Rattle.obstacles.specs.Shadows.{tangent, extended, sideDirection, isBeyond, shadowBeside}
 use Rattle.obstacles.specs.Cutoffs.{halfᶠ, tCutoff, cutoffOf, vertexLine, areBelow, projectsLeft, projectsRight, missesCutoff, distanceUnless, cutoffLine, besideShadow, shadowLine, atMostBoth, nearestLine, chooseLine}
 use Rattle.obstacles.specs.EdgeLines.{isDegenerate, lineForShadows, alone, lineOfVertex, lineOfEdge, linePast, lineInFront, lineForEdge}
-use Rattle.obstacles.specs.Obstacles.{admitted, addEdge, linesUpTo, edgeCount, obstacleLines, isEmptyOpen, obstacleFault, obstacleCall}
+use Rattle.obstacles.specs.Obstacles.{admitted, addEdge, linesUpTo, edgeCount, obstacleLines, obstacleFault, obstacleCall}
 
 -- what computing by the rules opens
 unfoldable pub computed : Unit {0}
@@ -22,7 +23,7 @@ unfolding numbers negOf divOf distanceSquaredOf eqOf within inside lineFault
     shapeOf inUnit reaches cornerLine nextHandles rightCornerLine tangent extended sideDirection isBeyond shadowBeside
     tCutoff cutoffOf vertexLine areBelow projectsLeft projectsRight missesCutoff distanceUnless cutoffLine besideShadow shadowLine atMostBoth nearestLine chooseLine
     isDegenerate lineForShadows alone lineOfVertex lineOfEdge linePast lineInFront lineForEdge
-    admitted addEdge linesUpTo edgeCount obstacleLines isEmptyOpen obstacleFault obstacleCall
+    admitted addEdge linesUpTo edgeCount obstacleLines isKind isEmptyOpen obstacleFault obstacleCall
 computed = tt
 
 -- each constant's bit pattern is the number that the Rust gives

@@ -1,4 +1,4 @@
--- The edges in order: one edge more, a refusal that stays, and what every fault-free answer has. Assumes nothing.
+-- The edges in order: one edge more, a refusal that stays; and every answer refuses or has few lines, all admitted. Assumes nothing.
 use Prim.Native.Nat.{ℕ, zero, suc, _+_, _-_, _≤_}
 use mathlib.Core.Path.{_≡_, refl}
 use mathlib.Core.List.{List, [], _∷_, _++_}
@@ -9,36 +9,36 @@ use lib.Dec.{eqb}
 use lib.ListN.{length, length-append}
 use lib.Ieee.{Float}
 use Rattle.arithmetic.proofs.Choice.{if-all}
-use Rattle.arithmetic.proofs.Lists.{All, none, all-snoc}
 use Rattle.common.specs.declared.Vec2.{Vec2}
 use Rattle.lines.specs.declared.Line.{Line}
-use Rattle.lines.specs.LineFaults.{lineFault}
-use Rattle.admission.specs.Faults.{Fault, fine, fault}
+use Rattle.lines.specs.LineFaults.{lineFault, linesFault}
+use Rattle.lines.proofs.JudgeLaws.{faults-append}
+use Rattle.admission.specs.Faults.{fine}
+use Rattle.admission.proofs.FaultLaws.{unless-case}
 use Rattle.obstacles.specs.declared.Agent.{Agent}
 use Rattle.obstacles.specs.Edges.{EdgeLine, nothing, made}
 use Rattle.obstacles.specs.Vertices.{edgeAt}
 use Rattle.obstacles.specs.EdgeLines.{lineForEdge}
-use Rattle.obstacles.specs.Obstacles.{Answer, lines, refused, Admitted, kept, nothingKept, notAdmitted, unlessFault, admitted, behind, addEdge, linesUpTo, edgeCount, obstacleLines}
+use Rattle.obstacles.specs.Obstacles.{Answer, lines, refused, Admitted, kept, nothingKept, notAdmitted, admitted, behind, addEdge, linesUpTo, edgeCount, obstacleLines}
 
--- the answer refuses, or its lines are at most n and each is admitted
-pub data Sound (n : ℕ) : Answer → Type 0 where
-  refuses : {r : ℕ} → Sound n (refused r)
-  stands : {ls : List Line} → length ls ≤ n → All (λ (l : Line). lineFault l ≡ fine) ls → Sound n (lines ls)
+-- the answer refuses, or its lines are at most n and pass the admission of a list
+pub data FewAdmitted (n : ℕ) : Answer → Type 0 where
+  refuses : {r : ℕ} → FewAdmitted n (refused r)
+  few-admitted : {ls : List Line} → length ls ≤ n → linesFault ls ≡ fine → FewAdmitted n (lines ls)
 
-unless-sound : (n : ℕ) (ls : List Line) (l : Line) (f : Fault) → lineFault l ≡ f → length ls ≤ n → All (λ (x : Line). lineFault x ≡ fine) ls → Sound (suc n) (behind ls (unlessFault f l))
-unless-sound n ls l fine e short all = stands {ls = ls ++ (l ∷ [])} (rw length-append (omega arith)) (all-snoc all e)
-unless-sound n ls l (fault r) e short all = refuses
+behind-few-admitted : (n : ℕ) (ls : List Line) (e : EdgeLine) → length ls ≤ n → linesFault ls ≡ fine → FewAdmitted (suc n) (behind ls (admitted e))
+unfolding admitted linesFault
+behind-few-admitted n ls nothing few all = few-admitted {ls = ls} (omega arith) all
+behind-few-admitted n ls (made l) few all =
+    unless-case (λ (a : Admitted). FewAdmitted (suc n) (behind ls a)) (λ (r : ℕ). notAdmitted 9) (lineFault l)
+    (λ e. few-admitted {ls = ls ++ (l ∷ [])} (rw length-append (omega arith)) (rw (faults-append ls (l ∷ []), all, e)))
+    (λ r e. refuses)
 
-behind-sound : (n : ℕ) (ls : List Line) (e : EdgeLine) → length ls ≤ n → All (λ (x : Line). lineFault x ≡ fine) ls → Sound (suc n) (behind ls (admitted e))
-unfolding admitted
-behind-sound n ls nothing short all = stands {ls = ls} (omega arith) all
-behind-sound n ls (made l) short all = unless-sound n ls l (lineFault l) refl short all
+more-few-admitted : (n m : ℕ) (a : Answer) → n ≤ m → FewAdmitted n a → FewAdmitted m a
+more-few-admitted n m (refused r) h refuses = refuses
+more-few-admitted n m (lines ls) h (few-admitted few all) = few-admitted {ls = ls} (omega arith) all
 
-sound-more : (n m : ℕ) (a : Answer) → n ≤ m → Sound n a → Sound m a
-sound-more n m (refused r) h refuses = refuses
-sound-more n m (lines ls) h (stands short all) = stands {ls = ls} (omega arith) all
-
-pub few-edges : (kind n : ℕ) → edgeCount kind n ≤ n
+few-edges : (kind n : ℕ) → edgeCount kind n ≤ n
 unfolding edgeCount
 few-edges kind n = if-all (λ (m : ℕ). m ≤ n) (eqb kind 2) (omega arith) (omega arith)
 
@@ -70,17 +70,17 @@ module _ (agent : Agent) (kind n : ℕ) (vs : List Vec2) (margin horizon : Float
       let f : m ≡ (m - (i + 1)) + (i + 1) = omega arith in
       rw f (stays r (m - (i + 1)) (i + 1) now)
 
-  edge-sound : (k : ℕ) (a : Answer) → Sound k a → Sound (suc k) (addEdge agent kind n vs margin horizon a k)
+  edge-few-admitted : (k : ℕ) (a : Answer) → FewAdmitted k a → FewAdmitted (suc k) (addEdge agent kind n vs margin horizon a k)
   unfolding addEdge
-  edge-sound k (refused r) refuses = refuses
-  edge-sound k (lines ls) (stands short all) = behind-sound k ls (lineForEdge agent (edgeAt kind n vs k) margin horizon ls) short all
+  edge-few-admitted k (refused r) refuses = refuses
+  edge-few-admitted k (lines ls) (few-admitted few all) = behind-few-admitted k ls (lineForEdge agent (edgeAt kind n vs k) margin horizon ls) few all
 
-  up-to-sound : (k : ℕ) → Sound k (upTo k)
-  unfolding linesUpTo
-  up-to-sound zero = stands {ls = []} (omega arith) none
-  up-to-sound (suc k) = edge-sound k (upTo k) (up-to-sound k)
+  up-to-few-admitted : (k : ℕ) → FewAdmitted k (upTo k)
+  unfolding linesUpTo linesFault
+  up-to-few-admitted zero = few-admitted {ls = []} (omega arith) refl
+  up-to-few-admitted (suc k) = edge-few-admitted k (upTo k) (up-to-few-admitted k)
 
   -- the lines of n vertices are at most n, and each is admitted
-  pub lines-sound : Sound n (obstacleLines agent kind n vs margin horizon)
+  pub lines-few-admitted : FewAdmitted n (obstacleLines agent kind n vs margin horizon)
   unfolding obstacleLines
-  lines-sound = sound-more (edgeCount kind n) n _ (few-edges kind n) (up-to-sound (edgeCount kind n))
+  lines-few-admitted = more-few-admitted (edgeCount kind n) n _ (few-edges kind n) (up-to-few-admitted (edgeCount kind n))

@@ -8,7 +8,7 @@ use Rattle.lines.specs.declared.Line.{Line}
 use Rattle.lines.specs.Lines.{line}
 use Rattle.obstacles.specs.declared.EdgeShape.{EdgeShape}
 use Rattle.obstacles.specs.declared.EdgeVertex.{EdgeVertex}
-use Rattle.obstacles.specs.Edges.{Neighbour, none, at, Edge, EdgeLine, nothing, made}
+use Rattle.obstacles.specs.Edges.{OuterVertex, none, at, Edge, EdgeLine, nothing, made}
 
 -- `edge_unit_vector` to `dist_to_edge_line_squared`, from the relative vertices and the edge vector
 unfoldable pub shapeOf : Vec2 → Vec2 → Vec2 → Float → EdgeShape
@@ -42,7 +42,7 @@ unfoldable pub cornerLine : Bool → Vec2 → Vec2 → Line
 cornerLine convex relative unit = if convex then line zero (normalizeOf (perpOf relative)) else line zero (negOf unit)
 
 -- "If the right edge goes to the right of the right vertex", which is asked of a convex one that has a next edge
-unfoldable pub nextHandles : EdgeVertex → Vec2 → Neighbour → Bool
+unfoldable pub nextHandles : EdgeVertex → Vec2 → OuterVertex → Bool
 nextHandles vertex relative (at v) = vertex .convex && determinantOf relative (subOf v (vertex .point)) <ᶠ 0ᶠ
 nextHandles vertex relative none = false
 

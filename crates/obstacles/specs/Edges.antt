@@ -4,15 +4,15 @@ use Rattle.lines.specs.declared.Line.{Line}
 use Rattle.obstacles.specs.declared.EdgeVertex.{EdgeVertex}
 
 -- the Rust's `Option<Vec2>`: the vertex beyond an end of the edge, or none
-pub data Neighbour : Type 0 where
-  none : Neighbour
-  at : Vec2 → Neighbour
+pub data OuterVertex : Type 0 where
+  none : OuterVertex
+  at : Vec2 → OuterVertex
 
 pub record Edge : Type 0 where
   pub left : EdgeVertex
   pub right : EdgeVertex
-  pub leftLeft : Neighbour
-  pub rightRight : Neighbour
+  pub leftLeft : OuterVertex
+  pub rightRight : OuterVertex
 
 -- the two sides of an edge and of its shadow
 pub data Side : Type 0 where

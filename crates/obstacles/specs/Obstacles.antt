@@ -1,6 +1,6 @@
 -- The lines of one obstacle: all its edges in order, and its faults (01, "Rules of the edges", "Refusal numbers"). Definitions only. Assumes nothing.
 use Prim.Native.Nat.{ℕ, zero, suc, _+_, _-_, _*_, _/_}
-use mathlib.Core.Bool.{Bool, not, _&&_, _||_}
+use mathlib.Core.Bool.{not}
 use mathlib.Core.List.{List, [], _∷_, _++_}
 use lib.Dec.{eqb, leb}
 use lib.ListN.{length, take, drop}
@@ -9,10 +9,11 @@ use Rattle.arithmetic.specs.Binary32.{if_then_else_}
 use Rattle.common.specs.declared.Vec2.{Vec2}
 use Rattle.lines.specs.declared.Line.{Line}
 use Rattle.lines.specs.LineFaults.{lineFault}
-use Rattle.admission.specs.Faults.{Fault, fine, fault, must, _⊳_}
+use Rattle.admission.specs.Faults.{Fault, must, _⊳_, unlessFault}
+use Rattle.admission.specs.Heads.{openKind, mostVertices, isKind, isEmptyOpen}
 use Rattle.obstacles.specs.declared.Agent.{Agent}
 use Rattle.obstacles.specs.Edges.{EdgeLine, nothing, made}
-use Rattle.obstacles.specs.Vertices.{closedKind, openKind, verticesOf, edgeAt}
+use Rattle.obstacles.specs.Vertices.{verticesOf, edgeAt}
 use Rattle.obstacles.specs.EdgeLines.{lineForEdge}
 
 -- an obstacle's lines in order, or the number of its refusal
@@ -27,13 +28,9 @@ pub data Admitted : Type 0 where
   notAdmitted : ℕ → Admitted
 
 -- "a produced edge line breaks the admission of lines": 9, whatever fault it has
-abbrev pub unlessFault : Fault → Line → Admitted
-unlessFault fine l = kept l
-unlessFault (fault r) l = notAdmitted 9
-
 unfoldable pub admitted : EdgeLine → Admitted
 admitted nothing = nothingKept
-admitted (made l) = unlessFault (lineFault l) l
+admitted (made l) = unlessFault (λ (r : ℕ). notAdmitted 9) (lineFault l) (kept l)
 
 -- the line stands behind those made earlier
 abbrev pub behind : List Line → Admitted → Answer
@@ -61,29 +58,16 @@ obstacleLines agent kind n vs margin horizon = linesUpTo agent kind n vs margin 
 
 -- ---- faults
 
--- "64 vertices each"
-abbrev pub mostVertices : ℕ
-mostVertices = 64
-
--- "open obstacle with no vertices"
-unfoldable pub isEmptyOpen : ℕ → ℕ → Bool
-isEmptyOpen kind count = eqb kind openKind && eqb count 0
-
 -- kind (3), count (4), no vertices (5); then the vertices from offset on, of those that there are (2)
 unfoldable pub obstacleFault : ℕ → ℕ → ℕ → ℕ → Fault
 obstacleFault kind have offset count =
-    must (eqb kind closedKind || eqb kind openKind) 3
+    must (isKind kind) 3
     ⊳ must (leb count mostVertices) 4
     ⊳ must (not (isEmptyOpen kind count)) 5
     ⊳ must (leb (offset + count) have) 2
 
-infix 15 _orRefused_
-abbrev pub _orRefused_ : Fault → Answer → Answer
-fine orRefused a = a
-fault r orRefused a = refused r
-
 -- the obstacle whose vertices are the count from the vertex offset on, two numbers each
 unfoldable pub obstacleCall : Agent → ℕ → List Float → ℕ → ℕ → Float → Float → Answer
 obstacleCall agent kind xs offset count margin horizon =
-    obstacleFault kind (length xs / 2) offset count
-    orRefused obstacleLines agent kind count (verticesOf (take (2 * count) (drop (2 * offset) xs))) margin horizon
+    unlessFault refused (obstacleFault kind (length xs / 2) offset count)
+    (obstacleLines agent kind count (verticesOf (take (2 * count) (drop (2 * offset) xs))) margin horizon)

@@ -18,19 +18,19 @@ use Rattle.obstacles.specs.declared.AdmittedLine.the-variants as admitte
 use Rattle.obstacles.specs.declared.AddedLines.{AddedLines}
 use Rattle.obstacles.specs.declared.AddedLines.the-variants as added-lines
 use Rattle.obstacles.specs.declared.ObstacleLines.{ObstacleLines}
-use Rattle.obstacles.specs.Edges.{Neighbour, none, at, Edge, Side, onLeft, onRight, EdgeLine, nothing, made}
+use Rattle.obstacles.specs.Edges.{OuterVertex, none, at, Edge, Side, onLeft, onRight, EdgeLine, nothing, made}
 use Rattle.obstacles.specs.Obstacles.{Answer, lines, refused, Admitted, kept, nothingKept, notAdmitted}
 
-abbrev pub neighbourOf : Outer → Neighbour
-neighbourOf (outer.At v) = at v
-neighbourOf outer.Absent = none
+abbrev pub outerOf : Outer → OuterVertex
+outerOf (outer.At v) = at v
+outerOf outer.Absent = none
 
 abbrev pub edgeOf : EdgeCode → Edge
 edgeOf e = record {
   left = e .«left_vertex»;
   right = e .«right_vertex»;
-  leftLeft = neighbourOf (e .«left_left_vertex»);
-  rightRight = neighbourOf (e .«right_right_vertex»);
+  leftLeft = outerOf (e .«left_left_vertex»);
+  rightRight = outerOf (e .«right_right_vertex»);
 }
 
 abbrev pub sideOf : SideCode → Side

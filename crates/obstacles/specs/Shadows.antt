@@ -7,7 +7,7 @@ use Rattle.common.specs.declared.Vec2.{Vec2}
 use Rattle.common.specs.Vectors.{addOf, subOf, negOf, mulOf, divOf, perpOf, normalizeOf, determinantOf}
 use Rattle.obstacles.specs.declared.EdgeVertex.{EdgeVertex}
 use Rattle.obstacles.specs.declared.Shadow.{Shadow}
-use Rattle.obstacles.specs.Edges.{Neighbour, none, at, Side, onLeft, onRight}
+use Rattle.obstacles.specs.Edges.{OuterVertex, none, at, Side, onLeft, onRight}
 
 -- the tangent to the circle of the margin around a vertex, "tangent_triangle_leg" long: added on the left side, subtracted on the right
 unfoldable pub tangent : Side → Vec2 → Float → Float → Vec2
@@ -29,7 +29,7 @@ isBeyond onLeft direction outer = 0ᶠ ≤ᶠ determinantOf direction outer
 isBeyond onRight direction outer = determinantOf direction outer ≤ᶠ 0ᶠ
 
 -- a convex vertex whose adjacent edge covers the shadow takes that edge's direction
-unfoldable pub shadowBeside : Side → EdgeVertex → Neighbour → Vec2 → Shadow
+unfoldable pub shadowBeside : Side → EdgeVertex → OuterVertex → Vec2 → Shadow
 shadowBeside side vertex none direction = record { direction = direction; covered = false }
 shadowBeside side vertex (at v) direction =
     let outer = subOf v (vertex .point) in

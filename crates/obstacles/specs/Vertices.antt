@@ -7,10 +7,11 @@ use lib.Dec.{eqb}
 use lib.ListN.{getD}
 use lib.Ieee.{Float, nan}
 use Rattle.arithmetic.specs.Binary32.{_≤ᶠ_, 0ᶠ, if_then_else_}
+use Rattle.admission.specs.Heads.{openKind}
 use Rattle.common.specs.declared.Vec2.{Vec2}
 use Rattle.common.specs.Vectors.{vec, subOf, determinantOf}
 use Rattle.obstacles.specs.declared.EdgeVertex.{EdgeVertex}
-use Rattle.obstacles.specs.Edges.{Neighbour, none, at, Edge}
+use Rattle.obstacles.specs.Edges.{OuterVertex, none, at, Edge}
 
 -- two numbers a vertex
 unfoldable pub verticesOf : List Float → List Vec2
@@ -21,13 +22,6 @@ verticesOf (x ∷ y ∷ rest) = vec x y ∷ verticesOf rest
 -- no edge looks past the last vertex
 abbrev pub vertexAt : List Vec2 → ℕ → Vec2
 vertexAt vs i = getD vs i (vec nan nan)
-
--- "obstacle kind is neither 1 (closed) nor 2 (open)"
-abbrev pub closedKind : ℕ
-closedKind = 1
-
-abbrev pub openKind : ℕ
-openKind = 2
 
 -- "Closed vertices wrap": the index after i and the one before it, among n
 unfoldable pub nextOf : ℕ → ℕ → ℕ
@@ -52,7 +46,7 @@ edgeVertexAt kind n vs i = record {
 }
 
 -- "with no outer neighbour": beyond the end of an open obstacle there is none
-unfoldable pub outerAt : ℕ → List Vec2 → ℕ → ℕ → ℕ → Neighbour
+unfoldable pub outerAt : ℕ → List Vec2 → ℕ → ℕ → ℕ → OuterVertex
 outerAt kind vs i end beyond = if eqb kind openKind && eqb i end then none else at (vertexAt vs beyond)
 
 -- the edge from the vertex i of n to the next, with the vertices beyond them

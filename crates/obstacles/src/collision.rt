@@ -8,7 +8,7 @@ use common::Vec2;
 use lines::Line;
 ghost use mathlib.Core.Path.{_≡_};
 ghost use Rattle.obstacles.specs.Collision.{shapeOf, inUnit, reaches as reached, cornerLine, nextHandles, rightCornerLine};
-ghost use Rattle.obstacles.specs.Read.{neighbourOf, edgeOf, edgeLineOf};
+ghost use Rattle.obstacles.specs.Read.{outerOf, edgeOf, edgeLineOf};
 
 pub(crate) fn edge_shape(
     relative_left_vertex: Vec2,
@@ -65,7 +65,7 @@ fn is_handled_by_next(
     relative_right_vertex: Vec2,
     right_right_vertex: Outer,
 ) -> bool
-    ensures { λ r. ⌜ r ≡ nextHandles «right_vertex» «relative_right_vertex» (neighbourOf «right_right_vertex») ⌝ }
+    ensures { λ r. ⌜ r ≡ nextHandles «right_vertex» «relative_right_vertex» (outerOf «right_right_vertex») ⌝ }
 {
     let Outer::At(vertex) = right_right_vertex else {
         return false;

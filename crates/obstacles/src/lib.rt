@@ -26,16 +26,6 @@ pub struct ObstacleLines {
     pub judged: Judged,
 }
 
-impl ObstacleLines {
-    // The kinds of an obstacle.
-    pub const CLOSED: u8 = 1;
-
-    pub const OPEN: u8 = 2;
-
-    // The most vertices of an obstacle, and so the most lines.
-    pub const MOST: usize = 64;
-}
-
 pub(crate) struct EdgeVertex {
     pub(crate) point: Vec2,
     pub(crate) convex: bool,

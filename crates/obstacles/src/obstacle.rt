@@ -6,53 +6,47 @@ use crate::EdgeLine;
 use crate::ObstacleLines;
 use crate::edges;
 use crate::vertices;
+use admission::Head;
 use admission::Judged;
+use admission::fault_unless;
+use admission::first_of;
 ghost use mathlib.Core.Path.{_≡_};
-ghost use Prim.Native.Nat.{_/_, _≤_, _<_};
+ghost use Prim.Native.Nat.{_+_, _/_, _≤_, _<_};
+ghost use lib.Dec.{leb};
 ghost use lib.ListN.{length};
 ghost use Rattle.lines.specs.Lines.{linesOf};
 ghost use Rattle.admission.specs.Faults.{faultOf};
 ghost use Rattle.obstacles.specs.Vertices.{verticesOf, edgeAt};
 ghost use Rattle.obstacles.specs.EdgeLines.{lineForEdge};
-ghost use Rattle.obstacles.specs.Obstacles.{isEmptyOpen, obstacleFault, edgeCount, admitted, obstacleLines, refused as refusedWith};
+ghost use Rattle.obstacles.specs.Obstacles.{obstacleFault, edgeCount, admitted, obstacleLines, refused as refusedWith};
 ghost use Rattle.obstacles.specs.Read.{admittedOf, blankNumbers, addedOf, answerAs};
 
-fn is_empty_open(kind: u8, count: usize) -> bool
-    ensures { λ r. ⌜ r ≡ isEmptyOpen kind count ⌝ }
+// Whether as many vertices as `count` are there from the vertex `offset` on, of the `have` vertices that there are.
+fn are_there(have: usize, offset: usize, count: usize) -> bool
+    ensures { λ r. ⌜ r ≡ leb (offset + count) have ⌝ }
 {
-    kind == ObstacleLines::OPEN && count == 0
+    if offset > have {
+        return false;
+    }
+    count <= have - offset
 }
 
 // The first fault of an obstacle among `have` vertices: its kind (3), too many vertices (4), open with none (5), vertices missing (2).
 pub(crate) fn judge_obstacle(kind: u8, have: usize, offset: usize, count: usize) -> Judged
     ensures { λ r. ⌜ faultOf r ≡ obstacleFault kind have offset count ⌝ }
 {
-    if kind < ObstacleLines::CLOSED {
-        return Judged::Fault(3);
-    }
-    if kind > ObstacleLines::OPEN {
-        return Judged::Fault(3);
-    }
-    if count > ObstacleLines::MOST {
-        return Judged::Fault(4);
-    }
-    if is_empty_open(kind, count) {
-        return Judged::Fault(5);
-    }
-    if offset > have {
-        return Judged::Fault(2);
-    }
-    if count > have - offset {
-        return Judged::Fault(2);
-    }
-    Judged::Fine
+    let known = fault_unless(Head::is_kind(kind), 3);
+    let few = fault_unless(count <= Head::MOST, 4);
+    let some = fault_unless(!Head::is_empty_open(kind, count), 5);
+    let there = fault_unless(are_there(have, offset, count), 2);
+    first_of(known, first_of(few, first_of(some, there)))
 }
 
 // As many edges as vertices where the obstacle is closed, one less where it is open.
 fn edge_count(kind: u8, count: usize) -> usize
     ensures { λ r. ⌜ (r ≡ edgeCount kind count) × (r ≤ count) ⌝ }
 {
-    if kind != ObstacleLines::OPEN {
+    if kind != Head::OPEN {
         return count;
     }
     if count == 0 {

@@ -6,7 +6,7 @@ use crate::Side;
 use common::Vec2;
 ghost use mathlib.Core.Path.{_≡_};
 ghost use Rattle.obstacles.specs.Shadows.{tangent, sideDirection, isBeyond, shadowBeside};
-ghost use Rattle.obstacles.specs.Read.{neighbourOf, sideOf};
+ghost use Rattle.obstacles.specs.Read.{outerOf, sideOf};
 
 // The direction of a side's tangent to the circle of the margin around a vertex.
 pub(crate) fn tangent_direction(
@@ -63,7 +63,7 @@ pub(crate) fn shadow_beside(
     outer_vertex: Outer,
     direction: Vec2,
 ) -> Shadow
-    ensures { λ r. ⌜ r ≡ shadowBeside (sideOf side) vertex (neighbourOf «outer_vertex») direction ⌝ }
+    ensures { λ r. ⌜ r ≡ shadowBeside (sideOf side) vertex (outerOf «outer_vertex») direction ⌝ }
 {
     let open = Shadow {
         direction,

@@ -1,14 +1,14 @@
 // An obstacle's vertices, lent as numbers, two a vertex: which are convex, and the edge from each to the next.
 use crate::Edge;
 use crate::EdgeVertex;
-use crate::ObstacleLines;
 use crate::Outer;
+use admission::Head;
 use common::Vec2;
 ghost use mathlib.Core.Path.{_≡_};
 ghost use Prim.Native.Nat.{_+_, _*_, _/_, _<_};
 ghost use lib.ListN.{length};
 ghost use Rattle.obstacles.specs.Vertices.{verticesOf, vertexAt, nextOf, previousOf, isEnd, convexAt, edgeVertexAt, outerAt, edgeAt};
-ghost use Rattle.obstacles.specs.Read.{neighbourOf, edgeOf};
+ghost use Rattle.obstacles.specs.Read.{outerOf, edgeOf};
 
 fn vertex_at(vertices: &[f32], i: usize) -> Vec2
     requires { ⌜ i < length (now vertices) / 2 ⌝ }
@@ -54,7 +54,7 @@ fn is_end(kind: u8, count: usize, i: usize) -> bool
     requires { ⌜ i < count ⌝ }
     ensures { λ r. ⌜ r ≡ isEnd kind count i ⌝ }
 {
-    if kind != ObstacleLines::OPEN {
+    if kind != Head::OPEN {
         return false;
     }
     if i == 0 {
@@ -86,9 +86,9 @@ fn edge_vertex(kind: u8, vertices: &[f32], i: usize) -> EdgeVertex
 // The vertex beyond an edge's vertex: none beyond an open obstacle's end.
 fn outer_vertex(kind: u8, vertices: &[f32], i: usize, end: usize, beyond: usize) -> Outer
     requires { ⌜ beyond < length (now vertices) / 2 ⌝ }
-    ensures { λ r. ⌜ neighbourOf r ≡ outerAt kind (verticesOf (now (vertices .entry))) i end beyond ⌝ }
+    ensures { λ r. ⌜ outerOf r ≡ outerAt kind (verticesOf (now (vertices .entry))) i end beyond ⌝ }
 {
-    if kind != ObstacleLines::OPEN {
+    if kind != Head::OPEN {
         return Outer::At(vertex_at(vertices, beyond));
     }
     if i == end {

@@ -2,7 +2,7 @@
 use Prim.Native.Nat.{ℕ, zero, suc, _+_, _-_, _/_, _≤_}
 use native.Mathlib.Omega.{arith}
 use mathlib.Core.Path.{_≡_, refl, sym, _∙_}
-use mathlib.Core.Bool.{Bool, true, false, not, _&&_, _||_}
+use mathlib.Core.Bool.{Bool, true, false, not, _&&_}
 use mathlib.Core.List.{List, [], _∷_}
 use lib.Dec.{leb, eqb}
 use lib.ListN.{length}
@@ -10,8 +10,10 @@ use lib.Ieee.{Float, binary32, ofBits}
 use borrow.Author.Tests.{leb-true}
 use Rattle.arithmetic.specs.Binary32.{finite}
 use Rattle.arithmetic.proofs.Choice.{and-left, and-right}
-use Rattle.admission.specs.Faults.{Fault, fine, fault, must, _⊳_, inside}
-use Rattle.admission.proofs.FaultLaws.{no-fault}
+use Rattle.admission.specs.declared.Head.{Head}
+use Rattle.admission.specs.Faults.{Fault, fine, must, _⊳_, unlessFault, inside}
+use Rattle.admission.specs.Heads.{mostVertices, isKind, roomFor, isEmptyOpen}
+use Rattle.admission.proofs.FaultLaws.{no-fault, unless-case}
 use Rattle.common.specs.declared.Vec2.{Vec2}
 use Rattle.lines.specs.declared.Line.{Line}
 use Rattle.lines.specs.LineFaults.{bandLow, bandHigh, lineFault}
@@ -19,10 +21,9 @@ use Rattle.common.specs.Vectors.{lengthSquaredOf}
 use Rattle.obstacles.specs.declared.Agent.{Agent}
 use Rattle.obstacles.specs.Edges.{EdgeLine, nothing, made}
 use Rattle.obstacles.specs.Obstacles as walls
-use Rattle.obstacles.specs.Obstacles.{Answer, lines, unlessFault, admitted, behind, addEdge, linesUpTo, obstacleLines, mostVertices, isEmptyOpen, obstacleFault, _orRefused_, obstacleCall}
-use Rattle.obstacles.specs.Vertices.{closedKind, openKind}
+use Rattle.obstacles.specs.Obstacles.{Answer, lines, Admitted, notAdmitted, admitted, behind, addEdge, linesUpTo, obstacleLines, obstacleFault, obstacleCall}
 use Rattle.dodgy_2d.specs.declared.Scene.{Scene}
-use Rattle.dodgy_2d.specs.Scenes.{Head, headsIn, isKind, roomFor, sceneFault}
+use Rattle.dodgy_2d.specs.Scenes.{headsIn, sceneFault}
 use Rattle.dodgy_2d.specs.Outcomes.{SceneOutcome, outcome, refusedScene, joined, edgeLines, edgesAt, sceneOutcome}
 use Rattle.dodgy_2d.proofs.SceneTold.{Told, answered, at-fault, by-edge, scene-told}
 use Rattle.fields.specs.Got.{Got, refused, got, then, guard, word, many}
@@ -137,14 +138,11 @@ data NumberedLines : Answer → Type 0 where
   lined : {ls : List Line} → NumberedLines (lines ls)
   refusing : {r : ℕ} → Numbered r → NumberedLines (walls.refused r)
 
-fault-numbered : (f : Fault) (l : Line) (ls : List Line) → NumberedLines (behind ls (unlessFault f l))
-fault-numbered fine l ls = lined
-fault-numbered (fault r) l ls = refusing {r = 9} refl
-
 admitted-numbered : (e : EdgeLine) (ls : List Line) → NumberedLines (behind ls (admitted e))
 unfolding admitted
 admitted-numbered nothing ls = lined
-admitted-numbered (made l) ls = fault-numbered (lineFault l) l ls
+admitted-numbered (made l) ls =
+    unless-case (λ (a : Admitted). NumberedLines (behind ls a)) (λ (r : ℕ). notAdmitted 9) (lineFault l) (λ e. lined) (λ r e. refusing {r = 9} refl)
 
 module _ (agent : Agent) (kind n : ℕ) (vs : List Vec2) (margin horizon : Float) where
   add-numbered : (a : Answer) (i : ℕ) → NumberedLines a → NumberedLines (addEdge agent kind n vs margin horizon a i)
@@ -158,18 +156,18 @@ module _ (agent : Agent) (kind n : ℕ) (vs : List Vec2) (margin horizon : Float
   edges-numbered (suc k) = add-numbered _ k (edges-numbered k)
 
 -- a rule with such a number, then an answer
-must-numbered : (b : Bool) (r : ℕ) (f : Fault) (a : Answer) → Numbered r → NumberedLines (f orRefused a) → NumberedLines ((must b r ⊳ f) orRefused a)
+must-numbered : (b : Bool) (r : ℕ) (f : Fault) (a : Answer) → Numbered r → NumberedLines (unlessFault walls.refused f a) → NumberedLines (unlessFault walls.refused (must b r ⊳ f) a)
 must-numbered true r f a h s = s
 must-numbered false r f a h s = refusing h
 
-last-numbered : (b : Bool) (r : ℕ) (a : Answer) → Numbered r → NumberedLines a → NumberedLines (must b r orRefused a)
+last-numbered : (b : Bool) (r : ℕ) (a : Answer) → Numbered r → NumberedLines a → NumberedLines (unlessFault walls.refused (must b r) a)
 last-numbered true r a h s = s
 last-numbered false r a h s = refusing h
 
 call-numbered : (agent : Agent) (kind : ℕ) (xs : List Float) (offset n : ℕ) (margin horizon : Float) → NumberedLines (obstacleCall agent kind xs offset n margin horizon)
 unfolding obstacleCall obstacleFault obstacleLines
 call-numbered agent kind xs offset n margin horizon =
-    must-numbered (eqb kind closedKind || eqb kind openKind) 3 _ _ refl (
+    must-numbered (isKind kind) 3 _ _ refl (
     must-numbered (leb n mostVertices) 4 _ _ refl (
     must-numbered (not (isEmptyOpen kind n)) 5 _ _ refl (
     last-numbered (leb (offset + n) (length xs / 2)) 2 _ refl (edges-numbered agent kind n _ margin horizon _))))

@@ -4,6 +4,7 @@ use crate::answers::agrees;
 use crate::answers::number_at;
 use crate::answers::vector_at;
 use crate::records::first_numbers;
+use admission::Head;
 use admission::Judged;
 use obstacles::Agent;
 use obstacles::ObstacleLines;
@@ -75,7 +76,7 @@ fn is_answer(answer: u32, bytes: &[u8], at: usize, made: ObstacleLines) -> bool
     let lines = made.lines;
     match judged {
         Judged::Fine => {
-            if made.count > ObstacleLines::MOST {
+            if made.count > Head::MOST {
                 return false;
             }
             (answer as usize == made.count) & are_numbers(bytes, at, lines, 4 * made.count)

@@ -1,23 +1,21 @@
 -- Fields and parts, read by a cursor that goes from one to the next. Assumes nothing.
-use Prim.Native.Nat.{ℕ, _+_, _-_, _≤_, _<_}
-use native.Mathlib.Omega.{arith}
-use native.Mathlib.Nat.{add-comm}
-use mathlib.Core.Path.{_≡_, refl, sym, ap, _∙_}
+use Prim.Native.Nat.{ℕ, _+_}
+use mathlib.Core.Path.{_≡_, sym, _∙_}
 use mathlib.Core.Bool.{Bool, true, false, not}
 use mathlib.Core.List.{List}
 use lib.Dec.{leb, eqb}
 use lib.ListN.{length}
 use lib.Ieee.{Float, binary32, ofBits}
-use borrow.Author.Tests.{leb-true, leb-false, le-leb, lt-leb}
+use borrow.Author.Tests.{leb-true}
 use Rattle.arithmetic.specs.Binary32.{0ᶠ, finite}
 use Rattle.admission.specs.Faults.{within, inside}
+use Rattle.admission.specs.Heads.{headOf, isKind, roomFor, isEmptyOpen}
 use Rattle.common.specs.declared.Vec2.{Vec2}
 use Rattle.common.specs.Vectors.{vec, lengthSquaredOf}
 use Rattle.lines.specs.Lines.{line}
 use Rattle.lines.specs.LineFaults.{lineReach, bandLow, bandHigh}
 use Rattle.linear_programming.specs.Admit.{reach, longest}
-use Rattle.obstacles.specs.Obstacles.{isEmptyOpen}
-use Rattle.dodgy_2d.specs.Scenes.{headOf, shortestHorizon, longestHorizon, isKind, roomFor}
+use Rattle.dodgy_2d.specs.Scenes.{shortestHorizon, longestHorizon}
 use Rattle.words.specs.Words.{wordOf}
 use Rattle.fields.specs.Got.{refused, got, then, guard, word}
 use Rattle.fields.proofs.WordLaws.{four-some}
@@ -26,18 +24,6 @@ use Rattle.scene_records.specs.declared.Cursor.the-variants as cursor
 use Rattle.scene_records.specs.Steps.{from, told, held, version, count, number, vector, ended}
 use Rattle.scene_records.specs.Parts.{cartOf, cart, head, neighbour}
 use Rattle.scene_records.proofs.Cursors.{linked, held-from, told-from}
-
--- as many bytes as n are left behind a place
-pub left-over : (at n size : ℕ) → at ≤ size → leb n (size - at) ≡ leb (at + n) size
-left-over at n size h = go (leb (at + n) size) refl
-  where
-    go : (b : Bool) → leb (at + n) size ≡ b → leb n (size - at) ≡ leb (at + n) size
-    go true e = let f : at + n ≤ size = leb-true (at + n) size e in le-leb n (size - at) (omega arith) ∙ sym e
-    go false e = let f : size < at + n = leb-false (at + n) size e in lt-leb n (size - at) (omega arith) ∙ sym e
-
--- room for n vertices more
-pub room-left : (total n : ℕ) → n ≤ 64 → leb total (192 - n) ≡ leb (total + n) 192
-room-left total n h = left-over n total 192 (omega arith) ∙ ap (λ (k : ℕ). leb k 192) (add-comm n total)
 
 module _ (s : List ℕ) where
   pub version-read : (c d : Cursor) (v : ℕ) → told d v ≡ from c (word 1 s) → told (held (eqb v 1) 1 d) (tt {0}) ≡ from c (version s)

@@ -8,7 +8,7 @@ pub mod RecordLaws
 pub mod SceneParts
 pub mod ReadBytes
 pub mod ReadAdmitted
-pub mod BytesRead
+pub mod WrittenParts
 pub mod WrittenScenes
 pub mod SmallBytes
 pub mod AnswerLaws

@@ -12,6 +12,7 @@ use lib.Ieee.Bits.{toBits-ofBits}
 use Rattle.arithmetic.specs.Binary32.{finite}
 use Rattle.arithmetic.specs.Ends.{absOf}
 use Rattle.admission.specs.Faults.{within, inside}
+use Rattle.admission.proofs.HeadLaws.{room-within}
 use Rattle.common.specs.declared.Vec2.{Vec2}
 use Rattle.lines.specs.declared.Line.{Line}
 use Rattle.lines.specs.LineFaults.{lineReach}
@@ -27,7 +28,7 @@ use Rattle.scene_records.specs.Parts.{cart, verticesAt, Obstacle, sizeOf
 use Rattle.scene_records.specs.Records.{sceneIn}
 use Rattle.scene_records.specs.SceneBytes.{numberBytes, vectorBytes, cartBytes, obstacleBytes, lineBytes, bodyBytes, recordBytes, sceneBytes}
 use Rattle.scene_records.proofs.Taken.{number-taken, vector-taken, cart-taken, obstacle-taken, line-taken, fields-taken, scene-taken}
-use Rattle.scene_records.proofs.WallLaws.{length-coordinates, room-within}
+use Rattle.scene_records.proofs.WallLaws.{length-coordinates}
 use Rattle.scene_records.proofs.SceneParts.{obstacles-back, neighbours-back}
 
 -- ---- a NaN passes no rule, so the pattern of a number that passed is its own
@@ -44,15 +45,15 @@ nan-le nan = refl
 nan-le (inf s) = refl
 nan-le (fin s m e) = refl
 
-pub within-nan : (bound : Float) → within bound nan ≡ false
+within-nan : (bound : Float) → within bound nan ≡ false
 unfolding within absOf
 within-nan bound = nan-le bound
 
-pub inside-nan : (low high : Float) → inside low high nan ≡ false
+inside-nan : (low high : Float) → inside low high nan ≡ false
 unfolding inside
 inside-nan low high = rw (le-nan low)
 
-pub finite-nan : finite nan ≡ false
+finite-nan : finite nan ≡ false
 unfolding finite
 finite-nan = refl
 
@@ -70,14 +71,14 @@ obstacles-total s (suc n) total at os m t e =
     then-got (obstacle s total at) _ e λ o a p r.
     cons-got o (obstacles s n (total + sizeOf o) a) r λ rest q u.
     obstacle-taken s total at o a p λ b d read-k known read-n room some read-vs.
-    let fits : total + sizeOf o ≤ 192 = room-within total (sizeOf o) room in
+    let fits : total + sizeOf o ≤ 192 = room-within total (sizeOf o) room .1 in
     let ih : 2 * (total + sizeOf o) + length (each numbersIn rest) ≤ 384 = obstacles-total s n (total + sizeOf o) a rest m fits q in
     rw (u, length-append (numbersIn o) (each numbersIn rest), length-coordinates (o .vertices)) (omega arith)
 
 -- ---- the bytes that a step read
 
 module _ (s : List ℕ) (h : AllBytes s) where
-  pub number-span : (passes : Float → Bool) → passes nan ≡ false → (at : ℕ) (x : Float) (m : ℕ) → number passes s at ≡ got x m → Span s at (numberBytes x) m
+  number-span : (passes : Float → Bool) → passes nan ≡ false → (at : ℕ) (x : Float) (m : ℕ) → number passes s at ≡ got x m → Span s at (numberBytes x) m
   unfolding numberBytes
   number-span passes none at x m e =
       number-taken s passes at x m e λ b p v t.
@@ -85,25 +86,25 @@ module _ (s : List ℕ) (h : AllBytes s) where
       let same : toBits binary32 x ≡ b = rw v at (toBits-ofBits binary32 b (w .0) (passed passes none (ofBits binary32 b) (rw (← v) at t))) in
       rw same (w .1)
 
-  pub vector-span : (passes : Float → Bool) → passes nan ≡ false → (at : ℕ) (v : Vec2) (m : ℕ) → vector passes s at ≡ got v m → Span s at (vectorBytes v) m
+  vector-span : (passes : Float → Bool) → passes nan ≡ false → (at : ℕ) (v : Vec2) (m : ℕ) → vector passes s at ≡ got v m → Span s at (vectorBytes v) m
   unfolding vectorBytes
   vector-span passes none at v m e = vector-taken s passes at v m e λ a p q. join (number-span passes none at (v .x) a p) (number-span passes none a (v .y) m q)
 
-  pub cart-span : (at : ℕ) (x : Cart) (m : ℕ) → cart s at ≡ got x m → Span s at (cartBytes x) m
+  cart-span : (at : ℕ) (x : Cart) (m : ℕ) → cart s at ≡ got x m → Span s at (cartBytes x) m
   unfolding cartBytes
   cart-span at x m z =
       cart-taken s at x m z λ a b d e f p v g t w l read-p read-v read-g read-t read-w read-l same.
       rw (← same) (join (join (join (join (join (vector-span _ (within-nan reach) at p a read-p) (vector-span _ (within-nan reach) a v b read-v)) (number-span _ (inside-nan _ _) b g d read-g))
       (number-span _ (inside-nan _ _) d t e read-t)) (vector-span _ (within-nan reach) e w f read-w)) (number-span _ (inside-nan _ _) f l m read-l))
 
-  pub obstacle-span : (total at : ℕ) (o : Obstacle) (m : ℕ) → obstacle s total at ≡ got o m → Span s at (obstacleBytes o) m
+  obstacle-span : (total at : ℕ) (o : Obstacle) (m : ℕ) → obstacle s total at ≡ got o m → Span s at (obstacleBytes o) m
   unfolding obstacleBytes verticesAt
   obstacle-span total at o m e =
       obstacle-taken s total at o m e λ a b read-k known read-n room some read-vs.
       join (join (word-span s h 1 at (o .kind) a read-k .1) (word-span s h 1 a (length (o .vertices)) b read-n .1))
       (many-span s (λ (u : Unit {0}). vector (within reach) s) (λ u v. u) vectorBytes (λ u. vector-span (within reach) (within-nan reach)) (length (o .vertices)) tt b (o .vertices) m read-vs)
 
-  pub line-span : (at : ℕ) (l : Line) (m : ℕ) → neighbour s at ≡ got l m → Span s at (lineBytes l) m
+  line-span : (at : ℕ) (l : Line) (m : ℕ) → neighbour s at ≡ got l m → Span s at (lineBytes l) m
   unfolding lineBytes
   line-span at l m e = line-taken s at l m e λ a read-p read-d band. join (vector-span (within lineReach) (within-nan lineReach) at (l .point) a read-p) (vector-span finite finite-nan a (l .direction) m read-d)
 

@@ -23,15 +23,15 @@ use Rattle.scene_records.specs.SceneBytes.{withVertices, obstaclesIn}
 use Rattle.scene_records.proofs.WallLaws.{length-coordinates}
 
 -- values stored from the start on stand in front
-pub stored-front : {A : Type 0} (l xs : List A) → length xs ≤ length l → sets l 0 xs ≡ xs ++ drop (length xs) l
+stored-front : {A : Type 0} (l xs : List A) → length xs ≤ length l → sets l 0 xs ≡ xs ++ drop (length xs) l
 stored-front l xs h = rw zero-add at (sets-eq xs l 0 (omega arith))
 
-pub front-back : {A : Type 0} (l xs : List A) → length xs ≤ length l → take (length xs) (sets l 0 xs) ≡ xs
+front-back : {A : Type 0} (l xs : List A) → length xs ≤ length l → take (length xs) (sets l 0 xs) ≡ xs
 front-back l xs h = rw (stored-front l xs h) (take-at xs (drop (length xs) l) (length xs) refl)
 
 -- ---- obstacles
 
-pub vertices-back : (vs : List Vec2) → verticesOf (each coordinates vs) ≡ vs
+vertices-back : (vs : List Vec2) → verticesOf (each coordinates vs) ≡ vs
 unfolding verticesOf each
 vertices-back [] = refl
 vertices-back (v ∷ vs) = ap (λ (l : List Vec2). v ∷ l) (vertices-back vs)
@@ -43,7 +43,7 @@ own-vertices o more = take-at (numbersIn o) more (2 * sizeOf o) (length-coordina
 pub later-vertices : (o : Obstacle) (more : List Float) → drop (2 * sizeOf o) (numbersIn o ++ more) ≡ more
 later-vertices o more = drop-at (numbersIn o) more (2 * sizeOf o) (length-coordinates (o .vertices))
 
-pub walls-back : (os : List Obstacle) (rest : List Float) → withVertices (headsOf (map kindOf os) (map sizeOf os)) (each numbersIn os ++ rest) ≡ os
+walls-back : (os : List Obstacle) (rest : List Float) → withVertices (headsOf (map kindOf os) (map sizeOf os)) (each numbersIn os ++ rest) ≡ os
 unfolding withVertices headsOf each
 walls-back [] rest = refl
 walls-back (o ∷ os) rest =
@@ -66,12 +66,12 @@ module _ (x : Cart) (os : List Obstacle) (m : ℕ) (ls : List Line) (few : lengt
 
 -- ---- neighbour lines
 
-pub each-four : (ls : List Line) → each fourOf ls ≡ numbersOf ls
+each-four : (ls : List Line) → each fourOf ls ≡ numbersOf ls
 unfolding each numbersOf
 each-four [] = refl
 each-four (l ∷ ls) = rw (each-four ls)
 
-pub lines-found : (ls : List Line) (rest : List Float) → take (length ls) (linesOf (each fourOf ls ++ rest)) ≡ ls
+lines-found : (ls : List Line) (rest : List Float) → take (length ls) (linesOf (each fourOf ls ++ rest)) ≡ ls
 lines-found ls rest = rw (each-four ls, lines-append (numbersOf ls) rest (rw numbers-long (omega arith)), lines-back ls) (take-at ls (linesOf rest) (length ls) refl)
 
 pub neighbours-back : (x : Cart) (n : ℕ) (os : List Obstacle) (ls : List Line) → length ls ≤ 64 → neighboursIn (sceneOf x n os (length ls) ls) ≡ ls

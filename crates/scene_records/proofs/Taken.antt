@@ -8,15 +8,16 @@ use lib.ListN.{length}
 use lib.Ieee.{Float, binary32, ofBits}
 use borrow.Author.Tests.{leb-true, eqb-true}
 use Rattle.arithmetic.specs.Binary32.{0ᶠ, finite}
+use Rattle.admission.specs.declared.Head.{Head}
 use Rattle.admission.specs.Faults.{within, inside}
+use Rattle.admission.specs.Heads.{isKind, roomFor, isEmptyOpen}
 use Rattle.common.specs.declared.Vec2.{Vec2}
 use Rattle.common.specs.Vectors.{lengthSquaredOf}
 use Rattle.lines.specs.declared.Line.{Line}
 use Rattle.lines.specs.LineFaults.{lineReach, bandLow, bandHigh}
 use Rattle.linear_programming.specs.Admit.{reach, longest}
-use Rattle.obstacles.specs.Obstacles.{isEmptyOpen}
 use Rattle.dodgy_2d.specs.declared.Scene.{Scene}
-use Rattle.dodgy_2d.specs.Scenes.{Head, shortestHorizon, longestHorizon, isKind, roomFor}
+use Rattle.dodgy_2d.specs.Scenes.{shortestHorizon, longestHorizon}
 use Rattle.fields.specs.Got.{got, word}
 use Rattle.fields.proofs.ChainLaws.{got-same, then-got, guard-got, many-length}
 use Rattle.fields.proofs.Spans.{word-fits}

@@ -3,18 +3,16 @@ use Prim.Native.Nat.{ℕ, suc, _+_, _-_, _*_, _≤_, _<_}
 use native.Mathlib.Omega.{arith}
 use native.Mathlib.Numerals.{add-one}
 use mathlib.Core.Path.{_≡_, refl, sym, ap, _∙_}
-use mathlib.Core.Bool.{true}
 use mathlib.Core.List.{List, [], _∷_}
-use lib.Dec.{leb}
 use lib.ListN.{length, set}
 use lib.Seq.{sets}
 use lib.Ieee.{Float}
-use borrow.Author.Tests.{leb-true}
-use Rattle.arithmetic.proofs.Choice.{and-right}
+use Rattle.admission.specs.declared.Head.{Head}
 use Rattle.admission.specs.Faults.{within}
+use Rattle.admission.specs.Heads.{headOf}
+use Rattle.admission.proofs.HeadLaws.{room-within}
 use Rattle.common.specs.declared.Vec2.{Vec2}
 use Rattle.linear_programming.specs.Admit.{reach}
-use Rattle.dodgy_2d.specs.Scenes.{Head, headOf, roomFor}
 use Rattle.fields.specs.Bytes.{each}
 use Rattle.fields.specs.Got.{Got, refused, got, then, many}
 use Rattle.fields.proofs.ChainLaws.{apart, many-length}
@@ -38,10 +36,6 @@ pub head-known : (g : Got Head) (h : HeadRead) → h ≡ headAs g → told (h .n
 head-known g h e = rw e (head-told g)
 
 -- a head that was read leaves room for its vertices
-pub room-within : (total n : ℕ) → roomFor total n ≡ true → total + n ≤ 192
-unfolding roomFor
-room-within total n h = leb-true (total + n) 192 (and-right (leb n 64) (leb (total + n) 192) h)
-
 within-room : (s : List ℕ) (total : ℕ) (c : Cursor) → total ≤ 192 → total + headAs (from c (head s total)) .count ≤ 192
 unfolding from
 within-room s total (cursor.Fault r) h = omega arith
@@ -49,7 +43,7 @@ within-room s total (cursor.At at) h = go (head s total at) refl
   where
     go : (g : Got Head) → head s total at ≡ g → total + headAs g .count ≤ 192
     go (refused r) e = omega arith
-    go (got x m) e = head-taken s total at x m e λ a read-k known read-n room some. room-within total (x .count) room
+    go (got x m) e = head-taken s total at x m e λ a read-k known read-n room some. room-within total (x .count) room .1
 
 pub head-fits : (s : List ℕ) (total : ℕ) (c : Cursor) (r : HeadRead) (n : ℕ) → total ≤ 192 → r ≡ headAs (from c (head s total)) → n ≡ r .count → total + n ≤ 192
 head-fits s total c r n h p q = rw (q, p) (within-room s total c h)
@@ -105,7 +99,7 @@ module _ (s : List ℕ) where
         let l : length vs ≡ m = vertices-count s m d vs at p in
         rw (z .1, z .0, ← l) (behind ks cs xs i total k vs (obstacles s n (total + length vs) at))
 
-    pub walls-step : told d (headOf k m) ≡ from c (head s total) → told e xs' ≡ stored coordinates xs (2 * total) (from d (verticesAt s m))
+    walls-step : told d (headOf k m) ≡ from c (head s total) → told e xs' ≡ stored coordinates xs (2 * total) (from d (verticesAt s m))
         → storedWalls (walls ks cs xs) i total (from c (obstacles s (suc n) total)) ≡ storedWalls (walls (set ks i k) (set cs i m) xs') (i + 1) (total + m) (from e (obstacles s n (total + m)))
     unfolding obstacles many obstacle
     walls-step p q =

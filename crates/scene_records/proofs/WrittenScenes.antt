@@ -2,17 +2,17 @@
 use Prim.Native.Nat.{ℕ, zero, suc, _+_, _*_, _≤_}
 use native.Mathlib.Omega.{arith}
 use mathlib.Core.Path.{_≡_, refl, ap, _∙_}
-use mathlib.Core.Bool.{Bool, true, not}
+use mathlib.Core.Bool.{Bool, true}
 use mathlib.Core.List.{List, [], _∷_}
-use lib.Dec.{leb}
 use lib.ListN.{length, take, drop, length-drop}
 use lib.Seq.{length-take-le}
 use lib.Ieee.{Float, binary32, fits}
-use borrow.Author.Tests.{leb-true}
 use Rattle.arithmetic.specs.Binary32.{0ᶠ, finite}
 use Rattle.arithmetic.proofs.Lists.{All, none, more, all-take, all-drop}
-use Rattle.admission.specs.Faults.{_⊳_, fine, must, within, inside}
+use Rattle.admission.specs.declared.Head.{Head}
+use Rattle.admission.specs.Faults.{fine, must, within, inside}
 use Rattle.admission.proofs.FaultLaws.{⊳-fine, must-fine}
+use Rattle.admission.proofs.HeadLaws.{room-within}
 use Rattle.common.specs.declared.Vec2.{Vec2}
 use Rattle.common.specs.Vectors.{lengthSquaredOf}
 use Rattle.lines.specs.declared.Line.{Line}
@@ -20,16 +20,17 @@ use Rattle.lines.specs.Lines.{linesOf}
 use Rattle.lines.specs.LineFaults.{lineReach, bandLow, bandHigh, lineFault, linesFault}
 use Rattle.linear_programming.specs.Admit.{reach, longest}
 use Rattle.lines.proofs.Rows.{lines-long}
-use Rattle.obstacles.specs.Obstacles.{isEmptyOpen}
 use Rattle.obstacles.specs.Vertices.{verticesOf}
+use Rattle.obstacles.proofs.VertexNumbers.{vertices-long}
 use Rattle.dodgy_2d.specs.declared.Scene.{Scene}
-use Rattle.dodgy_2d.specs.Scenes.{Head, headsOf, headsIn, neighboursIn, shortestHorizon, longestHorizon, isKind, roomFor, numbersFault, vectorFault, agentFault, headFault, obstaclesFault, sceneFault}
+use Rattle.dodgy_2d.specs.Scenes.{headsOf, headsIn, neighboursIn, shortestHorizon, longestHorizon, numbersFault, vectorFault, agentFault, headFault, obstaclesFault, sceneFault}
+use Rattle.dodgy_2d.proofs.HeadsInOrder.{head-passed}
+use Rattle.dodgy_2d.proofs.ScenePasses.{parts}
 use Rattle.fields.specs.Got.{got}
 use Rattle.fields.proofs.Backs.{Every}
 use Rattle.scene_records.specs.Records.{sceneOf, sceneIn}
 use Rattle.scene_records.specs.SceneBytes.{cartIn, withVertices, obstaclesIn, sceneBytes}
-use Rattle.scene_records.proofs.WallLaws.{room-within}
-use Rattle.scene_records.proofs.BytesRead.{Good, GoodVector, GoodCart, GoodObstacle, GoodLine, GoodParts, onTotal, parts-read}
+use Rattle.scene_records.proofs.WrittenParts.{Good, GoodVector, GoodCart, GoodObstacle, GoodLine, GoodParts, onTotal, parts-read}
 
 -- ---- what every value of the code's type has: its numbers are f32, and its arrays have their lengths
 
@@ -58,8 +59,7 @@ pub record Typed (c : Scene) : Type 0 where
   pub lines : length (c .lines) ≡ 256
   pub lineNumbers : All Fit (c .lines)
 
--- ---- numbers by fours and by twos
-
+-- numbers by fours
 fit-lines : (xs : List Float) → All Fit xs → All FitLine (linesOf xs)
 unfolding linesOf
 fit-lines [] h = none
@@ -67,13 +67,6 @@ fit-lines (a ∷ []) h = none
 fit-lines (a ∷ b ∷ []) h = none
 fit-lines (a ∷ b ∷ c ∷ []) h = none
 fit-lines (a ∷ b ∷ c ∷ d ∷ xs) (more p (more q (more r (more t h)))) = more (record { point = record { x = p; y = q }; direction = record { x = r; y = t } }) (fit-lines xs h)
-
-vertices-long : (xs : List Float) (n : ℕ) → length xs ≡ 2 * n → length (verticesOf xs) ≡ n
-unfolding verticesOf
-vertices-long [] n h = omega arith
-vertices-long (x ∷ []) n h = absurd (omega arith)
-vertices-long (x ∷ y ∷ xs) zero h = absurd (omega arith)
-vertices-long (x ∷ y ∷ xs) (suc n) h = ap suc (vertices-long xs n (omega arith))
 
 -- ---- without a fault, each rule passed
 
@@ -115,22 +108,20 @@ good-vertices (x ∷ y ∷ xs) (more p (more q h)) e =
 
 -- each obstacle's vertices are there: the total before it and the numbers left make up 384
 good-obstacles : (total : ℕ) (hs : List Head) (xs : List Float) → 2 * total + length xs ≡ 384 → All Fit xs → obstaclesFault total hs xs ≡ fine → Every GoodObstacle onTotal total (withVertices hs xs)
-unfolding obstaclesFault headFault withVertices
+unfolding obstaclesFault withVertices
 good-obstacles total [] xs l h e = tt
 good-obstacles total (k ∷ hs) xs l h e =
-    let head-fine = ⊳-fine (must (isKind (k .kind)) 3 ⊳ must (roomFor total (k .count)) 4 ⊳ must (not (isEmptyOpen (k .kind) (k .count))) 5) e in
+    let head-fine = ⊳-fine (headFault total k) e in
     let numbers-fine = ⊳-fine (numbersFault (take (2 * k .count) xs)) (head-fine .1) in
-    let a = ⊳-fine (must (isKind (k .kind)) 3) (head-fine .0) in
-    let b = ⊳-fine (must (roomFor total (k .count)) 4) (a .1) in
-    let room : roomFor total (k .count) ≡ true = must-fine (roomFor total (k .count)) 4 (b .0) in
-    let fit : total + k .count ≤ 192 = room-within total (k .count) room in
+    let passed = head-passed total k (head-fine .0) in
+    let fit : total + k .count ≤ 192 = room-within total (k .count) (passed .1) .1 in
     let front : length (take (2 * k .count) xs) ≡ 2 * k .count = length-take-le (2 * k .count) xs (omega arith) in
     let size : length (verticesOf (take (2 * k .count) xs)) ≡ k .count = vertices-long (take (2 * k .count) xs) (k .count) front in
     let behind : 2 * (total + k .count) + length (drop (2 * k .count) xs) ≡ 384 = rw length-drop (omega arith) in (
       record {
-        kind = must-fine (isKind (k .kind)) 3 (a .0);
-        room = rw size room;
-        some = rw size (must-fine (not (isEmptyOpen (k .kind) (k .count))) 5 (b .1));
+        kind = passed .0;
+        room = rw size (passed .1);
+        some = rw size (passed .2);
         vertices = good-vertices (take (2 * k .count) xs) (all-take (2 * k .count) h) (numbers-fine .0);
       },
       rw size (good-obstacles (total + k .count) hs (drop (2 * k .count) xs) behind (all-drop (2 * k .count) h) (numbers-fine .1)),
@@ -180,21 +171,15 @@ module _ (c : Scene) (t : Typed c) where
   tidied = sceneOf (cartIn c) (c .obstacles) (obstaclesIn c) (c .neighbours) (neighboursIn c)
 
   pub bytes-are-read : sceneFault c ≡ fine → sceneIn (sceneBytes c) ≡ got tidied (length (sceneBytes c))
-  unfolding sceneFault
   bytes-are-read e =
-      let a = ⊳-fine (agentFault c) e in
-      let b = ⊳-fine (must (leb (c .obstacles) 16) 4) (a .1) in
-      let d = ⊳-fine (obstaclesFault 0 (headsIn c) (c .vertices)) (b .1) in
-      let f = ⊳-fine (must (leb (c .neighbours) 64) 4) (d .1) in
-      let few : c .obstacles ≤ 16 = leb-true _ 16 (must-fine _ 4 (b .0)) in
-      let fewer : c .neighbours ≤ 64 = leb-true _ 64 (must-fine _ 4 (f .0)) in
-      let os-long = obstacles-long few in
-      let ls-long = neighbours-long fewer in
+      let p = parts c e in
+      let os-long = obstacles-long (p .obstacles) in
+      let ls-long = neighbours-long (p .neighbours) in
       let ok : GoodParts (cartIn c) (obstaclesIn c) (neighboursIn c) = record {
-        cart = good-cart c t (a .0);
-        few = rw os-long few;
-        obstacles = good-obstacles 0 (headsIn c) (c .vertices) (omega (arith, t .vertices)) (t .vertexNumbers) (d .0);
-        fewer = rw ls-long fewer;
-        lines = good-lines (neighboursIn c) (all-take (c .neighbours) (fit-lines (c .lines) (t .lineNumbers))) (f .1);
+        cart = good-cart c t (p .agent);
+        few = rw os-long (p .obstacles);
+        obstacles = good-obstacles 0 (headsIn c) (c .vertices) (omega (arith, t .vertices)) (t .vertexNumbers) (p .walls);
+        fewer = rw ls-long (p .neighbours);
+        lines = good-lines (neighboursIn c) (all-take (c .neighbours) (fit-lines (c .lines) (t .lineNumbers))) (p .lines);
       } in
       rw (os-long, ls-long) at (parts-read (cartIn c) (obstaclesIn c) (neighboursIn c) ok)

@@ -6,15 +6,16 @@ use lib.ListN.{length, replicate}
 use lib.Seq.{sets}
 use lib.Ieee.{Float}
 use Rattle.arithmetic.specs.Binary32.{0ᶠ, finite}
+use Rattle.admission.specs.declared.Head.{Head}
 use Rattle.admission.specs.Faults.{within, inside}
+use Rattle.admission.specs.Heads.{headOf, isKind, roomFor, isEmptyOpen}
 use Rattle.common.specs.declared.Vec2.{Vec2}
 use Rattle.common.specs.Vectors.{lengthSquaredOf}
 use Rattle.lines.specs.declared.Line.{Line}
 use Rattle.lines.specs.Lines.{line}
 use Rattle.lines.specs.LineFaults.{lineReach, bandLow, bandHigh}
 use Rattle.linear_programming.specs.Admit.{reach, longest}
-use Rattle.obstacles.specs.Obstacles.{isEmptyOpen}
-use Rattle.dodgy_2d.specs.Scenes.{Head, headOf, shortestHorizon, longestHorizon, isKind, roomFor}
+use Rattle.dodgy_2d.specs.Scenes.{shortestHorizon, longestHorizon}
 use Rattle.fields.specs.Bytes.{each}
 use Rattle.fields.specs.Got.{Got, refused, got, then, guard, word, many}
 use Rattle.scene_records.specs.declared.Cart.{Cart}

@@ -12,6 +12,7 @@ use Rattle.lines.specs.declared.Line.{Line}
 use Rattle.lines.specs.Lines.{fourOf}
 use Rattle.obstacles.specs.Read.{blankNumbers}
 use Rattle.dodgy_2d.specs.declared.Scene.{Scene}
+use Rattle.dodgy_2d.specs.Scenes.{mostObstacles, mostNeighbours}
 use Rattle.fields.specs.Bytes.{each}
 use Rattle.fields.specs.Got.{Got, refused, got, then, guard, word}
 use Rattle.scene_records.specs.declared.Cart.{Cart}
@@ -50,14 +51,14 @@ blankScene = sceneWith blankCart 0 noWalls 0 blankNumbers
 
 -- ---- the reading
 
--- the fields behind the length: at most 16 obstacles and 64 neighbour lines
+-- the fields behind the length
 unfoldable pub fieldsIn : List ℕ → ℕ → Got Scene
 fieldsIn s at =
     then (version s at) λ u a.
     then (cart s a) λ c b.
-    then (count 16 s b) λ n d.
+    then (count mostObstacles s b) λ n d.
     then (obstacles s n 0 d) λ os e.
-    then (count 64 s e) λ m f.
+    then (count mostNeighbours s e) λ m f.
     then (neighbours s m f) λ ls g.
     then (ended s g) λ v h.
     got (sceneOf c n os m ls) h

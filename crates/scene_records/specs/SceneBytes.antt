@@ -3,11 +3,12 @@ use Prim.Native.Nat.{ℕ, _*_}
 use mathlib.Core.List.{List, [], _∷_, _++_}
 use lib.ListN.{length, take, drop}
 use lib.Ieee.{Float, binary32, toBits}
+use Rattle.admission.specs.declared.Head.{Head}
 use Rattle.common.specs.declared.Vec2.{Vec2}
 use Rattle.lines.specs.declared.Line.{Line}
 use Rattle.obstacles.specs.Vertices.{verticesOf}
 use Rattle.dodgy_2d.specs.declared.Scene.{Scene}
-use Rattle.dodgy_2d.specs.Scenes.{Head, headsIn, neighboursIn}
+use Rattle.dodgy_2d.specs.Scenes.{headsIn, neighboursIn}
 use Rattle.fields.specs.Bytes.{toBe, each}
 use Rattle.scene_records.specs.declared.Cart.{Cart}
 use Rattle.scene_records.specs.Parts.{Obstacle}

@@ -4,41 +4,14 @@ use crate::HeadRead;
 use crate::Rule;
 use crate::WallsRead;
 use crate::steps;
+use admission::Head;
 use common::Vec2;
-use dodgy_2d::Scene;
-use obstacles::ObstacleLines;
 ghost use mathlib.Core.Path.{_≡_};
-ghost use mathlib.Core.Bool.{not};
 ghost use Prim.Native.Nat.{_+_, _*_, _≤_};
 ghost use lib.ListN.{length};
 ghost use lib.Seq.{sets};
-ghost use Rattle.dodgy_2d.specs.Scenes.{isKind, roomFor};
-ghost use Rattle.obstacles.specs.Obstacles.{isEmptyOpen};
 ghost use Rattle.scene_records.specs.Steps.{from, told};
 ghost use Rattle.scene_records.specs.Parts.{head, headAs, coordinates, verticesAt, stored, obstacles, walls, blankBytes, blankVertices, storedWalls};
-
-fn is_kind(kind: u8) -> bool
-    ensures { λ r. ⌜ r ≡ isKind kind ⌝ }
-{
-    kind == ObstacleLines::CLOSED || kind == ObstacleLines::OPEN
-}
-
-// Whether an obstacle may have as many vertices, with those before it.
-fn room_for(total: usize, count: usize) -> bool
-    ensures { λ r. ⌜ r ≡ roomFor total count ⌝ }
-{
-    if count > ObstacleLines::MOST {
-        return false;
-    }
-    total <= Scene::MOST_VERTICES - count
-}
-
-// Whether an obstacle is closed or has vertices.
-fn has_some(kind: u8, count: u8) -> bool
-    ensures { λ r. ⌜ r ≡ not (isEmptyOpen kind count) ⌝ }
-{
-    kind != ObstacleLines::OPEN || count != 0
-}
 
 // An obstacle's kind and vertex count, behind a total of vertices.
 fn head_at(bytes: &[u8], cursor: Cursor, total: usize) -> HeadRead
@@ -46,11 +19,12 @@ fn head_at(bytes: &[u8], cursor: Cursor, total: usize) -> HeadRead
 {
     let kind = steps::byte_at(bytes, cursor);
     let next = kind.next;
-    let next = steps::held_to(is_kind(kind.value), 3, next);
+    let next = steps::held_to(Head::is_kind(kind.value), 3, next);
     let count = steps::byte_at(bytes, next);
+    let many = steps::wide(count.value);
     let next = count.next;
-    let next = steps::held_to(room_for(total, steps::wide(count.value)), 4, next);
-    let next = steps::held_to(has_some(kind.value, count.value), 5, next);
+    let next = steps::held_to(Head::has_room(total, many), 4, next);
+    let next = steps::held_to(!Head::is_empty_open(kind.value, many), 5, next);
     match next {
         Cursor::At(_) => HeadRead {
             kind: kind.value,

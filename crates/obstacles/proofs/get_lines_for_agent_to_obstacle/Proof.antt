@@ -4,7 +4,7 @@ use mathlib.Core.Path.{_≡_, _∙_}
 use native.Mathlib.Omega.{arith}
 use denote.Ref.{now}
 use Rattle.obstacles.specs.Obstacles.{obstacleCall}
-use Rattle.obstacles.proofs.Corners.{part-size}
+use Rattle.obstacles.proofs.VertexNumbers.{part-size}
 use Rattle.obstacles.proofs.Faults.{few-there}
 use borrow.Author.Needs.{needs}
 use Rattle.obstacles.proofs.get_lines_for_agent_to_obstacle.Statement.{statement}
@@ -27,16 +27,16 @@ enum-told : tie.Need-enum-told
 enum-told c = search needs
 
 mul-lines-for-edges : tie.Need-mul-lines-for-edges
-mul-lines-for-edges c = let there = few-there _ _ _ _ (rw (c .enum-told .given .1) at (c .before .before .judge-obstacle .ensures)) in omega (arith, there)
+mul-lines-for-edges c = omega (arith, few-there _ _ _ _ (c .before .before .judge-obstacle .ensures) (c .enum-told .given .1))
 
 add-lines-for-edges : tie.Need-add-lines-for-edges
-add-lines-for-edges c = let there = few-there _ _ _ _ (rw (c .enum-told .given .1) at (c .before .before .judge-obstacle .ensures)) in omega (arith, there)
+add-lines-for-edges c = omega (arith, few-there _ _ _ _ (c .before .before .judge-obstacle .ensures) (c .enum-told .given .1))
 
 mul-lines-for-edges-2 : tie.Need-mul-lines-for-edges-2
-mul-lines-for-edges-2 c = let there = few-there _ _ _ _ (rw (c .enum-told .given .1) at (c .before .before .judge-obstacle .ensures)) in omega (arith, there)
+mul-lines-for-edges-2 c = omega (arith, few-there _ _ _ _ (c .before .before .judge-obstacle .ensures) (c .enum-told .given .1))
 
 mul-lines-for-edges-3 : tie.Need-mul-lines-for-edges-3
-mul-lines-for-edges-3 c = let there = few-there _ _ _ _ (rw (c .enum-told .given .1) at (c .before .before .judge-obstacle .ensures)) in omega (arith, there)
+mul-lines-for-edges-3 c = omega (arith, few-there _ _ _ _ (c .before .before .judge-obstacle .ensures) (c .enum-told .given .1))
 
 sub-lines-for-edges : tie.Need-sub-lines-for-edges
 sub-lines-for-edges c = search needs
@@ -45,16 +45,16 @@ part-lines-for-edges-start : tie.Need-part-lines-for-edges-start
 part-lines-for-edges-start c = search needs
 
 part-lines-for-edges-end : tie.Need-part-lines-for-edges-end
-part-lines-for-edges-end c = let there = few-there _ _ _ _ (rw (c .enum-told .given .1) at (c .before .before .judge-obstacle .ensures)) in omega (arith, there)
+part-lines-for-edges-end c = omega (arith, few-there _ _ _ _ (c .before .before .judge-obstacle .ensures) (c .enum-told .given .1))
 
 lines-for-edges-requires : tie.Need-lines-for-edges-requires
-lines-for-edges-requires c κs = let there = few-there _ _ _ _ (rw (c .before .enum-told .given .1) at (c .before .before .before .judge-obstacle .ensures)) in omega (arith, there)
+lines-for-edges-requires c κs = omega (arith, few-there _ _ _ _ (c .before .before .before .judge-obstacle .ensures) (c .before .enum-told .given .1))
 
 returns-2 : tie.Need-returns-2
 unfolding obstacleCall
 returns-2 c =
     let a = c .before .before .before .before .before .before .args in
-    let there = few-there _ _ _ _ (rw (c .before .before .enum-told .given .1) at (c .before .before .before .before .judge-obstacle .ensures)) in
+    let there = few-there _ _ _ _ (c .before .before .before .before .judge-obstacle .ensures) (c .before .before .enum-told .given .1) in
     let cut : 2 * (a .offset + a .count) - 2 * a .offset ≡ 2 * a .count = omega arith in
     let size = part-size (now (a .vertices)) (a .offset) (a .count) (there .1) in
     c .lines-for-edges .ensures ∙ simp (cut, size, c .before .before .enum-told .given .1, ← c .before .before .before .before .judge-obstacle .ensures)

@@ -6,7 +6,7 @@ use mathlib.Core.Path.{_≡_, sym, ap, _∙_}
 use native.Mathlib.Omega.{arith}
 use denote.Ref.{now}
 use Rattle.obstacles.specs.Obstacles.{obstacleCall}
-use Rattle.obstacles.proofs.HandedOver.{call-sound, sound-few}
+use Rattle.obstacles.proofs.HandedOver.{call-few}
 use Rattle.dodgy_2d.proofs.EdgesJoined.{told-refused}
 use borrow.Author.Needs.{needs}
 use Rattle.dodgy_2d.proofs.edge_lines.add_obstacle.Statement.{statement}
@@ -21,7 +21,7 @@ enum-known-judged c = search needs
 returns : tie.Need-returns
 returns c =
     let a = c .before .before .before .before .before .before .args in
-    let e = told-refused (obstacleCall (a .agent) (a .wall .kind) (now (a .vertices)) (a .wall .offset) (a .wall .count) (a .margin) (a .horizon)) _ (ap (λ (x : ObstacleLines). x .judged) (sym (c .before .before .before .get-lines-for-agent-to-obstacle .ensures)) ∙ c .before .judged .given .1) in
+    let e = told-refused (obstacleCall (a .agent) (a .head .kind) (now (a .vertices)) (a .offset) (a .head .count) (a .margin) (a .horizon)) _ (ap (λ (x : ObstacleLines). x .judged) (sym (c .before .before .before .get-lines-for-agent-to-obstacle .ensures)) ∙ c .before .judged .given .1) in
     (search needs, omega arith, rw e)
 
 enum-told : tie.Need-enum-told
@@ -33,19 +33,19 @@ mul-copy c = search needs
 mul-copy-2 : tie.Need-mul-copy-2
 mul-copy-2 c =
     let a = c .before .before .before .before .before .before .before .args in
-    let few = rw (← c .before .before .before .before .get-lines-for-agent-to-obstacle .ensures) at (sound-few (a .wall .count) _ (call-sound (a .agent) (a .wall .kind) (now (a .vertices)) (a .wall .offset) (a .wall .count) (a .margin) (a .horizon))) in
+    let few = call-few _ _ _ _ _ _ _ (c .before .before .before .before .get-lines-for-agent-to-obstacle .ensures) in
     omega (arith, few)
 
 copy-requires : tie.Need-copy-requires
 copy-requires c κs =
     let a = c .before .before .before .before .before .before .before .args in
-    let few = rw (← c .before .before .before .before .get-lines-for-agent-to-obstacle .ensures) at (sound-few (a .wall .count) _ (call-sound (a .agent) (a .wall .kind) (now (a .vertices)) (a .wall .offset) (a .wall .count) (a .margin) (a .horizon))) in
+    let few = call-few _ _ _ _ _ _ _ (c .before .before .before .before .get-lines-for-agent-to-obstacle .ensures) in
     (omega (arith, few), omega (arith, few))
 
-add-t16 : tie.Need-add-t16
-add-t16 c =
+add-t17 : tie.Need-add-t17
+add-t17 c =
     let a = c .before .before .before .before .before .before .before .before .before .before .args in
-    let few = rw (← c .before .before .before .before .before .before .before .get-lines-for-agent-to-obstacle .ensures) at (sound-few (a .wall .count) _ (call-sound (a .agent) (a .wall .kind) (now (a .vertices)) (a .wall .offset) (a .wall .count) (a .margin) (a .horizon))) in
+    let few = call-few _ _ _ _ _ _ _ (c .before .before .before .before .before .before .before .get-lines-for-agent-to-obstacle .ensures) in
     omega (arith, few)
 
 same-length : tie.Need-same-length
@@ -55,9 +55,9 @@ returns-2 : tie.Need-returns-2
 returns-2 c =
     let a = c .before .before .before .before .before .before .before .before .before .before .args in
     let found = c .before .before .before .before .before .before .before .get-lines-for-agent-to-obstacle in
-    let few = rw (← found .ensures) at (sound-few (a .wall .count) _ (call-sound (a .agent) (a .wall .kind) (now (a .vertices)) (a .wall .offset) (a .wall .count) (a .margin) (a .horizon))) in
+    let few = call-few _ _ _ _ _ _ _ (found .ensures) in
     let size : length (found .result .lines) ≡ 256 = search needs in
-    (search needs, omega (arith, few), rw (c .before .before .copy .ensures) (added-lines (now (a .numbers)) (a .count) (found .result) (obstacleCall (a .agent) (a .wall .kind) (now (a .vertices)) (a .wall .offset) (a .wall .count) (a .margin) (a .horizon)) (found .ensures) (c .before .before .before .before .before .enum-told .given .1) (omega arith) (omega (arith, few, size))))
+    (search needs, omega (arith, few), rw (c .before .before .copy .ensures) (added-lines (now (a .numbers)) (a .count) (found .result) (obstacleCall (a .agent) (a .head .kind) (now (a .vertices)) (a .offset) (a .head .count) (a .margin) (a .horizon)) (found .ensures) (c .before .before .before .before .before .enum-told .given .1) (omega arith) (omega (arith, few, size))))
 
 pub add-obstacle-spec : {M : Type 1} → statement M
 add-obstacle-spec =
@@ -70,6 +70,6 @@ add-obstacle-spec =
     mul-copy
     mul-copy-2
     copy-requires
-    add-t16
+    add-t17
     same-length
     returns-2)

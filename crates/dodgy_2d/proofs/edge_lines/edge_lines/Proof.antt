@@ -33,18 +33,18 @@ loop-holds c = (omega arith, omega arith, omega arith, search needs, c .before .
 array-read-t20 : tie.Need-array-read-t20 Inv-loop μ-loop
 array-read-t20 c = search needs
 
-array-read-index : tie.Need-array-read-index Inv-loop μ-loop
-array-read-index c = search needs
+array-read-wide : tie.Need-array-read-wide Inv-loop μ-loop
+array-read-wide c = search needs
 
-index-requires : tie.Need-index-requires Inv-loop μ-loop
-index-requires c κs = search needs
+wide-requires : tie.Need-wide-requires Inv-loop μ-loop
+wide-requires c κs = search needs
 
 add-obstacle-requires : tie.Need-add-obstacle-requires Inv-loop μ-loop
 add-obstacle-requires c κs =
     let a = c .before .before .before .before .before .before .args in
     let l = c .before .before .before .loop in
     let own = own-fine (a .t2) (a .t3) (a .n) (l .i) (omega arith) (omega arith) (l .offset) (now (a .vertices)) (omega arith) (l .inv .4) in
-    let room = rw (← c .before .index .ensures .0) at (own-room (a .t2) (a .t3) (a .n) (l .i) (omega arith) (omega arith) (l .offset) (now (a .vertices)) (own .0)) in
+    let room = rw (← c .before .wide .ensures .0) at (own-room (a .t2) (a .t3) (a .n) (l .i) (omega arith) (omega arith) (l .offset) (now (a .vertices)) (own .0)) in
     (search needs, room .0, omega (arith, room .1))
 
 enum-known-added : tie.Need-enum-known-added Inv-loop μ-loop
@@ -61,8 +61,8 @@ returns c =
     let a = c .before .before .before .before .before .before .before .before .before .before .before .args in
     let l = c .before .before .before .before .before .before .before .before .loop in
     let own = own-fine (a .t2) (a .t3) (a .n) (l .i) (omega arith) (omega arith) (l .offset) (now (a .vertices)) (omega arith) (l .inv .4) in
-    let room = rw (← c .before .before .before .before .before .before .index .ensures .0) at (own-room (a .t2) (a .t3) (a .n) (l .i) (omega arith) (omega arith) (l .offset) (now (a .vertices)) (own .0)) in
-    let step = rw (c .enum-told .given .1, c .before .before .before .before .before .before .index .ensures .0) at (c .before .before .before .before .add-obstacle .ensures .2) in
+    let room = rw (← c .before .before .before .before .before .before .wide .ensures .0) at (own-room (a .t2) (a .t3) (a .n) (l .i) (omega arith) (omega arith) (l .offset) (now (a .vertices)) (own .0)) in
+    let step = rw (c .enum-told .given .1, c .before .before .before .before .before .before .wide .ensures .0) at (c .before .before .before .before .add-obstacle .ensures .2) in
     (c .before .before .before .before .add-obstacle .ensures .0, omega (arith, c .before .before .before .before .add-obstacle .ensures .1, room .1), rw (c .enum-told .given .1) (sym (l .inv .5 ∙ edges-on (a .agent) (a .margin) (a .horizon) (now (a .vertices)) (a .t2) (a .t3) (a .n) (omega arith) (omega arith) (l .i) (l .offset) (lines (linesOf (take (4 * l .count) (l .numbers)))) _ (omega arith) step)))
 
 add-offset : tie.Need-add-offset Inv-loop μ-loop
@@ -79,10 +79,10 @@ loop-again c =
     let a = c .before .before .before .before .before .before .before .before .before .before .before .before .before .args in
     let l = c .before .before .before .before .before .before .before .before .before .before .loop in
     let own = own-fine (a .t2) (a .t3) (a .n) (l .i) (omega arith) (omega arith) (l .offset) (now (a .vertices)) (omega arith) (l .inv .4) in
-    let room = rw (← c .before .before .before .before .before .before .before .before .index .ensures .0) at (own-room (a .t2) (a .t3) (a .n) (l .i) (omega arith) (omega arith) (l .offset) (now (a .vertices)) (own .0)) in
-    let step = rw (c .before .before .added .given .1, c .before .before .before .before .before .before .before .before .index .ensures .0) at (c .before .before .before .before .before .before .add-obstacle .ensures .2) in
+    let room = rw (← c .before .before .before .before .before .before .before .before .wide .ensures .0) at (own-room (a .t2) (a .t3) (a .n) (l .i) (omega arith) (omega arith) (l .offset) (now (a .vertices)) (own .0)) in
+    let step = rw (c .before .before .added .given .1, c .before .before .before .before .before .before .before .before .wide .ensures .0) at (c .before .before .before .before .before .before .add-obstacle .ensures .2) in
     let few = rw (c .before .before .added .given .1) at (c .before .before .before .before .before .before .add-obstacle .ensures .1) in
-    (omega arith, omega (arith, few), room .1, c .before .before .before .before .before .before .add-obstacle .ensures .0, rw (c .before .before .before .before .before .before .before .before .index .ensures .0) (own .1), rw (c .before .before .before .before .before .before .before .before .index .ensures .0) (l .inv .5 ∙ edges-on (a .agent) (a .margin) (a .horizon) (now (a .vertices)) (a .t2) (a .t3) (a .n) (omega arith) (omega arith) (l .i) (l .offset) (lines (linesOf (take (4 * l .count) (l .numbers)))) _ (omega arith) step))
+    (omega arith, omega (arith, few), room .1, c .before .before .before .before .before .before .add-obstacle .ensures .0, rw (c .before .before .before .before .before .before .before .before .wide .ensures .0) (own .1), rw (c .before .before .before .before .before .before .before .before .wide .ensures .0) (l .inv .5 ∙ edges-on (a .agent) (a .margin) (a .horizon) (now (a .vertices)) (a .t2) (a .t3) (a .n) (omega arith) (omega arith) (l .i) (l .offset) (lines (linesOf (take (4 * l .count) (l .numbers)))) _ (omega arith) step))
 
 same-length-2 : tie.Need-same-length-2 Inv-loop μ-loop
 same-length-2 c = search needs
@@ -101,8 +101,8 @@ edge-lines-spec =
     μ-loop
     loop-holds
     array-read-t20
-    array-read-index
-    index-requires
+    array-read-wide
+    wide-requires
     add-obstacle-requires
     enum-known-added
     enum-told

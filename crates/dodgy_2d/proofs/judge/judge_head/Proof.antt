@@ -1,5 +1,4 @@
 -- `dodgy_2d::judge::judge_head` meets its contract. Assumes nothing.
-use Rattle.dodgy_2d.proofs.SceneFaults.{⊳-none}
 use Rattle.dodgy_2d.specs.Scenes.{headFault}
 use borrow.Author.Needs.{needs}
 use Rattle.dodgy_2d.proofs.judge.judge_head.Statement.{statement}
@@ -20,6 +19,9 @@ fault-unless-requires-2 c κs = search needs
 is-empty-open-requires : tie.Need-is-empty-open-requires
 is-empty-open-requires c κs = search needs
 
+fault-unless-requires-3 : tie.Need-fault-unless-requires-3
+fault-unless-requires-3 c κs = search needs
+
 first-of-requires : tie.Need-first-of-requires
 first-of-requires c κs = search needs
 
@@ -28,14 +30,7 @@ first-of-requires-2 c κs = search needs
 
 returns : tie.Need-returns
 unfolding headFault
-returns c = simp (← c .first-of2 .ensures, ← c .before .first-of .ensures, c .before .before .if1 .taken, ← c .before .before .before .is-empty-open .ensures, ← c .before .before .before .before .fault-unless2 .ensures, ← c .before .before .before .before .before .has-room .ensures, ← c .before .before .before .before .before .before .fault-unless .ensures, ← c .before .before .before .before .before .before .before .is-kind .ensures)
-
-first-of-requires-3 : tie.Need-first-of-requires-3
-first-of-requires-3 c κs = search needs
-
-returns-2 : tie.Need-returns-2
-unfolding headFault
-returns-2 c = simp (⊳-none, ← c .first-of3 .ensures, c .before .if1 .left, ← c .before .before .is-empty-open .ensures, ← c .before .before .before .fault-unless2 .ensures, ← c .before .before .before .before .has-room .ensures, ← c .before .before .before .before .before .fault-unless .ensures, ← c .before .before .before .before .before .before .is-kind .ensures)
+returns c = simp (← c .first-of2 .ensures, ← c .before .first-of .ensures, ← c .before .before .fault-unless3 .ensures, ← c .before .before .before .is-empty-open .ensures, ← c .before .before .before .before .fault-unless2 .ensures, ← c .before .before .before .before .before .has-room .ensures, ← c .before .before .before .before .before .before .fault-unless .ensures, ← c .before .before .before .before .before .before .before .is-kind .ensures)
 
 pub judge-head-spec : {M : Type 1} → statement M
 judge-head-spec =
@@ -46,8 +41,7 @@ judge-head-spec =
     has-room-requires
     fault-unless-requires-2
     is-empty-open-requires
+    fault-unless-requires-3
     first-of-requires
     first-of-requires-2
-    returns
-    first-of-requires-3
-    returns-2)
+    returns)

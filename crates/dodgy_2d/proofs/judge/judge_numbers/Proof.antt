@@ -6,7 +6,7 @@ use denote.Ref.{now}
 use lib.ListN.{take, drop}
 use lib.Ieee.{nan}
 use Rattle.dodgy_2d.specs.Scenes.{numbersFault}
-use Rattle.dodgy_2d.proofs.SceneFaults.{number-on, number-stop, number-done}
+use Rattle.dodgy_2d.proofs.NumbersInOrder.{number-on, number-stop, number-done}
 use borrow.Author.Needs.{needs}
 use Rattle.dodgy_2d.proofs.judge.judge_numbers.Statement.{statement}
 use Rattle.dodgy_2d.proofs.judge.judge_numbers.Tie as tie

@@ -19,14 +19,14 @@ abbrev μ-loop : tie.MeasureT-loop
 loop-holds : tie.Need-loop-holds Inv-loop μ-loop
 loop-holds c = (omega arith, omega arith, refl)
 
-array-read-index : tie.Need-array-read-index Inv-loop μ-loop
-array-read-index c = search needs
+array-read-t14 : tie.Need-array-read-t14 Inv-loop μ-loop
+array-read-t14 c = search needs
 
-index-requires : tie.Need-index-requires Inv-loop μ-loop
-index-requires c κs = search needs
+array-read-wide : tie.Need-array-read-wide Inv-loop μ-loop
+array-read-wide c = search needs
 
-array-read-judge-obstacle : tie.Need-array-read-judge-obstacle Inv-loop μ-loop
-array-read-judge-obstacle c = search needs
+wide-requires : tie.Need-wide-requires Inv-loop μ-loop
+wide-requires c κs = search needs
 
 judge-obstacle-requires : tie.Need-judge-obstacle-requires Inv-loop μ-loop
 judge-obstacle-requires c κs = search needs
@@ -41,7 +41,7 @@ returns : tie.Need-returns Inv-loop μ-loop
 returns c =
     let a = c .before .before .before .before .before .before .before .args in
     let l = c .before .before .before .before .before .loop in
-    let step = rw (c .enum-told2 .given .1, c .before .before .before .index .ensures .0) at (c .before .before .judge-obstacle .ensures) in
+    let step = rw (c .enum-told2 .given .1, c .before .before .before .wide .ensures .0) at (c .before .before .judge-obstacle .ensures) in
     rw (c .enum-told2 .given .1) (sym (l .inv .2 ∙ obstacle-stop (a .t1) (a .t2) (a .n) (l .i) (omega arith) (omega arith) (l .total) (now (a .vertices)) _ (omega arith) step))
 
 add-total : tie.Need-add-total Inv-loop μ-loop
@@ -55,10 +55,10 @@ loop-less c = search needs
 
 loop-again : tie.Need-loop-again Inv-loop μ-loop
 loop-again c =
-    let a = c .before .before .before .before .before .before .before .args in
-    let l = c .before .before .before .before .before .loop in
-    let step = rw (c .enum-told .given .1, c .before .before .before .index .ensures .0) at (c .before .before .judge-obstacle .ensures) in
-    (omega arith, rw (c .before .before .before .index .ensures .0) (own-room (a .t1) (a .t2) (a .n) (l .i) (omega arith) (omega arith) (l .total) (now (a .vertices)) step .1), rw (c .before .before .before .index .ensures .0) (l .inv .2 ∙ obstacle-on (a .t1) (a .t2) (a .n) (l .i) (omega arith) (omega arith) (l .total) (now (a .vertices)) (omega arith) step))
+    let a = c .before .before .before .before .before .before .before .before .args in
+    let l = c .before .before .before .before .before .before .loop in
+    let step = rw (c .before .enum-told .given .1, c .before .before .before .before .wide .ensures .0) at (c .before .before .before .judge-obstacle .ensures) in
+    (omega arith, rw (c .before .before .before .before .wide .ensures .0) (own-room (a .t1) (a .t2) (a .n) (l .i) (omega arith) (omega arith) (l .total) (now (a .vertices)) step .1), rw (c .before .before .before .before .wide .ensures .0) (l .inv .2 ∙ obstacle-on (a .t1) (a .t2) (a .n) (l .i) (omega arith) (omega arith) (l .total) (now (a .vertices)) (omega arith) step))
 
 returns-2 : tie.Need-returns-2 Inv-loop μ-loop
 returns-2 c =
@@ -73,9 +73,9 @@ judge-obstacles-spec =
     Inv-loop
     μ-loop
     loop-holds
-    array-read-index
-    index-requires
-    array-read-judge-obstacle
+    array-read-t14
+    array-read-wide
+    wide-requires
     judge-obstacle-requires
     enum-told
     enum-told-2

@@ -4,7 +4,7 @@ use Prim.Native.Nat.{ℕ, _-_, _*_}
 use lib.ListN.{length, take}
 use Rattle.lines.specs.Lines.{linesOf}
 use Rattle.lines.specs.LineFaults.{linesFault}
-use Rattle.dodgy_2d.proofs.SceneFaults.{neighbours-there}
+use Rattle.lines.proofs.Rows.{lines-take}
 use native.Mathlib.Omega.{arith}
 use borrow.Author.Tests.{le-leb, lt-leb}
 use Rattle.dodgy_2d.specs.Scenes.{sceneFault}
@@ -71,7 +71,7 @@ unfolding sceneFault
 returns-5 c = simp (le-leb _ _ (c .before .before .before .before .if2 .left), c .before .before .before .before .before .enum-told3 .given .1, ← c .before .before .before .before .before .before .before .judge-obstacles .ensures, le-leb _ _ (c .before .before .before .before .before .before .before .before .before .before .before .before .if1 .left), c .before .before .before .before .before .before .before .before .before .before .before .before .before .enum-told .given .1, ← c .before .before .before .before .before .before .before .before .before .before .before .before .before .before .before .judge-agent .ensures)
     (let s = c .before .before .before .before .before .before .before .before .before .before .before .before .before .before .before .before .args .scene in
     let e : 4 * s .neighbours - 0 ≡ 4 * s .neighbours = omega arith in
-    c .judge-lines .ensures ∙ ap (λ (k : ℕ). linesFault (linesOf (take k (s .lines)))) e ∙ ap linesFault (neighbours-there (s .lines) (s .neighbours)))
+    c .judge-lines .ensures ∙ ap (λ (k : ℕ). linesFault (linesOf (take k (s .lines)))) e ∙ ap linesFault (lines-take (s .lines) (s .neighbours)))
 
 pub judge-scene-spec : {M : Type 1} → statement M
 judge-scene-spec =

@@ -1,5 +1,5 @@
 -- `dodgy_2d::judge::judge_vector` meets its contract. Assumes nothing.
-use Rattle.dodgy_2d.proofs.SceneFaults.{⊳-none}
+use Rattle.admission.proofs.FaultLaws.{⊳-none}
 use Rattle.dodgy_2d.specs.Scenes.{numbersFault, vectorFault}
 use borrow.Author.Needs.{needs}
 use Rattle.dodgy_2d.proofs.judge.judge_vector.Statement.{statement}

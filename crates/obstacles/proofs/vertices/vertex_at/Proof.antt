@@ -2,7 +2,7 @@
 use mathlib.Core.Path.{refl, sym}
 use denote.Ref.{now}
 use native.Mathlib.Omega.{arith}
-use Rattle.obstacles.proofs.Corners.{nth}
+use Rattle.obstacles.proofs.VertexNumbers.{vertex-nth}
 use borrow.Author.Needs.{needs}
 use Rattle.obstacles.proofs.vertices.vertex_at.Statement.{statement}
 use Rattle.obstacles.proofs.vertices.vertex_at.Tie as tie
@@ -26,7 +26,7 @@ shared-slice-read-t10 : tie.Need-shared-slice-read-t10
 shared-slice-read-t10 c = search needs
 
 returns : tie.Need-returns
-returns c = let a = c .before .before .args in sym (nth (now (a .vertices)) (a .i) _ refl (omega arith))
+returns c = let a = c .before .before .args in sym (vertex-nth (now (a .vertices)) (a .i) _ refl (omega arith))
 
 pub vertex-at-spec : {M : Type 1} → statement M
 vertex-at-spec =

@@ -5,7 +5,7 @@ use native.Mathlib.Omega.{arith}
 use denote.Ref.{now}
 use lib.ListN.{length}
 use borrow.Author.Tests.{lt-leb}
-use Rattle.scene_records.proofs.FieldLaws.{left-over}
+use Rattle.admission.proofs.HeadLaws.{left-over}
 use borrow.Author.Needs.{needs}
 use Rattle.scene_records.proofs.steps.has.Statement.{statement}
 use Rattle.scene_records.proofs.steps.has.Tie as tie

@@ -21,14 +21,14 @@ byte-at-requires-2 c κs = search needs
 wide-requires : tie.Need-wide-requires
 wide-requires c κs = search needs
 
-room-for-requires : tie.Need-room-for-requires
-room-for-requires c κs = search needs
+has-room-requires : tie.Need-has-room-requires
+has-room-requires c κs = search needs
 
 held-to-requires-2 : tie.Need-held-to-requires-2
 held-to-requires-2 c κs = search needs
 
-has-some-requires : tie.Need-has-some-requires
-has-some-requires c κs = search needs
+is-empty-open-requires : tie.Need-is-empty-open-requires
+is-empty-open-requires c κs = search needs
 
 held-to-requires-3 : tie.Need-held-to-requires-3
 held-to-requires-3 c κs = search needs
@@ -40,10 +40,10 @@ enum-told-2 : tie.Need-enum-told-2
 enum-told-2 c = search needs
 
 returns : tie.Need-returns
-returns c = rw (c .enum-told .given .1) (made-here headAs _ _ _ _ (c .enum-told .given .1) (head-read _ _ _ _ _ _ _ _ (c .before .before .before .before .before .before .before .before .before .before .byte-at .ensures) (rw (c .before .before .before .before .before .before .before .before .held-to .ensures, c .before .before .before .before .before .before .before .before .before .is-kind .ensures) at (c .before .before .before .before .before .before .before .byte-at2 .ensures)) (rw (c .before .before .before .before .held-to2 .ensures, c .before .before .before .has-some .ensures, c .before .before .before .before .before .room-for .ensures, c .before .before .before .before .before .before .wide .ensures .0) at (c .before .before .held-to3 .ensures))))
+returns c = rw (c .enum-told .given .1) (made-here headAs _ _ _ _ (c .enum-told .given .1) (head-read _ _ _ _ _ _ _ _ (c .before .before .before .before .before .before .before .before .before .before .byte-at .ensures) (rw (c .before .before .before .before .before .before .before .before .held-to .ensures, c .before .before .before .before .before .before .before .before .before .is-kind .ensures) at (c .before .before .before .before .before .before .before .byte-at2 .ensures)) (rw (c .before .before .before .before .held-to2 .ensures, c .before .before .before .is-empty-open .ensures, c .before .before .before .before .before .has-room .ensures, c .before .before .before .before .before .before .wide .ensures .0) at (c .before .before .held-to3 .ensures))))
 
 returns-2 : tie.Need-returns-2
-returns-2 c = rw (c .enum-told2 .given .1) (made-fault headAs _ _ _ _ (c .enum-told2 .given .1) (head-read _ _ _ _ _ _ _ _ (c .before .before .before .before .before .before .before .before .before .before .byte-at .ensures) (rw (c .before .before .before .before .before .before .before .before .held-to .ensures, c .before .before .before .before .before .before .before .before .before .is-kind .ensures) at (c .before .before .before .before .before .before .before .byte-at2 .ensures)) (rw (c .before .before .before .before .held-to2 .ensures, c .before .before .before .has-some .ensures, c .before .before .before .before .before .room-for .ensures, c .before .before .before .before .before .before .wide .ensures .0) at (c .before .before .held-to3 .ensures))))
+returns-2 c = rw (c .enum-told2 .given .1) (made-fault headAs _ _ _ _ (c .enum-told2 .given .1) (head-read _ _ _ _ _ _ _ _ (c .before .before .before .before .before .before .before .before .before .before .byte-at .ensures) (rw (c .before .before .before .before .before .before .before .before .held-to .ensures, c .before .before .before .before .before .before .before .before .before .is-kind .ensures) at (c .before .before .before .before .before .before .before .byte-at2 .ensures)) (rw (c .before .before .before .before .held-to2 .ensures, c .before .before .before .is-empty-open .ensures, c .before .before .before .before .before .has-room .ensures, c .before .before .before .before .before .before .wide .ensures .0) at (c .before .before .held-to3 .ensures))))
 
 pub head-at-spec : {M : Type 1} → statement M
 head-at-spec =
@@ -54,9 +54,9 @@ head-at-spec =
     held-to-requires
     byte-at-requires-2
     wide-requires
-    room-for-requires
+    has-room-requires
     held-to-requires-2
-    has-some-requires
+    is-empty-open-requires
     held-to-requires-3
     enum-told
     enum-told-2

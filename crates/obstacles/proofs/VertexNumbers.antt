@@ -1,6 +1,6 @@
--- A list of numbers read by twos: which vertices it holds, and how many a part of it has. Assumes nothing.
+-- A list of numbers read by twos: which vertices it holds and how many, and how many a part of it has. Assumes nothing.
 use Prim.Native.Nat.{ℕ, zero, suc, _+_, _*_, _/_, _≤_}
-use mathlib.Core.Path.{_≡_, refl}
+use mathlib.Core.Path.{_≡_, refl, ap}
 use mathlib.Core.List.{List, [], _∷_}
 use native.Mathlib.Omega.{arith}
 use native.Mathlib.Numerals.{add-one}
@@ -10,17 +10,24 @@ use lib.Ieee.{Float, nan}
 use Rattle.common.specs.Vectors.{vec}
 use Rattle.obstacles.specs.Vertices.{verticesOf, vertexAt}
 
-pub nth : (b : List Float) (i k : ℕ) → k ≡ 2 * i → k + 2 ≤ length b → vertexAt (verticesOf b) i ≡ vec (getD b k nan) (getD b (k + 1) nan)
+pub vertex-nth : (b : List Float) (i k : ℕ) → k ≡ 2 * i → k + 2 ≤ length b → vertexAt (verticesOf b) i ≡ vec (getD b k nan) (getD b (k + 1) nan)
 unfolding verticesOf
-nth [] i k e h = absurd (omega arith)
-nth (x ∷ []) i k e h = absurd (omega arith)
-nth (x ∷ y ∷ r) zero k e h =
+vertex-nth [] i k e h = absurd (omega arith)
+vertex-nth (x ∷ []) i k e h = absurd (omega arith)
+vertex-nth (x ∷ y ∷ r) zero k e h =
     let f : k ≡ 0 = omega arith in
     rw f refl
-nth (x ∷ y ∷ r) (suc i) k e h =
+vertex-nth (x ∷ y ∷ r) (suc i) k e h =
     let f : k ≡ suc (suc (2 * i)) = omega arith in
-    let ih = nth r i (2 * i) refl (omega arith) in
+    let ih = vertex-nth r i (2 * i) refl (omega arith) in
     rw (f, add-one) (rw add-one at ih)
+
+pub vertices-long : (b : List Float) (n : ℕ) → length b ≡ 2 * n → length (verticesOf b) ≡ n
+unfolding verticesOf
+vertices-long [] n h = omega arith
+vertices-long (x ∷ []) n h = absurd (omega arith)
+vertices-long (x ∷ y ∷ r) zero h = absurd (omega arith)
+vertices-long (x ∷ y ∷ r) (suc n) h = ap suc (vertices-long r n (omega arith))
 
 -- the numbers of count vertices from the vertex offset on are count vertices
 pub part-size : (b : List Float) (offset count : ℕ) → offset + count ≤ length b / 2 → length (take (2 * count) (drop (2 * offset) b)) / 2 ≡ count

@@ -1,8 +1,8 @@
--- `obstacles::obstacle::is_empty_open` meets its contract. Assumes nothing.
+-- `admission::Head::is_empty_open` meets its contract. Assumes nothing.
 use borrow.Author.Tests.{eq-eqb, ne-eqb}
-use Rattle.obstacles.specs.Obstacles.{isEmptyOpen}
-use Rattle.obstacles.proofs.obstacle.is_empty_open.Statement.{statement}
-use Rattle.obstacles.proofs.obstacle.is_empty_open.Tie as tie
+use Rattle.admission.specs.Heads.{isEmptyOpen}
+use Rattle.admission.proofs.Head.is_empty_open.Statement.{statement}
+use Rattle.admission.proofs.Head.is_empty_open.Tie as tie
 
 returns : tie.Need-returns
 unfolding isEmptyOpen

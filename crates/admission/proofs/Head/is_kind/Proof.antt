@@ -1,8 +1,8 @@
--- `scene_records::walls::is_kind` meets its contract. Assumes nothing.
+-- `admission::Head::is_kind` meets its contract. Assumes nothing.
 use borrow.Author.Tests.{eq-eqb, ne-eqb}
-use Rattle.dodgy_2d.specs.Scenes.{isKind}
-use Rattle.scene_records.proofs.walls.is_kind.Statement.{statement}
-use Rattle.scene_records.proofs.walls.is_kind.Tie as tie
+use Rattle.admission.specs.Heads.{isKind}
+use Rattle.admission.proofs.Head.is_kind.Statement.{statement}
+use Rattle.admission.proofs.Head.is_kind.Tie as tie
 
 returns : tie.Need-returns
 unfolding isKind

@@ -6,21 +6,22 @@ use mathlib.Core.Path.{_≡_, refl, sym, ap, _∙_}
 use mathlib.Core.Bool.{Bool, true, not}
 use mathlib.Core.Logic.{⊎-elim}
 use mathlib.Core.List.{List, [], _∷_, _++_, append-assoc, append-nil}
-use lib.Dec.{leb, eqb, lit<}
+use lib.Dec.{eqb, lit<}
 use lib.ListN.{length, drop, length-drop, length-append}
 use lib.Ieee.{Float, binary32, toBits, fits}
 use lib.Ieee.Bits.{ofBits-toBits, toBits-lt}
-use borrow.Author.Tests.{leb-true, eqb-true, le-leb, eq-eqb}
+use borrow.Author.Tests.{eqb-true, le-leb, eq-eqb}
 use Rattle.arithmetic.specs.Binary32.{0ᶠ, finite}
-use Rattle.arithmetic.proofs.Choice.{and-left, or-cases}
+use Rattle.arithmetic.proofs.Choice.{or-cases}
 use Rattle.admission.specs.Faults.{within, inside}
+use Rattle.admission.specs.Heads.{isKind, roomFor, isEmptyOpen}
+use Rattle.admission.proofs.HeadLaws.{room-within}
 use Rattle.common.specs.declared.Vec2.{Vec2}
 use Rattle.common.specs.Vectors.{lengthSquaredOf}
 use Rattle.lines.specs.declared.Line.{Line}
 use Rattle.lines.specs.LineFaults.{lineReach, bandLow, bandHigh}
 use Rattle.linear_programming.specs.Admit.{reach, longest}
-use Rattle.obstacles.specs.Obstacles.{isEmptyOpen}
-use Rattle.dodgy_2d.specs.Scenes.{shortestHorizon, longestHorizon, isKind, roomFor}
+use Rattle.dodgy_2d.specs.Scenes.{shortestHorizon, longestHorizon}
 use Rattle.fields.specs.Bytes.{toBe, each}
 use Rattle.fields.specs.Got.{got, word}
 use Rattle.fields.proofs.ByteLaws.{length-toBe}
@@ -30,7 +31,6 @@ use Rattle.scene_records.specs.Steps.{number, vector, version, count, en
 use Rattle.scene_records.specs.Parts.{cart, head, verticesAt, Obstacle, sizeOf, obstacle, obstacles, neighbour, neighbours}
 use Rattle.scene_records.specs.Records.{sceneOf, fieldsIn, longestRest, announced, sceneIn}
 use Rattle.scene_records.specs.SceneBytes.{numberBytes, vectorBytes, cartBytes, obstacleBytes, lineBytes, bodyBytes, recordBytes}
-use Rattle.scene_records.proofs.WallLaws.{room-within}
 
 -- ---- what is admitted
 
@@ -72,15 +72,10 @@ pub record GoodParts (x : Cart) (os : List Obstacle) (ls : List Line) : Type 0 w
   pub fewer : length ls ≤ 64
   pub lines : Every (λ (u : Unit {0}). GoodLine) (λ u l. u) tt ls
 
--- ---- how large a byte may be
-
+-- a kind fits a byte
 kind-small : (k : ℕ) → isKind k ≡ true → k < 256 ^ 1
 unfolding isKind
 kind-small k h = ⊎-elim (λ e. (let z : k ≡ 1 = eqb-true k 1 e in omega arith)) (λ e. (let z : k ≡ 2 = eqb-true k 2 e in omega arith)) (or-cases (eqb k 1) (eqb k 2) h)
-
-room-small : (total n : ℕ) → roomFor total n ≡ true → n ≤ 64
-unfolding roomFor
-room-small total n h = leb-true n 64 (and-left (leb n 64) (leb (total + n) 192) h)
 
 -- ---- reading what stands there
 
@@ -119,7 +114,7 @@ module _ (s : List ℕ) where
   obstacle-back : (total at : ℕ) (o : Obstacle) (r : List ℕ) → GoodObstacle total o → drop at s ≡ obstacleBytes o ++ r → Back s (obstacle s total at) o r
   unfolding obstacleBytes verticesAt obstacle head
   obstacle-back total at o r ok e =
-      let small = room-small total (sizeOf o) (ok .room) in
+      let small = room-within total (sizeOf o) (ok .room) .0 in
       taking (word-back s 1 at (o .kind) _ (lit< tt) (kind-small (o .kind) (ok .kind)) (simp append-assoc at e)) λ p1 g1 i1 l1.
       taking (word-back s 1 p1 (sizeOf o) _ (lit< tt) (omega arith) l1) λ p2 g2 i2 l2.
       taking (many-back s (λ (u : Unit {0}). vector (within reach) s) (λ u v. u) vectorBytes _ (λ u at v r. vector-back (within reach) at v r) (o .vertices) tt p2 r i2 (ok .vertices) l2) λ p3 g3 i3 l3.
@@ -175,13 +170,13 @@ length-obstacles : (total : ℕ) (os : List Obstacle) → total ≤ 192 → Ever
 unfolding each
 length-obstacles total [] h ok = omega arith
 length-obstacles total (o ∷ os) h ok =
-    let room = room-within total (sizeOf o) (ok .0 .room) in
+    let room = room-within total (sizeOf o) (ok .0 .room) .1 in
     let r : length (each obstacleBytes os) + 8 * (total + sizeOf o) ≤ 2 * length os + 1536 = length-obstacles (total + sizeOf o) os room (ok .1) in
     let e : length (obstacleBytes o ++ each obstacleBytes os) ≡ 2 + 8 * sizeOf o + length (each obstacleBytes os) = length-append (obstacleBytes o) (each obstacleBytes os) ∙ rw (length-obstacle o) in
     omega arith
 
 module _ (x : Cart) (os : List Obstacle) (ls : List Line) (ok : GoodParts x os ls) where
-  pub length-body : length (bodyBytes x os ls) ≤ longestRest
+  length-body : length (bodyBytes x os ls) ≤ longestRest
   unfolding bodyBytes
   length-body =
       let r = length-obstacles 0 os (omega arith) (ok .obstacles) in

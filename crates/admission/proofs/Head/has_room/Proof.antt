@@ -1,0 +1,21 @@
+-- `admission::Head::has_room` meets its contract. Assumes nothing.
+use borrow.Author.Tests.{lt-leb, le-leb}
+use borrow.Author.Needs.{needs}
+use Rattle.admission.specs.Heads.{roomFor}
+use Rattle.admission.proofs.HeadLaws.{room-left}
+use Rattle.admission.proofs.Head.has_room.Statement.{statement}
+use Rattle.admission.proofs.Head.has_room.Tie as tie
+
+returns : tie.Need-returns
+unfolding roomFor
+returns c = simp (lt-leb _ _ (c .if1 .taken))
+
+sub-result : tie.Need-sub-result
+sub-result c = search needs
+
+returns-2 : tie.Need-returns-2
+unfolding roomFor
+returns-2 c = rw (le-leb _ _ (c .if1 .left)) (room-left _ _ (c .if1 .left))
+
+pub has-room-spec : {M : Type 1} → statement M
+has-room-spec = tie.close (tie.spec returns sub-result returns-2)
