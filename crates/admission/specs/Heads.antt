@@ -25,7 +25,7 @@ mostTogether = 192
 unfoldable pub isKind : ℕ → Bool
 isKind kind = eqb kind closedKind || eqb kind openKind
 
--- "At most .. 64 vertices each, 192 together": the total stands before the obstacle that has so many more
+-- "At most .. 64 vertices each, 192 together": whether an obstacle may have count vertices, behind the total of those before it
 unfoldable pub roomFor : ℕ → ℕ → Bool
 roomFor total count = leb count mostVertices && leb (total + count) mostTogether
 

@@ -54,9 +54,10 @@ impl Head {
 
     pub const OPEN: u8 = 2;
 
-    // The most vertices of one obstacle, and of all obstacles of a scene together.
+    // The most vertices of one obstacle, and so the most lines that it makes.
     pub const MOST: usize = 64;
 
+    // The most vertices of all obstacles of a scene together.
     pub const MOST_TOGETHER: usize = 192;
 
     // Whether a number is the kind of an obstacle.
@@ -76,7 +77,7 @@ impl Head {
         total <= Head::MOST_TOGETHER - count
     }
 
-    // Whether an obstacle is open and has no vertices, which no record may say. A closed one may have none.
+    // Whether an obstacle is open and has no vertices, which gets 5. A closed one may have none.
     pub fn is_empty_open(kind: u8, count: usize) -> bool
         ensures { λ r. ⌜ r ≡ isEmptyOpen kind count ⌝ }
     {
