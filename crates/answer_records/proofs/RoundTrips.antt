@@ -103,7 +103,7 @@ module _ (n : ℕ) (least : 1 ≤ n) (most : n ≤ 10) where
 
 -- ---- what is read is written again
 
--- an outcome, a refusal or a fault: what each says of the bytes
+-- where an outcome is read there is no fault, the code lies below 128, and it is the record's outcome; a refusal alike
 read-outcome : {C : Type 0} (f : Fault) (below : Bool) (o : Answer) (n : ℕ) (a : Answer) → unlessFault reply.Fault f (if below then reply.Outcome o else reply.Refusal n) ≡ reply.Outcome a →
     (f ≡ fine → below ≡ true → o ≡ a → C) → C
 unfolding if_then_else_

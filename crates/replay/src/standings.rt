@@ -1,4 +1,4 @@
-// How lines stand against an answer, six words from a place on: kind, point (2), penetration, failed line, probes.
+// How lines stand against an answer, six words from a place on: kind (0 solving, 1 relaxing, 2 rigid failure, 100 + the number of a refusal), point (2), penetration, failed line, probes.
 use crate::answers::agrees;
 use linear_programming::FailedLine;
 use linear_programming::Phase;
