@@ -5,7 +5,7 @@ use admission::Head;
 use admission::Judged;
 use obstacles::Agent;
 ghost use mathlib.Core.Path.{_≡_};
-ghost use Prim.Native.Nat.{_+_, _*_, _≤_, _<_};
+ghost use Prim.Native.Nat.{_+_, _*_, _≤_};
 ghost use lib.ListN.{length, take};
 ghost use lib.Seq.{paste};
 ghost use Rattle.admission.specs.Faults.{fine};

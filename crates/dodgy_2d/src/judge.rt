@@ -8,7 +8,7 @@ use admission::is_inside;
 use admission::is_within;
 use common::Vec2;
 ghost use mathlib.Core.Path.{_≡_};
-ghost use Prim.Native.Nat.{_+_, _*_, _≤_, _<_};
+ghost use Prim.Native.Nat.{_*_, _≤_, _<_};
 ghost use lib.ListN.{length, take, drop};
 ghost use Rattle.admission.specs.Faults.{_⊳_, faultOf};
 ghost use Rattle.dodgy_2d.specs.Scenes.{headsOf, numbersFault, vectorFault, agentFault, headFault, obstaclesFault, sceneFault};

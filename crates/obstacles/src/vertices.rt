@@ -5,7 +5,7 @@ use crate::Outer;
 use admission::Head;
 use common::Vec2;
 ghost use mathlib.Core.Path.{_≡_};
-ghost use Prim.Native.Nat.{_+_, _*_, _/_, _<_};
+ghost use Prim.Native.Nat.{_/_, _<_};
 ghost use lib.ListN.{length};
 ghost use Rattle.obstacles.specs.Vertices.{verticesOf, vertexAt, nextOf, previousOf, isEnd, convexAt, edgeVertexAt, outerAt, edgeAt};
 ghost use Rattle.obstacles.specs.Read.{outerOf, edgeOf};

@@ -10,7 +10,7 @@ use session::Fed;
 use session::Session;
 use verdict::Tally;
 ghost use mathlib.Core.Path.{_≡_};
-ghost use Prim.Native.Nat.{_+_, _*_, _/_, _≤_, _<_};
+ghost use Prim.Native.Nat.{_/_, _≤_, _<_};
 ghost use lib.ListN.{length};
 ghost use Rattle.admission.specs.Faults.{faultOf};
 ghost use Rattle.replay.specs.CutsSet.{sameFault};
