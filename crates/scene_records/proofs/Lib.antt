@@ -10,5 +10,5 @@ pub mod ReadBytes
 pub mod ReadAdmitted
 pub mod WrittenParts
 pub mod WrittenScenes
-pub mod SmallBytes
+pub mod SceneAllBytes
 pub mod AnswerLaws

@@ -15,17 +15,17 @@ use Rattle.scene_records.specs.SceneBytes.{cartIn, obstaclesIn, numberBy
 
 -- a record, so that the list is found from a proof of it
 record AreBytes (l : List ℕ) : Type 0 where
-  small : AllBytes l
+  are : AllBytes l
 
 word-bytes : (w x : ℕ) → AreBytes (toBe w x)
-word-bytes w x = record { small = toBe-bytes w x }
+word-bytes w x = record { are = toBe-bytes w x }
 
 infixl 20 _behind_
 _behind_ : {k l : List ℕ} → AreBytes k → AreBytes l → AreBytes (k ++ l)
-_behind_ {k} {l} p q = record { small = append-bytes k l (p .small) (q .small) }
+_behind_ {k} {l} p q = record { are = append-bytes k l (p .are) (q .are) }
 
 all-bytes : {A : Type 0} (bytes : A → List ℕ) → ((a : A) → AreBytes (bytes a)) → (l : List A) → AreBytes (each bytes l)
-all-bytes bytes h l = record { small = each-bytes bytes (λ a. h a .small) l }
+all-bytes bytes h l = record { are = each-bytes bytes (λ a. h a .are) l }
 
 number-bytes : (x : Float) → AreBytes (numberBytes x)
 unfolding numberBytes
@@ -59,5 +59,5 @@ record-bytes : (x : Cart) (os : List Obstacle) (ls : List Line) → AreBytes (re
 unfolding recordBytes
 record-bytes x os ls = word-bytes 2 (length (bodyBytes x os ls)) behind body-bytes x os ls
 
-pub scene-small : (c : Scene) → AllBytes (sceneBytes c)
-scene-small c = record-bytes (cartIn c) (obstaclesIn c) (neighboursIn c) .small
+pub scene-all-bytes : (c : Scene) → AllBytes (sceneBytes c)
+scene-all-bytes c = record-bytes (cartIn c) (obstaclesIn c) (neighboursIn c) .are
