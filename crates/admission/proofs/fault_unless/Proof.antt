@@ -9,4 +9,5 @@ returns-2 : tie.Need-returns-2
 returns-2 c = simp (c .if1 .left)
 
 pub fault-unless-spec : {M : Type 1} → statement M
-fault-unless-spec = tie.close (tie.spec returns returns-2)
+fault-unless-spec =
+    tie.close (tie.spec returns returns-2)

@@ -3,12 +3,6 @@ use borrow.Author.Needs.{needs}
 use Rattle.admission.proofs.first_of.Statement.{statement}
 use Rattle.admission.proofs.first_of.Tie as tie
 
-enum-told : tie.Need-enum-told
-enum-told c = search needs
-
-enum-known-first : tie.Need-enum-known-first
-enum-known-first c = search needs
-
 returns : tie.Need-returns
 returns c = simp (c .enum-told .given .1)
 
@@ -16,4 +10,5 @@ returns-2 : tie.Need-returns-2
 returns-2 c = simp (c .before .first .given .1)
 
 pub first-of-spec : {M : Type 1} → statement M
-first-of-spec = tie.close (tie.spec enum-told enum-known-first returns returns-2)
+first-of-spec =
+    tie.close (tie.spec (search needs) (search needs) returns returns-2)

@@ -12,4 +12,5 @@ unfolding inside
 returns-2 c = simp (c .if1 .left)
 
 pub is-inside-spec : {M : Type 1} → statement M
-is-inside-spec = tie.close (tie.spec returns returns-2)
+is-inside-spec =
+    tie.close (tie.spec returns returns-2)

@@ -4,12 +4,10 @@ use borrow.Author.Needs.{needs}
 use Rattle.admission.proofs.is_within.Statement.{statement}
 use Rattle.admission.proofs.is_within.Tie as tie
 
-abs-requires : tie.Need-abs-requires
-abs-requires c κs = search needs
-
 returns : tie.Need-returns
 unfolding within
 returns c = simp (← c .abs .ensures)
 
 pub is-within-spec : {M : Type 1} → statement M
-is-within-spec = tie.close (tie.spec abs-requires returns)
+is-within-spec =
+    tie.close (tie.spec (search needs) returns)

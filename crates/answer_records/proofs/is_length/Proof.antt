@@ -13,4 +13,5 @@ unfolding isLength
 returns-2 c = rw (ne-eqb _ _ (c .if1 .left))
 
 pub is-length-spec : {M : Type 1} → statement M
-is-length-spec = tie.close (tie.spec returns returns-2)
+is-length-spec =
+    tie.close (tie.spec returns returns-2)

@@ -37,4 +37,5 @@ returns-5 c =
     rw (le-leb 1 k (omega arith), lt-leb k 5 (omega arith), le-leb 129 k (omega arith), lt-leb k 138 (omega arith))
 
 pub length-of-code-spec : {M : Type 1} → statement M
-length-of-code-spec = tie.close (tie.spec returns returns-2 returns-3 returns-4 returns-5)
+length-of-code-spec =
+    tie.close (tie.spec returns returns-2 returns-3 returns-4 returns-5)

@@ -8,23 +8,8 @@ use borrow.Author.Needs.{needs}
 use Rattle.answer_records.proofs.put_pair.Statement.{statement}
 use Rattle.answer_records.proofs.put_pair.Tie as tie
 
-cast-buffer : tie.Need-cast-buffer
-cast-buffer c = search needs
-
-slice-write-buffer : tie.Need-slice-write-buffer
-slice-write-buffer c = search needs
-
-cast-buffer-2 : tie.Need-cast-buffer-2
-cast-buffer-2 c = search needs
-
-add-buffer : tie.Need-add-buffer
-add-buffer c = search needs
-
 slice-write-buffer-2 : tie.Need-slice-write-buffer-2
 slice-write-buffer-2 c = simp length-set (omega arith)
-
-same-length : tie.Need-same-length
-same-length c = search needs
 
 returns : tie.Need-returns
 unfolding toBe
@@ -32,4 +17,4 @@ returns c = simp (towards-suc, div-one)
 
 pub put-pair-spec : {M : Type 1} → statement M
 put-pair-spec =
-    tie.close (tie.spec cast-buffer slice-write-buffer cast-buffer-2 add-buffer slice-write-buffer-2 same-length returns)
+    tie.close (tie.spec (search needs) (search needs) (search needs) (search needs) slice-write-buffer-2 (search needs) returns)

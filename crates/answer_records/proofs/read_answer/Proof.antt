@@ -9,18 +9,9 @@ use Rattle.answer_records.proofs.ReplyLaws.{code-there}
 use Rattle.answer_records.proofs.read_answer.Statement.{statement}
 use Rattle.answer_records.proofs.read_answer.Tie as tie
 
-judge-answer-requires : tie.Need-judge-answer-requires
-judge-answer-requires c κs = search needs
-
-enum-known-judged : tie.Need-enum-known-judged
-enum-known-judged c = search needs
-
 returns : tie.Need-returns
 unfolding answerIn
 returns c = simp (c .before .judged .given .1, ← c .before .before .before .judge-answer .ensures)
-
-enum-told : tie.Need-enum-told
-enum-told c = search needs
 
 shared-slice-read-code : tie.Need-shared-slice-read-code
 shared-slice-read-code c = let fault = rw (c .before .enum-told .given .1) at (c .before .before .before .judge-answer .ensures) in omega (arith, code-there _ (sym fault))
@@ -38,13 +29,4 @@ returns-3 c = simp (le-ltb _ _ (c .if1 .left), c .before .before .enum-told .giv
 
 pub read-answer-spec : {M : Type 1} → statement M
 read-answer-spec =
-    tie.close
-    (tie.spec
-    judge-answer-requires
-    enum-known-judged
-    returns
-    enum-told
-    shared-slice-read-code
-    outcome-in-requires
-    returns-2
-    returns-3)
+    tie.close (tie.spec (search needs) (search needs) returns (search needs) shared-slice-read-code outcome-in-requires returns-2 returns-3)

@@ -10,12 +10,6 @@ use Rattle.answer_records.proofs.write_answer.Tie as tie
 returns : tie.Need-returns
 returns c = no-room _ _ (c .if1 .taken)
 
-put-pair-requires : tie.Need-put-pair-requires
-put-pair-requires c κs = search needs
-
-slice-write-buffer : tie.Need-slice-write-buffer
-slice-write-buffer c = search needs
-
 slice-write-buffer-2 : tie.Need-slice-write-buffer-2
 slice-write-buffer-2 c = simp length-set (omega arith)
 
@@ -65,15 +59,5 @@ returns-2 c =
 
 pub write-answer-spec : {M : Type 1} → statement M
 write-answer-spec =
-    tie.close
-    (tie.spec
-    returns
-    put-pair-requires
-    slice-write-buffer
-    slice-write-buffer-2
-    put-word-requires
-    put-word-requires-2
-    put-pair-requires-2
-    put-word-requires-3
-    same-length
-    returns-2)
+    tie.close (tie.spec returns (search needs) (search needs) slice-write-buffer-2 put-word-requires put-word-requires-2 put-pair-requires-2
+    put-word-requires-3 same-length returns-2)

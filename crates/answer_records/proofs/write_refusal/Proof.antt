@@ -7,32 +7,9 @@ use Rattle.answer_records.proofs.write_refusal.Tie as tie
 returns : tie.Need-returns
 returns c = no-room-for-refusal _ _ (c .if1 .taken)
 
-put-pair-requires : tie.Need-put-pair-requires
-put-pair-requires c κs = search needs
-
-slice-write-buffer : tie.Need-slice-write-buffer
-slice-write-buffer c = search needs
-
-wrapping-add-u8-requires : tie.Need-wrapping-add-u8-requires
-wrapping-add-u8-requires c κs = search needs
-
-slice-write-buffer-2 : tie.Need-slice-write-buffer-2
-slice-write-buffer-2 c = search needs
-
-same-length : tie.Need-same-length
-same-length c = search needs
-
 returns-2 : tie.Need-returns-2
 returns-2 c = stored-refusal _ _ _ _ (c .before .before .before .before .before .if1 .left) (c .before .before .before .put-pair .ensures) (c .wrapping-add-u8 .ensures)
 
 pub write-refusal-spec : {M : Type 1} → statement M
 write-refusal-spec =
-    tie.close
-    (tie.spec
-    returns
-    put-pair-requires
-    slice-write-buffer
-    wrapping-add-u8-requires
-    slice-write-buffer-2
-    same-length
-    returns-2)
+    tie.close (tie.spec returns (search needs) (search needs) (search needs) (λ c. search needs) (λ c. search needs) returns-2)

@@ -7,4 +7,5 @@ returns : tie.Need-returns
 returns c = finite-difference (c .args .x)
 
 pub is-finite-spec : {M : Type 1} → statement M
-is-finite-spec = tie.close (tie.spec returns)
+is-finite-spec =
+    tie.close (tie.spec returns)

@@ -20,4 +20,5 @@ unfolding minOf if_then_else_
 returns-3 c = simp (c .before .if1 .left, sym (ne-self _) ∙ c .if2 .left)
 
 pub min-spec : {M : Type 1} → statement M
-min-spec = tie.close (tie.spec returns returns-2 returns-3)
+min-spec =
+    tie.close (tie.spec returns returns-2 returns-3)

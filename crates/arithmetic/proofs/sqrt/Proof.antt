@@ -52,13 +52,4 @@ returns-5 c =
 
 pub sqrt-spec : {M : Type 1} → statement M
 sqrt-spec =
-    tie.close
-    (tie.spec
-    returns
-    returns-2
-    returns-3
-    float-to-bits-b
-    returns-4
-    root-bits-requires
-    float-from-bits-result
-    returns-5)
+    tie.close (tie.spec returns returns-2 returns-3 float-to-bits-b returns-4 root-bits-requires float-from-bits-result returns-5)

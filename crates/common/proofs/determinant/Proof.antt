@@ -9,4 +9,5 @@ unfolding determinantOf
 returns c = refl
 
 pub determinant-spec : {M : Type 1} → statement M
-determinant-spec = tie.close (tie.spec returns)
+determinant-spec =
+    tie.close (tie.spec returns)

@@ -5,18 +5,9 @@ use borrow.Author.Needs.{needs}
 use Rattle.dodgy_2d.proofs.compute_avoiding_velocity.Statement.{statement}
 use Rattle.dodgy_2d.proofs.compute_avoiding_velocity.Tie as tie
 
-judge-scene-requires : tie.Need-judge-scene-requires
-judge-scene-requires c κs = search needs
-
-enum-known-judged : tie.Need-enum-known-judged
-enum-known-judged c = search needs
-
 returns : tie.Need-returns
 unfolding sceneOutcome
 returns c = simp (c .before .judged .given .1, ← c .before .before .before .judge-scene .ensures)
-
-enum-told : tie.Need-enum-told
-enum-told c = search needs
 
 solve-requires : tie.Need-solve-requires
 solve-requires c κs = sym (rw (c .enum-told .given .1) at (c .before .before .judge-scene .ensures))
@@ -27,5 +18,4 @@ returns-2 c = simp (c .before .enum-told .given .1, ← c .before .before .befor
 
 pub compute-avoiding-velocity-spec : {M : Type 1} → statement M
 compute-avoiding-velocity-spec =
-    tie.close
-    (tie.spec judge-scene-requires enum-known-judged returns enum-told solve-requires returns-2)
+    tie.close (tie.spec (search needs) (search needs) returns (search needs) solve-requires returns-2)

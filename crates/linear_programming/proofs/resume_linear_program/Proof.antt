@@ -13,21 +13,6 @@ returns : tie.Need-returns
 unfolding resumedCall
 returns c = simp (lt-leb _ _ (c .if1 .taken))
 
-slice-aggregate-lay : tie.Need-slice-aggregate-lay
-slice-aggregate-lay c = search needs
-
-lay-requires : tie.Need-lay-requires
-lay-requires c κs = search needs
-
-slice-aggregate-resume : tie.Need-slice-aggregate-resume
-slice-aggregate-resume c = search needs
-
-lesser-requires : tie.Need-lesser-requires
-lesser-requires c κs = search needs
-
-resume-requires : tie.Need-resume-requires
-resume-requires c κs = search needs
-
 returns-2 : tie.Need-returns-2
 unfolding resumedCall
 returns-2 c =
@@ -38,12 +23,4 @@ returns-2 c =
 
 pub resume-linear-program-spec : {M : Type 1} → statement M
 resume-linear-program-spec =
-    tie.close
-    (tie.spec
-    returns
-    slice-aggregate-lay
-    lay-requires
-    slice-aggregate-resume
-    lesser-requires
-    resume-requires
-    returns-2)
+    tie.close (tie.spec returns (search needs) (search needs) (search needs) (search needs) (search needs) returns-2)

@@ -33,18 +33,6 @@ returns-2 c =
     let xs = now (c .before .before .before .args .numbers) in
     simp (eq-eqb _ _ (c .before .if1 .left), too-many xs (c .if2 .taken))
 
-judge-wish-requires : tie.Need-judge-wish-requires
-judge-wish-requires c κs = search needs
-
-judge-lines-requires : tie.Need-judge-lines-requires
-judge-lines-requires c κs = search needs
-
-first-of-requires : tie.Need-first-of-requires
-first-of-requires c κs = search needs
-
-enum-known-judged : tie.Need-enum-known-judged
-enum-known-judged c = search needs
-
 returns-3 : tie.Need-returns-3
 unfolding listCall judgedList
 returns-3 c =
@@ -58,12 +46,6 @@ returns-3 c =
       ← c .before .before .before .first-of .ensures,
       c .before .judged .given .1,
     )
-
-enum-told : tie.Need-enum-told
-enum-told c = search needs
-
-solve-from-start-requires : tie.Need-solve-from-start-requires
-solve-from-start-requires c κs = search needs
 
 returns-4 : tie.Need-returns-4
 unfolding listCall judgedList
@@ -83,15 +65,5 @@ returns-4 c =
 
 pub solve-linear-program-spec : {M : Type 1} → statement M
 solve-linear-program-spec =
-    tie.close
-    (tie.spec
-    returns
-    returns-2
-    judge-wish-requires
-    judge-lines-requires
-    first-of-requires
-    enum-known-judged
-    returns-3
-    enum-told
-    solve-from-start-requires
+    tie.close (tie.spec returns returns-2 (search needs) (search needs) (search needs) (search needs) returns-3 (search needs) (search needs)
     returns-4)

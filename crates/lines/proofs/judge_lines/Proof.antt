@@ -21,30 +21,12 @@ abbrev μ-loop : tie.MeasureT-loop
 loop-holds : tie.Need-loop-holds Inv-loop μ-loop
 loop-holds c = (omega arith, ap linesFault (sym (lines-take-all (now (c .before .args .numbers)))))
 
-line-at-requires : tie.Need-line-at-requires Inv-loop μ-loop
-line-at-requires c κs = search needs
-
-judge-line-requires : tie.Need-judge-line-requires Inv-loop μ-loop
-judge-line-requires c κs = search needs
-
-enum-told : tie.Need-enum-told Inv-loop μ-loop
-enum-told c = search needs
-
-enum-told-2 : tie.Need-enum-told-2 Inv-loop μ-loop
-enum-told-2 c = search needs
-
 returns : tie.Need-returns Inv-loop μ-loop
 returns c =
     let b = now (c .before .before .before .before .before .before .before .args .numbers) in
     let l = c .before .before .before .before .before .loop in
     let step = rw (c .enum-told2 .given .1, c .before .before .before .line-at .ensures) at (c .before .before .judge-line .ensures) in
     rw (c .enum-told2 .given .1) (sym (l .inv .1 ∙ judged-stop (linesOf b) (length b / 4) (l .i) (lines-fit b (length b / 4) (omega arith)) offLine _ (omega arith) step))
-
-add-i : tie.Need-add-i Inv-loop μ-loop
-add-i c = search needs
-
-loop-less : tie.Need-loop-less Inv-loop μ-loop
-loop-less c = search needs
 
 loop-again : tie.Need-loop-again Inv-loop μ-loop
 loop-again c =
@@ -61,17 +43,5 @@ returns-2 c =
 
 pub judge-lines-spec : {M : Type 1} → statement M
 judge-lines-spec =
-    tie.close
-    (tie.spec
-    Inv-loop
-    μ-loop
-    loop-holds
-    line-at-requires
-    judge-line-requires
-    enum-told
-    enum-told-2
-    returns
-    add-i
-    loop-less
-    loop-again
-    returns-2)
+    tie.close (tie.spec Inv-loop μ-loop loop-holds (search needs) (search needs) (search needs) (search needs) returns (search needs) (search needs)
+    loop-again returns-2)

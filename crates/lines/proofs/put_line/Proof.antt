@@ -12,64 +12,19 @@ use Rattle.lines.proofs.put_line.Tie as tie
 returns : tie.Need-returns
 returns c = let a = c .before .args in sym (stored-not (now (a .numbers)) (a .i) (a .line) (omega arith))
 
-mul-k : tie.Need-mul-k
-mul-k c = search needs
-
-mul-numbers : tie.Need-mul-numbers
-mul-numbers c = search needs
-
-slice-write-numbers : tie.Need-slice-write-numbers
-slice-write-numbers c = search needs
-
-add-numbers : tie.Need-add-numbers
-add-numbers c = search needs
-
-mul-numbers-2 : tie.Need-mul-numbers-2
-mul-numbers-2 c = search needs
-
 slice-write-numbers-2 : tie.Need-slice-write-numbers-2
 slice-write-numbers-2 c = simp length-set (omega arith)
-
-add-numbers-2 : tie.Need-add-numbers-2
-add-numbers-2 c = search needs
-
-mul-numbers-3 : tie.Need-mul-numbers-3
-mul-numbers-3 c = search needs
 
 slice-write-numbers-3 : tie.Need-slice-write-numbers-3
 slice-write-numbers-3 c = simp length-set (omega arith)
 
-add-numbers-3 : tie.Need-add-numbers-3
-add-numbers-3 c = search needs
-
-mul-numbers-4 : tie.Need-mul-numbers-4
-mul-numbers-4 c = search needs
-
 slice-write-numbers-4 : tie.Need-slice-write-numbers-4
 slice-write-numbers-4 c = simp length-set (omega arith)
-
-same-length : tie.Need-same-length
-same-length c = search needs
 
 returns-2 : tie.Need-returns-2
 returns-2 c = let a = c .before .args in rw (stored-sets (now (a .numbers)) (a .i) (a .line) (omega arith), add-one, add-two, add-three) refl
 
 pub put-line-spec : {M : Type 1} → statement M
 put-line-spec =
-    tie.close
-    (tie.spec
-    returns
-    mul-k
-    mul-numbers
-    slice-write-numbers
-    add-numbers
-    mul-numbers-2
-    slice-write-numbers-2
-    add-numbers-2
-    mul-numbers-3
-    slice-write-numbers-3
-    add-numbers-3
-    mul-numbers-4
-    slice-write-numbers-4
-    same-length
-    returns-2)
+    tie.close (tie.spec returns (search needs) (search needs) (search needs) (search needs) (search needs) slice-write-numbers-2 (search needs)
+    (search needs) slice-write-numbers-3 (search needs) (search needs) slice-write-numbers-4 (search needs) returns-2)

@@ -10,21 +10,9 @@ use borrow.Author.Needs.{needs}
 use Rattle.obstacles.proofs.get_lines_for_agent_to_obstacle.Statement.{statement}
 use Rattle.obstacles.proofs.get_lines_for_agent_to_obstacle.Tie as tie
 
-judge-obstacle-requires : tie.Need-judge-obstacle-requires
-judge-obstacle-requires c κs = search needs
-
-enum-known-judged : tie.Need-enum-known-judged
-enum-known-judged c = search needs
-
-refused-requires : tie.Need-refused-requires
-refused-requires c κs = search needs
-
 returns : tie.Need-returns
 unfolding obstacleCall
 returns c = simp (← c .refused .ensures, c .before .before .judged .given .1, ← c .before .before .before .before .judge-obstacle .ensures)
-
-enum-told : tie.Need-enum-told
-enum-told c = search needs
 
 mul-lines-for-edges : tie.Need-mul-lines-for-edges
 mul-lines-for-edges c = omega (arith, few-there _ _ _ _ (c .before .before .judge-obstacle .ensures) (c .enum-told .given .1))
@@ -37,12 +25,6 @@ mul-lines-for-edges-2 c = omega (arith, few-there _ _ _ _ (c .before .before .ju
 
 mul-lines-for-edges-3 : tie.Need-mul-lines-for-edges-3
 mul-lines-for-edges-3 c = omega (arith, few-there _ _ _ _ (c .before .before .judge-obstacle .ensures) (c .enum-told .given .1))
-
-sub-lines-for-edges : tie.Need-sub-lines-for-edges
-sub-lines-for-edges c = search needs
-
-part-lines-for-edges-start : tie.Need-part-lines-for-edges-start
-part-lines-for-edges-start c = search needs
 
 part-lines-for-edges-end : tie.Need-part-lines-for-edges-end
 part-lines-for-edges-end c = omega (arith, few-there _ _ _ _ (c .before .before .judge-obstacle .ensures) (c .enum-told .given .1))
@@ -61,19 +43,5 @@ returns-2 c =
 
 pub get-lines-for-agent-to-obstacle-spec : {M : Type 1} → statement M
 get-lines-for-agent-to-obstacle-spec =
-    tie.close
-    (tie.spec
-    judge-obstacle-requires
-    enum-known-judged
-    refused-requires
-    returns
-    enum-told
-    mul-lines-for-edges
-    add-lines-for-edges
-    mul-lines-for-edges-2
-    mul-lines-for-edges-3
-    sub-lines-for-edges
-    part-lines-for-edges-start
-    part-lines-for-edges-end
-    lines-for-edges-requires
-    returns-2)
+    tie.close (tie.spec (search needs) (search needs) (search needs) returns (search needs) mul-lines-for-edges add-lines-for-edges
+    mul-lines-for-edges-2 mul-lines-for-edges-3 (search needs) (search needs) part-lines-for-edges-end lines-for-edges-requires returns-2)

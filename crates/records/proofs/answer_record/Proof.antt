@@ -9,27 +9,9 @@ use Rattle.records.proofs.answer_record.Tie as tie
 returns : tie.Need-returns
 returns c = no-room _ _ (c .if1 .taken)
 
-read-scene-requires : tie.Need-read-scene-requires
-read-scene-requires c κs = search needs
-
-enum-known-judged : tie.Need-enum-known-judged
-enum-known-judged c = search needs
-
 returns-2 : tie.Need-returns-2
 unfolding answered
 returns-2 c = sym (some-room _ _ (c .before .before .before .before .if1 .left) ∙ rw (read-refused _ _ _ (c .before .before .before .read-scene .ensures) (c .before .judged .given .1)))
-
-enum-told : tie.Need-enum-told
-enum-told c = search needs
-
-compute-avoiding-velocity-requires : tie.Need-compute-avoiding-velocity-requires
-compute-avoiding-velocity-requires c κs = search needs
-
-write-outcome-requires : tie.Need-write-outcome-requires
-write-outcome-requires c κs = search needs
-
-same-length : tie.Need-same-length
-same-length c = search needs
 
 returns-3 : tie.Need-returns-3
 unfolding answered
@@ -37,14 +19,4 @@ returns-3 c = c .before .before .write-outcome .ensures ∙ sym (some-room _ _ (
 
 pub answer-record-spec : {M : Type 1} → statement M
 answer-record-spec =
-    tie.close
-    (tie.spec
-    returns
-    read-scene-requires
-    enum-known-judged
-    returns-2
-    enum-told
-    compute-avoiding-velocity-requires
-    write-outcome-requires
-    same-length
-    returns-3)
+    tie.close (tie.spec returns (search needs) (search needs) returns-2 (search needs) (search needs) (search needs) (search needs) returns-3)

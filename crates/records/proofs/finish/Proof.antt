@@ -7,36 +7,12 @@ use Rattle.records.proofs.finish.Tie as tie
 returns : tie.Need-returns
 returns c = finished-none _ _ (c .if1 .taken)
 
-write-refusal-requires : tie.Need-write-refusal-requires
-write-refusal-requires c κs = search needs
-
-enum-told : tie.Need-enum-told
-enum-told c = search needs
-
-enum-told-2 : tie.Need-enum-told-2
-enum-told-2 c = search needs
-
-same-length : tie.Need-same-length
-same-length c = search needs
-
 returns-2 : tie.Need-returns-2
 returns-2 c = finished-told _ _ (c .before .before .before .before .before .before .if1 .left) _ (rw (c .enum-told .given .1) at (c .before .before .before .before .write-refusal .ensures))
-
-same-length-2 : tie.Need-same-length-2
-same-length-2 c = search needs
 
 returns-3 : tie.Need-returns-3
 returns-3 c = finished-short _ _ (c .before .before .before .before .before .before .if1 .left) _ _ (rw (c .enum-told2 .given .1) at (c .before .before .before .before .write-refusal .ensures))
 
 pub finish-spec : {M : Type 1} → statement M
 finish-spec =
-    tie.close
-    (tie.spec
-    returns
-    write-refusal-requires
-    enum-told
-    enum-told-2
-    same-length
-    returns-2
-    same-length-2
-    returns-3)
+    tie.close (tie.spec returns (search needs) (search needs) (search needs) (search needs) returns-2 (search needs) returns-3)

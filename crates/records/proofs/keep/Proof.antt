@@ -14,15 +14,10 @@ returns-2 : tie.Need-returns-2
 unfolding keptOver if_then_else_
 returns-2 c = simp (le-ltb _ _ (c .before .if1 .left), lt-ltb _ _ (c .if2 .taken))
 
-shift-requires : tie.Need-shift-requires
-shift-requires c κs = search needs
-
-same-length : tie.Need-same-length
-same-length c = search needs
-
 returns-3 : tie.Need-returns-3
 unfolding keptOver if_then_else_
 returns-3 c = simp (c .before .before .shift .ensures, le-ltb _ _ (c .before .before .before .before .before .if1 .left), le-ltb _ _ (c .before .before .before .before .if2 .left))
 
 pub keep-spec : {M : Type 1} → statement M
-keep-spec = tie.close (tie.spec returns returns-2 shift-requires same-length returns-3)
+keep-spec =
+    tie.close (tie.spec returns returns-2 (search needs) (search needs) returns-3)

@@ -19,12 +19,6 @@ loop-holds c = begins _ _ _
 step-requires : tie.Need-step-requires Inv-loop μ-loop
 step-requires c κs = (c .before .loop .inv .inside, c .before .loop .inv .fits)
 
-enum-known-next : tie.Need-enum-known-next Inv-loop μ-loop
-enum-known-next c = search needs
-
-enum-told : tie.Need-enum-told Inv-loop μ-loop
-enum-told c = search needs
-
 same-length : tie.Need-same-length Inv-loop μ-loop
 same-length c = omega (arith, c .before .before .before .before .step .kept, c .before .before .before .before .before .before .loop .inv .sized)
 
@@ -46,15 +40,4 @@ loop-again c =
 
 pub work-spec : {M : Type 1} → statement M
 work-spec =
-    tie.close
-    (tie.spec
-    Inv-loop
-    μ-loop
-    loop-holds
-    step-requires
-    enum-known-next
-    enum-told
-    same-length
-    returns
-    loop-less
-    loop-again)
+    tie.close (tie.spec Inv-loop μ-loop loop-holds step-requires (search needs) (search needs) same-length returns loop-less loop-again)

@@ -7,17 +7,8 @@ use Rattle.scene_records.proofs.length_of.Tie as tie
 returns : tie.Need-returns
 returns c = length-missing _ (c .if1 .taken)
 
-pair-at-requires : tie.Need-pair-at-requires
-pair-at-requires c κs = search needs
-
-cast-length : tie.Need-cast-length
-cast-length c = search needs
-
 returns-2 : tie.Need-returns-2
 returns-2 c = length-over _ _ (c .before .before .if1 .left) (c .before .pair-at .ensures) (c .if2 .taken)
-
-sub-if3 : tie.Need-sub-if3
-sub-if3 c = search needs
 
 returns-3 : tie.Need-returns-3
 returns-3 c = length-other _ _ (c .before .before .before .if1 .left) (c .before .before .pair-at .ensures) (c .before .if2 .left) (c .if3 .taken)
@@ -26,4 +17,5 @@ returns-4 : tie.Need-returns-4
 returns-4 c = length-right _ _ (c .before .before .before .if1 .left) (c .before .before .pair-at .ensures) (c .before .if2 .left) (c .if3 .left)
 
 pub length-of-spec : {M : Type 1} → statement M
-length-of-spec = tie.close (tie.spec returns pair-at-requires cast-length returns-2 sub-if3 returns-3 returns-4)
+length-of-spec =
+    tie.close (tie.spec returns (search needs) (search needs) returns-2 (search needs) returns-3 returns-4)

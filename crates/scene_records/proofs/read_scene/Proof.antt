@@ -5,14 +5,9 @@ use borrow.Author.Needs.{needs}
 use Rattle.scene_records.proofs.read_scene.Statement.{statement}
 use Rattle.scene_records.proofs.read_scene.Tie as tie
 
-length-of-requires : tie.Need-length-of-requires
-length-of-requires c κs = search needs
-
-fields-at-requires : tie.Need-fields-at-requires
-fields-at-requires c κs = search needs
-
 returns : tie.Need-returns
 returns c = c .fields-at .ensures ∙ scene-read _ _ (c .before .length-of .ensures)
 
 pub read-scene-spec : {M : Type 1} → statement M
-read-scene-spec = tie.close (tie.spec length-of-requires fields-at-requires returns)
+read-scene-spec =
+    tie.close (tie.spec (search needs) (search needs) returns)

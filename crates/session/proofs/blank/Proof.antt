@@ -4,12 +4,10 @@ use borrow.Author.Needs.{needs}
 use Rattle.session.proofs.blank.Statement.{statement}
 use Rattle.session.proofs.blank.Tie as tie
 
-blank-lines-requires : tie.Need-blank-lines-requires
-blank-lines-requires c κs = search needs
-
 returns : tie.Need-returns
 unfolding blankSession
 returns c = simp (← c .blank-lines .ensures)
 
 pub blank-spec : {M : Type 1} → statement M
-blank-spec = tie.close (tie.spec blank-lines-requires returns)
+blank-spec =
+    tie.close (tie.spec (search needs) returns)

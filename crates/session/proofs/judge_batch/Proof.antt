@@ -35,13 +35,11 @@ returns-3 : tie.Need-returns-3
 unfolding batchFault
 returns-3 c = simp (no-room _ (now (c .before .before .before .before .args .numbers)) (c .before .before .if1 .left) (c .if3 .taken), eq-eqb _ _ (c .before .if2 .left), le-leb _ _ (c .before .before .if1 .left))
 
-judge-lines-requires : tie.Need-judge-lines-requires
-judge-lines-requires c κs = search needs
-
 returns-4 : tie.Need-returns-4
 unfolding batchFault
 returns-4 c =
     simp (← c .judge-lines .ensures, room _ (now (c .before .before .before .before .before .args .numbers)) (c .before .before .before .if1 .left) (c .before .if3 .left), eq-eqb _ _ (c .before .before .if2 .left), le-leb _ _ (c .before .before .before .if1 .left))
 
 pub judge-batch-spec : {M : Type 1} → statement M
-judge-batch-spec = tie.close (tie.spec returns returns-2 returns-3 judge-lines-requires returns-4)
+judge-batch-spec =
+    tie.close (tie.spec returns returns-2 returns-3 (search needs) returns-4)

@@ -5,9 +5,6 @@ use Rattle.verdict.specs.Tallies.{moreOf}
 use Rattle.verdict.proofs.more.Statement.{statement}
 use Rattle.verdict.proofs.more.Tie as tie
 
-add-result : tie.Need-add-result
-add-result c = search needs
-
 returns : tie.Need-returns
 unfolding moreOf
 returns c = omega arith
@@ -17,4 +14,5 @@ unfolding moreOf
 returns-2 c = omega arith
 
 pub more-spec : {M : Type 1} → statement M
-more-spec = tie.close (tie.spec add-result returns returns-2)
+more-spec =
+    tie.close (tie.spec (search needs) returns returns-2)

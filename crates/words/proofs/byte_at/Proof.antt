@@ -6,21 +6,6 @@ use Rattle.words.proofs.Laws.{none-there}
 use Rattle.words.proofs.byte_at.Statement.{statement}
 use Rattle.words.proofs.byte_at.Tie as tie
 
-sub-if2 : tie.Need-sub-if2
-sub-if2 c = search needs
-
-add-wide : tie.Need-add-wide
-add-wide c = search needs
-
-shared-slice-read-wide : tie.Need-shared-slice-read-wide
-shared-slice-read-wide c = search needs
-
-wide-requires : tie.Need-wide-requires
-wide-requires c κs = search needs
-
-returns : tie.Need-returns
-returns c = search needs
-
 returns-2 : tie.Need-returns-2
 returns-2 c =
     let a = c .before .before .before .args in
@@ -33,5 +18,4 @@ returns-3 c =
 
 pub byte-at-spec : {M : Type 1} → statement M
 byte-at-spec =
-    tie.close
-    (tie.spec sub-if2 add-wide shared-slice-read-wide wide-requires returns returns-2 returns-3)
+    tie.close (tie.spec (search needs) (search needs) (search needs) (search needs) (search needs) returns-2 returns-3)

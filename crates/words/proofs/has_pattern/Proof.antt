@@ -7,9 +7,6 @@ use Rattle.words.proofs.Laws.{failed}
 use Rattle.words.proofs.has_pattern.Statement.{statement}
 use Rattle.words.proofs.has_pattern.Tie as tie
 
-is-nan-requires : tie.Need-is-nan-requires
-is-nan-requires c κs = search needs
-
 returns : tie.Need-returns
 unfolding hasPattern
 returns c = rw (sym (ne-self _) ∙ c .before .if1 .taken) (c .is-nan .ensures)
@@ -22,4 +19,5 @@ unfolding hasPattern
 returns-2 c = rw (sym (ne-self _) ∙ c .if1 .left)
 
 pub has-pattern-spec : {M : Type 1} → statement M
-has-pattern-spec = tie.close (tie.spec is-nan-requires returns float-to-bits-result returns-2)
+has-pattern-spec =
+    tie.close (tie.spec (search needs) returns float-to-bits-result returns-2)

@@ -9,4 +9,5 @@ returns : tie.Need-returns
 returns c = sym (nanBits-above binary32 _)
 
 pub is-nan-spec : {M : Type 1} → statement M
-is-nan-spec = tie.close (tie.spec returns)
+is-nan-spec =
+    tie.close (tie.spec returns)

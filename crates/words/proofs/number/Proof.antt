@@ -6,9 +6,6 @@ use Rattle.words.proofs.Laws.{nan-of, failed}
 use Rattle.words.proofs.number.Statement.{statement}
 use Rattle.words.proofs.number.Tie as tie
 
-is-nan-requires : tie.Need-is-nan-requires
-is-nan-requires c κs = search needs
-
 returns : tie.Need-returns
 unfolding div ofBits
 returns c = nan-of _ (sym (c .before .is-nan .ensures) ∙ c .if1 .taken)
@@ -16,8 +13,6 @@ returns c = nan-of _ (sym (c .before .is-nan .ensures) ∙ c .if1 .taken)
 float-from-bits-result : tie.Need-float-from-bits-result
 float-from-bits-result c = failed _ (sym (c .before .is-nan .ensures) ∙ c .if1 .left)
 
-returns-2 : tie.Need-returns-2
-returns-2 c = search needs
-
 pub number-spec : {M : Type 1} → statement M
-number-spec = tie.close (tie.spec is-nan-requires returns float-from-bits-result returns-2)
+number-spec =
+    tie.close (tie.spec (search needs) returns float-from-bits-result (search needs))

@@ -10,12 +10,10 @@ returns : tie.Need-returns
 unfolding roomFor
 returns c = simp (lt-leb _ _ (c .if1 .taken))
 
-sub-result : tie.Need-sub-result
-sub-result c = search needs
-
 returns-2 : tie.Need-returns-2
 unfolding roomFor
 returns-2 c = rw (le-leb _ _ (c .if1 .left)) (room-left _ _ (c .if1 .left))
 
 pub has-room-spec : {M : Type 1} → statement M
-has-room-spec = tie.close (tie.spec returns sub-result returns-2)
+has-room-spec =
+    tie.close (tie.spec returns (search needs) returns-2)

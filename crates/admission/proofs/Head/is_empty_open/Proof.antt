@@ -13,4 +13,5 @@ unfolding isEmptyOpen
 returns-2 c = simp (ne-eqb _ _ (c .if1 .left))
 
 pub is-empty-open-spec : {M : Type 1} → statement M
-is-empty-open-spec = tie.close (tie.spec returns returns-2)
+is-empty-open-spec =
+    tie.close (tie.spec returns returns-2)

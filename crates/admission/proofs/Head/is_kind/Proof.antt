@@ -13,4 +13,5 @@ unfolding isKind
 returns-2 c = simp (ne-eqb _ _ (c .if1 .left))
 
 pub is-kind-spec : {M : Type 1} → statement M
-is-kind-spec = tie.close (tie.spec returns returns-2)
+is-kind-spec =
+    tie.close (tie.spec returns returns-2)

@@ -4,15 +4,10 @@ use Rattle.common.specs.Vectors.{distanceSquaredOf}
 use Rattle.common.proofs.Vec2.distance_squared.Statement.{statement}
 use Rattle.common.proofs.Vec2.distance_squared.Tie as tie
 
-sub-requires : tie.Need-sub-requires
-sub-requires c κs = search needs
-
-length-squared-requires : tie.Need-length-squared-requires
-length-squared-requires c κs = search needs
-
 returns : tie.Need-returns
 unfolding distanceSquaredOf
 returns c = cc
 
 pub distance-squared-spec : {M : Type 1} → statement M
-distance-squared-spec = tie.close (tie.spec sub-requires length-squared-requires returns)
+distance-squared-spec =
+    tie.close (tie.spec (search needs) (search needs) returns)

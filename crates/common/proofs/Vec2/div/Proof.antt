@@ -9,4 +9,5 @@ unfolding divOf
 returns c = refl
 
 pub div-spec : {M : Type 1} → statement M
-div-spec = tie.close (tie.spec returns)
+div-spec =
+    tie.close (tie.spec returns)

@@ -9,4 +9,5 @@ unfolding dotOf
 returns c = refl
 
 pub dot-spec : {M : Type 1} → statement M
-dot-spec = tie.close (tie.spec returns)
+dot-spec =
+    tie.close (tie.spec returns)

@@ -12,4 +12,5 @@ unfolding eqOf
 returns-2 c = cc
 
 pub eq-spec : {M : Type 1} → statement M
-eq-spec = tie.close (tie.spec returns returns-2)
+eq-spec =
+    tie.close (tie.spec returns returns-2)

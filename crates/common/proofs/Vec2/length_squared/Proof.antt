@@ -4,12 +4,10 @@ use Rattle.common.specs.Vectors.{lengthSquaredOf}
 use Rattle.common.proofs.Vec2.length_squared.Statement.{statement}
 use Rattle.common.proofs.Vec2.length_squared.Tie as tie
 
-dot-requires : tie.Need-dot-requires
-dot-requires c κs = search needs
-
 returns : tie.Need-returns
 unfolding lengthSquaredOf
 returns c = c .dot .ensures
 
 pub length-squared-spec : {M : Type 1} → statement M
-length-squared-spec = tie.close (tie.spec dot-requires returns)
+length-squared-spec =
+    tie.close (tie.spec (search needs) returns)

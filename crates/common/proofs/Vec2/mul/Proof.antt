@@ -9,4 +9,5 @@ unfolding mulOf
 returns c = refl
 
 pub mul-spec : {M : Type 1} → statement M
-mul-spec = tie.close (tie.spec returns)
+mul-spec =
+    tie.close (tie.spec returns)

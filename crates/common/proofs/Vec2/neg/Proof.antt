@@ -9,4 +9,5 @@ unfolding negOf
 returns c = refl
 
 pub neg-spec : {M : Type 1} → statement M
-neg-spec = tie.close (tie.spec returns)
+neg-spec =
+    tie.close (tie.spec returns)

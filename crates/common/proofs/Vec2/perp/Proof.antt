@@ -9,4 +9,5 @@ unfolding perpOf
 returns c = refl
 
 pub perp-spec : {M : Type 1} → statement M
-perp-spec = tie.close (tie.spec returns)
+perp-spec =
+    tie.close (tie.spec returns)

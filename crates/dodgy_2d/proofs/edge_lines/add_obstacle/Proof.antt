@@ -12,23 +12,11 @@ use borrow.Author.Needs.{needs}
 use Rattle.dodgy_2d.proofs.edge_lines.add_obstacle.Statement.{statement}
 use Rattle.dodgy_2d.proofs.edge_lines.add_obstacle.Tie as tie
 
-get-lines-for-agent-to-obstacle-requires : tie.Need-get-lines-for-agent-to-obstacle-requires
-get-lines-for-agent-to-obstacle-requires c κs = search needs
-
-enum-known-judged : tie.Need-enum-known-judged
-enum-known-judged c = search needs
-
 returns : tie.Need-returns
 returns c =
     let a = c .before .before .before .before .before .before .args in
     let e = told-refused (obstacleCall (a .agent) (a .head .kind) (now (a .vertices)) (a .offset) (a .head .count) (a .margin) (a .horizon)) _ (ap (λ (x : ObstacleLines). x .judged) (sym (c .before .before .before .get-lines-for-agent-to-obstacle .ensures)) ∙ c .before .judged .given .1) in
     (search needs, omega arith, rw e)
-
-enum-told : tie.Need-enum-told
-enum-told c = search needs
-
-mul-copy : tie.Need-mul-copy
-mul-copy c = search needs
 
 mul-copy-2 : tie.Need-mul-copy-2
 mul-copy-2 c =
@@ -48,9 +36,6 @@ add-t17 c =
     let few = call-few _ _ _ _ _ _ _ (c .before .before .before .before .before .before .before .get-lines-for-agent-to-obstacle .ensures) in
     omega (arith, few)
 
-same-length : tie.Need-same-length
-same-length c = search needs
-
 returns-2 : tie.Need-returns-2
 returns-2 c =
     let a = c .before .before .before .before .before .before .before .before .before .before .args in
@@ -61,15 +46,4 @@ returns-2 c =
 
 pub add-obstacle-spec : {M : Type 1} → statement M
 add-obstacle-spec =
-    tie.close
-    (tie.spec
-    get-lines-for-agent-to-obstacle-requires
-    enum-known-judged
-    returns
-    enum-told
-    mul-copy
-    mul-copy-2
-    copy-requires
-    add-t17
-    same-length
-    returns-2)
+    tie.close (tie.spec (search needs) (search needs) returns (search needs) (search needs) mul-copy-2 copy-requires add-t17 (search needs) returns-2)

@@ -30,15 +30,6 @@ loop-holds : tie.Need-loop-holds Inv-loop μ-loop
 unfolding linesOf
 loop-holds c = (omega arith, omega arith, omega arith, search needs, c .before .before .pre .2, sym (joined-none _))
 
-array-read-t20 : tie.Need-array-read-t20 Inv-loop μ-loop
-array-read-t20 c = search needs
-
-array-read-wide : tie.Need-array-read-wide Inv-loop μ-loop
-array-read-wide c = search needs
-
-wide-requires : tie.Need-wide-requires Inv-loop μ-loop
-wide-requires c κs = search needs
-
 add-obstacle-requires : tie.Need-add-obstacle-requires Inv-loop μ-loop
 add-obstacle-requires c κs =
     let a = c .before .before .before .before .before .before .args in
@@ -46,15 +37,6 @@ add-obstacle-requires c κs =
     let own = own-fine (a .t2) (a .t3) (a .n) (l .i) (omega arith) (omega arith) (l .offset) (now (a .vertices)) (omega arith) (l .inv .4) in
     let room = rw (← c .before .wide .ensures .0) at (own-room (a .t2) (a .t3) (a .n) (l .i) (omega arith) (omega arith) (l .offset) (now (a .vertices)) (own .0)) in
     (search needs, room .0, omega (arith, room .1))
-
-enum-known-added : tie.Need-enum-known-added Inv-loop μ-loop
-enum-known-added c = search needs
-
-enum-told : tie.Need-enum-told Inv-loop μ-loop
-enum-told c = search needs
-
-same-length : tie.Need-same-length Inv-loop μ-loop
-same-length c = search needs
 
 returns : tie.Need-returns Inv-loop μ-loop
 returns c =
@@ -64,15 +46,6 @@ returns c =
     let room = rw (← c .before .before .before .before .before .before .wide .ensures .0) at (own-room (a .t2) (a .t3) (a .n) (l .i) (omega arith) (omega arith) (l .offset) (now (a .vertices)) (own .0)) in
     let step = rw (c .enum-told .given .1, c .before .before .before .before .before .before .wide .ensures .0) at (c .before .before .before .before .add-obstacle .ensures .2) in
     (c .before .before .before .before .add-obstacle .ensures .0, omega (arith, c .before .before .before .before .add-obstacle .ensures .1, room .1), rw (c .enum-told .given .1) (sym (l .inv .5 ∙ edges-on (a .agent) (a .margin) (a .horizon) (now (a .vertices)) (a .t2) (a .t3) (a .n) (omega arith) (omega arith) (l .i) (l .offset) (lines (linesOf (take (4 * l .count) (l .numbers)))) _ (omega arith) step)))
-
-add-offset : tie.Need-add-offset Inv-loop μ-loop
-add-offset c = search needs
-
-add-i : tie.Need-add-i Inv-loop μ-loop
-add-i c = search needs
-
-loop-less : tie.Need-loop-less Inv-loop μ-loop
-loop-less c = search needs
 
 loop-again : tie.Need-loop-again Inv-loop μ-loop
 loop-again c =
@@ -84,9 +57,6 @@ loop-again c =
     let few = rw (c .before .before .added .given .1) at (c .before .before .before .before .before .before .add-obstacle .ensures .1) in
     (omega arith, omega (arith, few), room .1, c .before .before .before .before .before .before .add-obstacle .ensures .0, rw (c .before .before .before .before .before .before .before .before .wide .ensures .0) (own .1), rw (c .before .before .before .before .before .before .before .before .wide .ensures .0) (l .inv .5 ∙ edges-on (a .agent) (a .margin) (a .horizon) (now (a .vertices)) (a .t2) (a .t3) (a .n) (omega arith) (omega arith) (l .i) (l .offset) (lines (linesOf (take (4 * l .count) (l .numbers)))) _ (omega arith) step))
 
-same-length-2 : tie.Need-same-length-2 Inv-loop μ-loop
-same-length-2 c = search needs
-
 returns-2 : tie.Need-returns-2 Inv-loop μ-loop
 returns-2 c =
     let a = c .before .before .before .before .args in
@@ -95,22 +65,5 @@ returns-2 c =
 
 pub edge-lines-spec : {M : Type 1} → statement M
 edge-lines-spec =
-    tie.close
-    (tie.spec
-    Inv-loop
-    μ-loop
-    loop-holds
-    array-read-t20
-    array-read-wide
-    wide-requires
-    add-obstacle-requires
-    enum-known-added
-    enum-told
-    same-length
-    returns
-    add-offset
-    add-i
-    loop-less
-    loop-again
-    same-length-2
-    returns-2)
+    tie.close (tie.spec Inv-loop μ-loop loop-holds (search needs) (search needs) (search needs) add-obstacle-requires (search needs) (search needs)
+    (search needs) returns (search needs) (search needs) (search needs) loop-again (search needs) returns-2)

@@ -8,26 +8,8 @@ use borrow.Author.Needs.{needs}
 use Rattle.dodgy_2d.proofs.judge.judge_obstacle.Statement.{statement}
 use Rattle.dodgy_2d.proofs.judge.judge_obstacle.Tie as tie
 
-judge-head-requires : tie.Need-judge-head-requires
-judge-head-requires c κs = search needs
-
-enum-told : tie.Need-enum-told
-enum-told c = search needs
-
-enum-told-2 : tie.Need-enum-told-2
-enum-told-2 c = search needs
-
 returns : tie.Need-returns
 returns c = simp (← c .before .before .judge-head .ensures, c .enum-told2 .given .1)
-
-mul-judge-numbers : tie.Need-mul-judge-numbers
-mul-judge-numbers c = search needs
-
-add-judge-numbers : tie.Need-add-judge-numbers
-add-judge-numbers c = search needs
-
-mul-judge-numbers-2 : tie.Need-mul-judge-numbers-2
-mul-judge-numbers-2 c = search needs
 
 judge-numbers-requires : tie.Need-judge-numbers-requires
 judge-numbers-requires c κs =
@@ -43,14 +25,5 @@ returns-2 c =
 
 pub judge-obstacle-spec : {M : Type 1} → statement M
 judge-obstacle-spec =
-    tie.close
-    (tie.spec
-    judge-head-requires
-    enum-told
-    enum-told-2
-    returns
-    mul-judge-numbers
-    add-judge-numbers
-    mul-judge-numbers-2
-    judge-numbers-requires
+    tie.close (tie.spec (search needs) (search needs) (search needs) returns (search needs) (search needs) (search needs) judge-numbers-requires
     returns-2)

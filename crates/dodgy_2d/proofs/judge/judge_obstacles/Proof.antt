@@ -19,39 +19,12 @@ abbrev μ-loop : tie.MeasureT-loop
 loop-holds : tie.Need-loop-holds Inv-loop μ-loop
 loop-holds c = (omega arith, omega arith, refl)
 
-array-read-t14 : tie.Need-array-read-t14 Inv-loop μ-loop
-array-read-t14 c = search needs
-
-array-read-wide : tie.Need-array-read-wide Inv-loop μ-loop
-array-read-wide c = search needs
-
-wide-requires : tie.Need-wide-requires Inv-loop μ-loop
-wide-requires c κs = search needs
-
-judge-obstacle-requires : tie.Need-judge-obstacle-requires Inv-loop μ-loop
-judge-obstacle-requires c κs = search needs
-
-enum-told : tie.Need-enum-told Inv-loop μ-loop
-enum-told c = search needs
-
-enum-told-2 : tie.Need-enum-told-2 Inv-loop μ-loop
-enum-told-2 c = search needs
-
 returns : tie.Need-returns Inv-loop μ-loop
 returns c =
     let a = c .before .before .before .before .before .before .before .args in
     let l = c .before .before .before .before .before .loop in
     let step = rw (c .enum-told2 .given .1, c .before .before .before .wide .ensures .0) at (c .before .before .judge-obstacle .ensures) in
     rw (c .enum-told2 .given .1) (sym (l .inv .2 ∙ obstacle-stop (a .t1) (a .t2) (a .n) (l .i) (omega arith) (omega arith) (l .total) (now (a .vertices)) _ (omega arith) step))
-
-add-total : tie.Need-add-total Inv-loop μ-loop
-add-total c = search needs
-
-add-i : tie.Need-add-i Inv-loop μ-loop
-add-i c = search needs
-
-loop-less : tie.Need-loop-less Inv-loop μ-loop
-loop-less c = search needs
 
 loop-again : tie.Need-loop-again Inv-loop μ-loop
 loop-again c =
@@ -68,20 +41,5 @@ returns-2 c =
 
 pub judge-obstacles-spec : {M : Type 1} → statement M
 judge-obstacles-spec =
-    tie.close
-    (tie.spec
-    Inv-loop
-    μ-loop
-    loop-holds
-    array-read-t14
-    array-read-wide
-    wide-requires
-    judge-obstacle-requires
-    enum-told
-    enum-told-2
-    returns
-    add-total
-    add-i
-    loop-less
-    loop-again
-    returns-2)
+    tie.close (tie.spec Inv-loop μ-loop loop-holds (search needs) (search needs) (search needs) (search needs) (search needs) (search needs) returns
+    (search needs) (search needs) (search needs) loop-again returns-2)

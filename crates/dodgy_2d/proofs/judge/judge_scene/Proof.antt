@@ -12,15 +12,6 @@ use borrow.Author.Needs.{needs}
 use Rattle.dodgy_2d.proofs.judge.judge_scene.Statement.{statement}
 use Rattle.dodgy_2d.proofs.judge.judge_scene.Tie as tie
 
-judge-agent-requires : tie.Need-judge-agent-requires
-judge-agent-requires c κs = search needs
-
-enum-told : tie.Need-enum-told
-enum-told c = search needs
-
-enum-told-2 : tie.Need-enum-told-2
-enum-told-2 c = search needs
-
 returns : tie.Need-returns
 unfolding sceneFault
 returns c = simp (c .enum-told2 .given .1, ← c .before .before .judge-agent .ensures)
@@ -28,18 +19,6 @@ returns c = simp (c .enum-told2 .given .1, ← c .before .before .judge-agent .e
 returns-2 : tie.Need-returns-2
 unfolding sceneFault
 returns-2 c = simp (lt-leb _ _ (c .if1 .taken), c .before .enum-told .given .1, ← c .before .before .before .judge-agent .ensures)
-
-slice-aggregate-judge-obstacles : tie.Need-slice-aggregate-judge-obstacles
-slice-aggregate-judge-obstacles c = search needs
-
-judge-obstacles-requires : tie.Need-judge-obstacles-requires
-judge-obstacles-requires c κs = search needs
-
-enum-told-3 : tie.Need-enum-told-3
-enum-told-3 c = search needs
-
-enum-told-4 : tie.Need-enum-told-4
-enum-told-4 c = search needs
 
 returns-3 : tie.Need-returns-3
 unfolding sceneFault
@@ -49,22 +28,10 @@ returns-4 : tie.Need-returns-4
 unfolding sceneFault
 returns-4 c = simp (lt-leb _ _ (c .if2 .taken), c .before .enum-told3 .given .1, ← c .before .before .before .judge-obstacles .ensures, le-leb _ _ (c .before .before .before .before .before .before .before .before .if1 .left), c .before .before .before .before .before .before .before .before .before .enum-told .given .1, ← c .before .before .before .before .before .before .before .before .before .before .before .judge-agent .ensures)
 
-mul-judge-lines : tie.Need-mul-judge-lines
-mul-judge-lines c = search needs
-
-sub-judge-lines : tie.Need-sub-judge-lines
-sub-judge-lines c = search needs
-
-part-judge-lines-start : tie.Need-part-judge-lines-start
-part-judge-lines-start c = search needs
-
 part-judge-lines-end : tie.Need-part-judge-lines-end
 part-judge-lines-end c =
     let size : length (c .before .before .before .before .before .before .before .before .before .before .before .before .before .before .args .scene .lines) ≡ 256 = search needs in
     omega (arith, c .before .before .if2 .left, size)
-
-judge-lines-requires : tie.Need-judge-lines-requires
-judge-lines-requires c κs = search needs
 
 returns-5 : tie.Need-returns-5
 unfolding sceneFault
@@ -75,22 +42,5 @@ returns-5 c = simp (le-leb _ _ (c .before .before .before .before .if2 .left), c
 
 pub judge-scene-spec : {M : Type 1} → statement M
 judge-scene-spec =
-    tie.close
-    (tie.spec
-    judge-agent-requires
-    enum-told
-    enum-told-2
-    returns
-    returns-2
-    slice-aggregate-judge-obstacles
-    judge-obstacles-requires
-    enum-told-3
-    enum-told-4
-    returns-3
-    returns-4
-    mul-judge-lines
-    sub-judge-lines
-    part-judge-lines-start
-    part-judge-lines-end
-    judge-lines-requires
-    returns-5)
+    tie.close (tie.spec (search needs) (search needs) (search needs) returns returns-2 (λ c. search needs) (λ c κs. search needs) (search needs)
+    (search needs) returns-3 returns-4 (search needs) (search needs) (search needs) part-judge-lines-end (search needs) returns-5)

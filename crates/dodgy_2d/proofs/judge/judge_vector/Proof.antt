@@ -5,32 +5,10 @@ use borrow.Author.Needs.{needs}
 use Rattle.dodgy_2d.proofs.judge.judge_vector.Statement.{statement}
 use Rattle.dodgy_2d.proofs.judge.judge_vector.Tie as tie
 
-is-within-requires : tie.Need-is-within-requires
-is-within-requires c κs = search needs
-
-fault-unless-requires : tie.Need-fault-unless-requires
-fault-unless-requires c κs = search needs
-
-is-within-requires-2 : tie.Need-is-within-requires-2
-is-within-requires-2 c κs = search needs
-
-fault-unless-requires-2 : tie.Need-fault-unless-requires-2
-fault-unless-requires-2 c κs = search needs
-
-first-of-requires : tie.Need-first-of-requires
-first-of-requires c κs = search needs
-
 returns : tie.Need-returns
 unfolding vectorFault numbersFault
 returns c = simp (⊳-none, ← c .first-of .ensures, ← c .before .fault-unless2 .ensures, ← c .before .before .is-within2 .ensures, ← c .before .before .before .fault-unless .ensures, ← c .before .before .before .before .is-within .ensures)
 
 pub judge-vector-spec : {M : Type 1} → statement M
 judge-vector-spec =
-    tie.close
-    (tie.spec
-    is-within-requires
-    fault-unless-requires
-    is-within-requires-2
-    fault-unless-requires-2
-    first-of-requires
-    returns)
+    tie.close (tie.spec (search needs) (search needs) (search needs) (search needs) (search needs) returns)

@@ -6,28 +6,10 @@ use borrow.Author.Needs.{needs}
 use Rattle.dodgy_2d.proofs.passes.fall_back.Statement.{statement}
 use Rattle.dodgy_2d.proofs.passes.fall_back.Tie as tie
 
-pass-requires : tie.Need-pass-requires
-pass-requires c κs = search needs
-
-enum-known-number : tie.Need-enum-known-number
-enum-known-number c = search needs
-
-enum-known-phase : tie.Need-enum-known-phase
-enum-known-phase c = search needs
-
 add-all : tie.Need-add-all
 add-all c =
     let start = c .before .before .before .before in
     omega (arith, start .pre .1, pass-fits (start .args .scene) atRest (start .pre .0) (rw (c .before .phase .given .1) at (c .before .before .before .pass .ensures)))
-
-enum-known-phase-2 : tie.Need-enum-known-phase-2
-enum-known-phase-2 c = search needs
-
-enum-known-phase-3 : tie.Need-enum-known-phase-3
-enum-known-phase-3 c = search needs
-
-enum-known-phase-4 : tie.Need-enum-known-phase-4
-enum-known-phase-4 c = search needs
 
 returns : tie.Need-returns
 returns c = simp (c .before .number .given .1, ← c .before .before .before .pass .ensures)
@@ -43,16 +25,5 @@ returns-4 c = simp (c .before .phase4 .given .1, c .before .before .before .befo
 
 pub fall-back-spec : {M : Type 1} → statement M
 fall-back-spec =
-    tie.close
-    (tie.spec
-    pass-requires
-    enum-known-number
-    enum-known-phase
-    add-all
-    enum-known-phase-2
-    enum-known-phase-3
-    enum-known-phase-4
-    returns
-    returns-2
-    returns-3
-    returns-4)
+    tie.close (tie.spec (λ c κs. search needs) (search needs) (search needs) add-all (search needs) (search needs) (search needs) returns returns-2
+    returns-3 returns-4)

@@ -10,23 +10,11 @@ use borrow.Author.Needs.{needs}
 use Rattle.dodgy_2d.proofs.passes.pass.Statement.{statement}
 use Rattle.dodgy_2d.proofs.passes.pass.Tie as tie
 
-slice-aggregate-edge-lines : tie.Need-slice-aggregate-edge-lines
-slice-aggregate-edge-lines c = search needs
-
-slice-aggregate-edge-lines-2 : tie.Need-slice-aggregate-edge-lines-2
-slice-aggregate-edge-lines-2 c = search needs
-
 edge-lines-requires : tie.Need-edge-lines-requires
 edge-lines-requires c κs =
     let s = c .before .before .before .before .before .before .args .scene in
     let p = parts s (c .before .before .before .before .before .before .pre) in
     (p .obstacles, search needs, p .walls)
-
-enum-known-made : tie.Need-enum-known-made
-enum-known-made c = search needs
-
-enum-known-made-2 : tie.Need-enum-known-made-2
-enum-known-made-2 c = search needs
 
 add-end : tie.Need-add-end
 add-end c =
@@ -35,9 +23,6 @@ add-end c =
     let near = parts s (start .pre) .neighbours in
     let few = rw (c .before .before .before .made2 .given .1) at (c .before .before .before .before .before .before .edge-lines .ensures .1) in
     omega (arith, near, few)
-
-slice-aggregate-copy : tie.Need-slice-aggregate-copy
-slice-aggregate-copy c = search needs
 
 mul-copy : tie.Need-mul-copy
 mul-copy c =
@@ -71,12 +56,6 @@ mul-solve-linear-program c =
     let few = rw (c .before .before .before .before .before .before .before .made2 .given .1) at (c .before .before .before .before .before .before .before .before .before .before .edge-lines .ensures .1) in
     omega (arith, near, few)
 
-sub-solve-linear-program : tie.Need-sub-solve-linear-program
-sub-solve-linear-program c = search needs
-
-part-solve-linear-program-start : tie.Need-part-solve-linear-program-start
-part-solve-linear-program-start c = search needs
-
 part-solve-linear-program-end : tie.Need-part-solve-linear-program-end
 part-solve-linear-program-end c =
     let start = c .before .before .before .before .before .before .before .before .before .before .before .before .before .before .before .before .before .before in
@@ -85,9 +64,6 @@ part-solve-linear-program-end c =
     let few = rw (c .before .before .before .before .before .before .before .before .made2 .given .1) at (c .before .before .before .before .before .before .before .before .before .before .before .edge-lines .ensures .1) in
     let kept : length (c .before .before .copy .last .0) ≡ 1024 = search needs in
     omega (arith, near, few, kept)
-
-solve-linear-program-requires : tie.Need-solve-linear-program-requires
-solve-linear-program-requires c κs = search needs
 
 returns : tie.Need-returns
 unfolding passAt
@@ -107,22 +83,5 @@ returns-2 c =
 
 pub pass-spec : {M : Type 1} → statement M
 pass-spec =
-    tie.close
-    (tie.spec
-    slice-aggregate-edge-lines
-    slice-aggregate-edge-lines-2
-    edge-lines-requires
-    enum-known-made
-    enum-known-made-2
-    add-end
-    slice-aggregate-copy
-    mul-copy
-    mul-copy-2
-    copy-requires
-    mul-solve-linear-program
-    sub-solve-linear-program
-    part-solve-linear-program-start
-    part-solve-linear-program-end
-    solve-linear-program-requires
-    returns
-    returns-2)
+    tie.close (tie.spec (λ c. search needs) (search needs) edge-lines-requires (search needs) (search needs) add-end (search needs) mul-copy
+    mul-copy-2 copy-requires mul-solve-linear-program (search needs) (search needs) part-solve-linear-program-end (search needs) returns returns-2)

@@ -4,24 +4,6 @@ use borrow.Author.Needs.{needs}
 use Rattle.dodgy_2d.proofs.passes.solve.Statement.{statement}
 use Rattle.dodgy_2d.proofs.passes.solve.Tie as tie
 
-pass-requires : tie.Need-pass-requires
-pass-requires c κs = search needs
-
-enum-known-number : tie.Need-enum-known-number
-enum-known-number c = search needs
-
-enum-known-phase : tie.Need-enum-known-phase
-enum-known-phase c = search needs
-
-enum-known-phase-2 : tie.Need-enum-known-phase-2
-enum-known-phase-2 c = search needs
-
-enum-known-phase-3 : tie.Need-enum-known-phase-3
-enum-known-phase-3 c = search needs
-
-enum-told : tie.Need-enum-told
-enum-told c = search needs
-
 fall-back-requires : tie.Need-fall-back-requires
 fall-back-requires c κs =
     let start = c .before .before .before .before .before .before in
@@ -41,16 +23,5 @@ returns-4 c = simp (c .before .enum-told .given .1, c .before .before .before .b
 
 pub solve-spec : {M : Type 1} → statement M
 solve-spec =
-    tie.close
-    (tie.spec
-    pass-requires
-    enum-known-number
-    enum-known-phase
-    enum-known-phase-2
-    enum-known-phase-3
-    enum-told
-    fall-back-requires
-    returns
-    returns-2
-    returns-3
-    returns-4)
+    tie.close (tie.spec (λ c κs. search needs) (search needs) (search needs) (search needs) (search needs) (search needs) fall-back-requires returns
+    returns-2 returns-3 returns-4)

@@ -5,42 +5,9 @@ use borrow.Author.Needs.{needs}
 use Rattle.linear_programming.proofs.along_line.best_on.Statement.{statement}
 use Rattle.linear_programming.proofs.along_line.best_on.Tie as tie
 
-enum-known-optimal-value : tie.Need-enum-known-optimal-value
-enum-known-optimal-value c = search needs
-
-new-requires : tie.Need-new-requires
-new-requires c κs = search needs
-
-dot-requires : tie.Need-dot-requires
-dot-requires c κs = search needs
-
-point-on-requires : tie.Need-point-on-requires
-point-on-requires c κs = search needs
-
 returns : tie.Need-returns
 unfolding choose if_then_else_
 returns c = simp (← c .point-on .ensures, c .before .if1 .taken, ← c .before .before .dot .ensures, ← c .before .before .before .new .ensures, c .before .before .before .before .before .optimal-value .given .1)
-
-point-on-requires-2 : tie.Need-point-on-requires-2
-point-on-requires-2 c κs = search needs
-
-enum-known-optimal-value-2 : tie.Need-enum-known-optimal-value-2
-enum-known-optimal-value-2 c = search needs
-
-new-requires-2 : tie.Need-new-requires-2
-new-requires-2 c κs = search needs
-
-sub-requires : tie.Need-sub-requires
-sub-requires c κs = search needs
-
-dot-requires-2 : tie.Need-dot-requires-2
-dot-requires-2 c κs = search needs
-
-clamp-requires : tie.Need-clamp-requires
-clamp-requires c κs = search needs
-
-point-on-requires-3 : tie.Need-point-on-requires-3
-point-on-requires-3 c κs = search needs
 
 returns-2 : tie.Need-returns-2
 unfolding choose if_then_else_
@@ -56,20 +23,5 @@ returns-4 c = simp (c .if2 .left, c .before .before .optimal-value2 .given .1)
 
 pub best-on-spec : {M : Type 1} → statement M
 best-on-spec =
-    tie.close
-    (tie.spec
-    enum-known-optimal-value
-    new-requires
-    dot-requires
-    point-on-requires
-    returns
-    point-on-requires-2
-    enum-known-optimal-value-2
-    new-requires-2
-    sub-requires
-    dot-requires-2
-    clamp-requires
-    point-on-requires-3
-    returns-2
-    returns-3
-    returns-4)
+    tie.close (tie.spec (search needs) (search needs) (search needs) (search needs) returns (search needs) (search needs) (search needs)
+    (search needs) (search needs) (search needs) (search needs) returns-2 returns-3 returns-4)

@@ -5,18 +5,9 @@ use borrow.Author.Needs.{needs}
 use Rattle.linear_programming.proofs.along_line.circle_interval.Statement.{statement}
 use Rattle.linear_programming.proofs.along_line.circle_interval.Tie as tie
 
-dot-requires : tie.Need-dot-requires
-dot-requires c κs = search needs
-
-dot-requires-2 : tie.Need-dot-requires-2
-dot-requires-2 c κs = search needs
-
 returns : tie.Need-returns
 unfolding chord if_then_else_
 returns c = simp (c .if1 .taken, ← c .before .dot2 .ensures, ← c .before .before .dot .ensures)
-
-sqrt-requires : tie.Need-sqrt-requires
-sqrt-requires c κs = search needs
 
 returns-2 : tie.Need-returns-2
 unfolding chord if_then_else_
@@ -24,4 +15,4 @@ returns-2 c = rw (← c .before .before .before .dot .ensures, ← c .before .be
 
 pub circle-interval-spec : {M : Type 1} → statement M
 circle-interval-spec =
-    tie.close (tie.spec dot-requires dot-requires-2 returns sqrt-requires returns-2)
+    tie.close (tie.spec (search needs) (search needs) returns (search needs) returns-2)

@@ -5,21 +5,9 @@ use borrow.Author.Needs.{needs}
 use Rattle.linear_programming.proofs.along_line.cut_at.Statement.{statement}
 use Rattle.linear_programming.proofs.along_line.cut_at.Tie as tie
 
-min-requires : tie.Need-min-requires
-min-requires c κs = search needs
-
-unless-fails-requires : tie.Need-unless-fails-requires
-unless-fails-requires c κs = search needs
-
 returns : tie.Need-returns
 unfolding cut if_then_else_
 returns c = simp (← c .unless-fails .ensures, ← c .before .min .ensures, c .before .before .if1 .taken)
-
-max-requires : tie.Need-max-requires
-max-requires c κs = search needs
-
-unless-fails-requires-2 : tie.Need-unless-fails-requires-2
-unless-fails-requires-2 c κs = search needs
 
 returns-2 : tie.Need-returns-2
 unfolding cut if_then_else_
@@ -27,11 +15,4 @@ returns-2 c = simp (← c .unless-fails2 .ensures, ← c .before .max .ensures, 
 
 pub cut-at-spec : {M : Type 1} → statement M
 cut-at-spec =
-    tie.close
-    (tie.spec
-    min-requires
-    unless-fails-requires
-    returns
-    max-requires
-    unless-fails-requires-2
-    returns-2)
+    tie.close (tie.spec (search needs) (search needs) returns (search needs) (search needs) returns-2)

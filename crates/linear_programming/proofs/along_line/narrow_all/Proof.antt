@@ -24,30 +24,12 @@ abbrev μ-loop : tie.MeasureT-loop
 loop-holds : tie.Need-loop-holds Inv-loop μ-loop
 loop-holds c = (omega arith, refl, refl)
 
-line-at-requires : tie.Need-line-at-requires Inv-loop μ-loop
-line-at-requires c κs = search needs
-
-narrow-by-requires : tie.Need-narrow-by-requires Inv-loop μ-loop
-narrow-by-requires c κs = search needs
-
-enum-known-interval : tie.Need-enum-known-interval Inv-loop μ-loop
-enum-known-interval c = search needs
-
-enum-told : tie.Need-enum-told Inv-loop μ-loop
-enum-told c = search needs
-
 returns : tie.Need-returns Inv-loop μ-loop
 returns c =
     let a = c .before .before .before .before .before .before .before .args in
     let l = c .before .before .before .before .before .loop in
     let step = rw (c .enum-told .given .1, c .before .before .before .line-at .ensures) at (c .before .before .narrow-by .ensures) in
     rw (c .enum-told .given .1) (sym (l .inv .2 ∙ fold-stop (narrow (a .line)) (linesOf (now (a .lines))) (a .count) (l .i) (lines-fit (now (a .lines)) (a .count) (omega arith)) offLine (omega arith) (sym step) (empty-stays (a .line) _)))
-
-add-i : tie.Need-add-i Inv-loop μ-loop
-add-i c = search needs
-
-loop-less : tie.Need-loop-less Inv-loop μ-loop
-loop-less c = search needs
 
 loop-again : tie.Need-loop-again Inv-loop μ-loop
 loop-again c =
@@ -67,17 +49,5 @@ returns-2 c =
 
 pub narrow-all-spec : {M : Type 1} → statement M
 narrow-all-spec =
-    tie.close
-    (tie.spec
-    Inv-loop
-    μ-loop
-    loop-holds
-    line-at-requires
-    narrow-by-requires
-    enum-known-interval
-    enum-told
-    returns
-    add-i
-    loop-less
-    loop-again
-    returns-2)
+    tie.close (tie.spec Inv-loop μ-loop loop-holds (search needs) (search needs) (search needs) (search needs) returns (search needs) (search needs)
+    loop-again returns-2)

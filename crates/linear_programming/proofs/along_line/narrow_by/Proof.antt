@@ -5,27 +5,9 @@ use borrow.Author.Needs.{needs}
 use Rattle.linear_programming.proofs.along_line.narrow_by.Statement.{statement}
 use Rattle.linear_programming.proofs.along_line.narrow_by.Tie as tie
 
-determinant-requires : tie.Need-determinant-requires
-determinant-requires c κs = search needs
-
-sub-requires : tie.Need-sub-requires
-sub-requires c κs = search needs
-
-determinant-requires-2 : tie.Need-determinant-requires-2
-determinant-requires-2 c κs = search needs
-
-abs-requires : tie.Need-abs-requires
-abs-requires c κs = search needs
-
-unless-fails-requires : tie.Need-unless-fails-requires
-unless-fails-requires c κs = search needs
-
 returns : tie.Need-returns
 unfolding narrow if_then_else_
 returns c = simp (← c .unless-fails .ensures, c .before .if1 .taken, ← c .before .before .abs .ensures, ← c .before .before .before .determinant2 .ensures, ← c .before .before .before .before .sub .ensures, ← c .before .before .before .before .before .determinant .ensures)
-
-cut-at-requires : tie.Need-cut-at-requires
-cut-at-requires c κs = search needs
 
 returns-2 : tie.Need-returns-2
 unfolding narrow if_then_else_
@@ -33,13 +15,4 @@ returns-2 c = simp (← c .cut-at .ensures, c .before .if1 .left, ← c .before 
 
 pub narrow-by-spec : {M : Type 1} → statement M
 narrow-by-spec =
-    tie.close
-    (tie.spec
-    determinant-requires
-    sub-requires
-    determinant-requires-2
-    abs-requires
-    unless-fails-requires
-    returns
-    cut-at-requires
-    returns-2)
+    tie.close (tie.spec (search needs) (search needs) (search needs) (search needs) (search needs) returns (search needs) returns-2)

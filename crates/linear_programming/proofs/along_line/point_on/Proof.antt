@@ -4,15 +4,10 @@ use borrow.Author.Needs.{needs}
 use Rattle.linear_programming.proofs.along_line.point_on.Statement.{statement}
 use Rattle.linear_programming.proofs.along_line.point_on.Tie as tie
 
-mul-requires : tie.Need-mul-requires
-mul-requires c κs = search needs
-
-add-requires : tie.Need-add-requires
-add-requires c κs = search needs
-
 returns : tie.Need-returns
 unfolding pointOn
 returns c = simp (← c .add .ensures, ← c .before .mul .ensures)
 
 pub point-on-spec : {M : Type 1} → statement M
-point-on-spec = tie.close (tie.spec mul-requires add-requires returns)
+point-on-spec =
+    tie.close (tie.spec (search needs) (search needs) returns)

@@ -8,29 +8,8 @@ use Rattle.linear_programming.proofs.along_line.solve_linear_program_al
 }
 use Rattle.linear_programming.proofs.along_line.solve_linear_program_along_line.Tie as tie
 
-circle-interval-requires : tie.Need-circle-interval-requires
-circle-interval-requires c κs = search needs
-
-enum-known-left : tie.Need-enum-known-left
-enum-known-left c = search needs
-
-enum-told : tie.Need-enum-told
-enum-told c = search needs
-
 returns : tie.Need-returns
 returns c = missed _ _ _ _ _ (rw (c .enum-told .given .1) at (c .before .before .circle-interval .ensures))
-
-narrow-all-requires : tie.Need-narrow-all-requires
-narrow-all-requires c κs = search needs
-
-enum-known-looked : tie.Need-enum-known-looked
-enum-known-looked c = search needs
-
-enum-known-t-left : tie.Need-enum-known-t-left
-enum-known-t-left c = search needs
-
-best-on-requires : tie.Need-best-on-requires
-best-on-requires c κs = search needs
 
 returns-2 : tie.Need-returns-2
 unfolding choose
@@ -48,15 +27,5 @@ returns-3 c =
 
 pub solve-linear-program-along-line-spec : {M : Type 1} → statement M
 solve-linear-program-along-line-spec =
-    tie.close
-    (tie.spec
-    circle-interval-requires
-    enum-known-left
-    enum-told
-    returns
-    narrow-all-requires
-    enum-known-looked
-    enum-known-t-left
-    best-on-requires
-    returns-2
+    tie.close (tie.spec (search needs) (search needs) (search needs) returns (search needs) (search needs) (search needs) (search needs) returns-2
     returns-3)

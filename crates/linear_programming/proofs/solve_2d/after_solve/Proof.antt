@@ -6,12 +6,6 @@ use borrow.Author.Needs.{needs}
 use Rattle.linear_programming.proofs.solve_2d.after_solve.Statement.{statement}
 use Rattle.linear_programming.proofs.solve_2d.after_solve.Tie as tie
 
-enum-known-along : tie.Need-enum-known-along
-enum-known-along c = search needs
-
-enum-known-along-2 : tie.Need-enum-known-along-2
-enum-known-along-2 c = search needs
-
 returns : tie.Need-returns
 unfolding solved
 returns c = simp (refuses-left (c .before .before .args .along) (c .before .match .keys2) (c .match2 .keys2))
@@ -30,22 +24,10 @@ add-judge-point c =
     let h = rw (c .before .along .given .1) at (c .before .before .before .pre .1) in
     omega arith
 
-judge-point-requires : tie.Need-judge-point-requires
-judge-point-requires c κs = search needs
-
 returns-3 : tie.Need-returns-3
 unfolding solved
 returns-3 c = simp (← c .judge-point .ensures, c .before .before .along .given .1)
 
 pub after-solve-spec : {M : Type 1} → statement M
 after-solve-spec =
-    tie.close
-    (tie.spec
-    enum-known-along
-    enum-known-along-2
-    returns
-    add-t10
-    returns-2
-    add-judge-point
-    judge-point-requires
-    returns-3)
+    tie.close (tie.spec (search needs) (search needs) returns add-t10 returns-2 add-judge-point (search needs) returns-3)

@@ -4,12 +4,6 @@ use borrow.Author.Needs.{needs}
 use Rattle.linear_programming.proofs.solve_2d.is_finite_point.Statement.{statement}
 use Rattle.linear_programming.proofs.solve_2d.is_finite_point.Tie as tie
 
-is-finite-requires : tie.Need-is-finite-requires
-is-finite-requires c κs = search needs
-
-is-finite-requires-2 : tie.Need-is-finite-requires-2
-is-finite-requires-2 c κs = search needs
-
 returns : tie.Need-returns
 unfolding finitePoint
 returns c = simp (← c .is-finite2 .ensures, c .before .if1 .taken, ← c .before .before .is-finite .ensures)
@@ -20,4 +14,4 @@ returns-2 c = simp (c .if1 .left, ← c .before .is-finite .ensures)
 
 pub is-finite-point-spec : {M : Type 1} → statement M
 is-finite-point-spec =
-    tie.close (tie.spec is-finite-requires is-finite-requires-2 returns returns-2)
+    tie.close (tie.spec (search needs) (search needs) returns returns-2)

@@ -5,15 +5,6 @@ use borrow.Author.Needs.{needs}
 use Rattle.linear_programming.proofs.solve_2d.judge_point.Statement.{statement}
 use Rattle.linear_programming.proofs.solve_2d.judge_point.Tie as tie
 
-enum-told : tie.Need-enum-told
-enum-told c = search needs
-
-enum-told-2 : tie.Need-enum-told-2
-enum-told-2 c = search needs
-
-is-finite-point-requires : tie.Need-is-finite-point-requires
-is-finite-point-requires c κs = search needs
-
 returns : tie.Need-returns
 unfolding judged if_then_else_
 returns c = simp (c .if1 .taken, ← c .before .is-finite-point .ensures, c .before .before .enum-told2 .given .1)
@@ -28,4 +19,4 @@ returns-3 c = simp (c .if1 .left, ← c .before .is-finite-point .ensures, c .be
 
 pub judge-point-spec : {M : Type 1} → statement M
 judge-point-spec =
-    tie.close (tie.spec enum-told enum-told-2 is-finite-point-requires returns returns-2 returns-3)
+    tie.close (tie.spec (search needs) (search needs) (search needs) returns returns-2 returns-3)

@@ -11,27 +11,9 @@ use borrow.Author.Needs.{needs}
 use Rattle.linear_programming.proofs.solve_2d.pass_line.Statement.{statement}
 use Rattle.linear_programming.proofs.solve_2d.pass_line.Tie as tie
 
-line-at-requires : tie.Need-line-at-requires
-line-at-requires c κs = search needs
-
-sub-requires : tie.Need-sub-requires
-sub-requires c κs = search needs
-
-determinant-requires : tie.Need-determinant-requires
-determinant-requires c κs = search needs
-
-add-t12 : tie.Need-add-t12
-add-t12 c = search needs
-
 returns : tie.Need-returns
 unfolding passLine if_then_else_
 returns c = simp (c .if1 .taken, ← c .before .determinant .ensures, ← c .before .before .sub .ensures, ← c .before .before .before .line-at .ensures)
-
-solve-linear-program-along-line-requires : tie.Need-solve-linear-program-along-line-requires
-solve-linear-program-along-line-requires c κs = search needs
-
-add-after-solve : tie.Need-add-after-solve
-add-after-solve c = search needs
 
 after-solve-requires : tie.Need-after-solve-requires
 after-solve-requires c κs =
@@ -47,14 +29,5 @@ returns-2 c =
 
 pub pass-line-spec : {M : Type 1} → statement M
 pass-line-spec =
-    tie.close
-    (tie.spec
-    line-at-requires
-    sub-requires
-    determinant-requires
-    add-t12
-    returns
-    solve-linear-program-along-line-requires
-    add-after-solve
-    after-solve-requires
+    tie.close (tie.spec (search needs) (search needs) (search needs) (search needs) returns (search needs) (search needs) after-solve-requires
     returns-2)

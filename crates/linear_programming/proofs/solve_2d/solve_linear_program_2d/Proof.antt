@@ -29,23 +29,11 @@ abbrev μ-loop : tie.MeasureT-loop
 loop-holds : tie.Need-loop-holds Inv-loop μ-loop
 loop-holds c = (omega arith, omega arith, omega arith, refl)
 
-pass-line-requires : tie.Need-pass-line-requires Inv-loop μ-loop
-pass-line-requires c κs = search needs
-
-enum-known-pass : tie.Need-enum-known-pass Inv-loop μ-loop
-enum-known-pass c = search needs
-
 returns : tie.Need-returns Inv-loop μ-loop
 returns c =
     let a = c .before .before .before .before .before .args in
     let l = c .before .before .before .loop in
     sym (l .inv .3 ∙ walk-stop (passLine (objectiveOf (a .optimal-value)) (a .radius)) (linesOf (now (a .lines))) (a .count) (l .i) (lines-fit (now (a .lines)) (a .count) (omega arith)) offLine (omega arith) (sym (c .before .pass-line .ensures)) (ended-stays _ _ (c .before .pass-line .result) (c .match .keys2)))
-
-add-i : tie.Need-add-i Inv-loop μ-loop
-add-i c = search needs
-
-loop-less : tie.Need-loop-less Inv-loop μ-loop
-loop-less c = search needs
 
 loop-again : tie.Need-loop-again Inv-loop μ-loop
 loop-again c =
@@ -67,15 +55,4 @@ returns-2 c =
 
 pub solve-linear-program-2d-spec : {M : Type 1} → statement M
 solve-linear-program-2d-spec =
-    tie.close
-    (tie.spec
-    Inv-loop
-    μ-loop
-    loop-holds
-    pass-line-requires
-    enum-known-pass
-    returns
-    add-i
-    loop-less
-    loop-again
-    returns-2)
+    tie.close (tie.spec Inv-loop μ-loop loop-holds (search needs) (search needs) returns (search needs) (search needs) loop-again returns-2)

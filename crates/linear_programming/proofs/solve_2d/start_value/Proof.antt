@@ -5,30 +5,6 @@ use borrow.Author.Needs.{needs}
 use Rattle.linear_programming.proofs.solve_2d.start_value.Statement.{statement}
 use Rattle.linear_programming.proofs.solve_2d.start_value.Tie as tie
 
-enum-known-optimal-value : tie.Need-enum-known-optimal-value
-enum-known-optimal-value c = search needs
-
-new-requires : tie.Need-new-requires
-new-requires c κs = search needs
-
-mul-requires : tie.Need-mul-requires
-mul-requires c κs = search needs
-
-enum-known-optimal-value-2 : tie.Need-enum-known-optimal-value-2
-enum-known-optimal-value-2 c = search needs
-
-new-requires-2 : tie.Need-new-requires-2
-new-requires-2 c κs = search needs
-
-length-squared-requires : tie.Need-length-squared-requires
-length-squared-requires c κs = search needs
-
-normalize-requires : tie.Need-normalize-requires
-normalize-requires c κs = search needs
-
-mul-requires-2 : tie.Need-mul-requires-2
-mul-requires-2 c κs = search needs
-
 returns : tie.Need-returns
 unfolding start if_then_else_
 returns c = simp (← c .mul2 .ensures, ← c .before .normalize .ensures, c .before .before .if1 .taken, ← c .before .before .before .length-squared .ensures, ← c .before .before .before .before .new2 .ensures, c .before .before .before .before .before .before .optimal-value2 .given .1)
@@ -43,16 +19,5 @@ returns-3 c = simp (c .if1 .left, ← c .before .length-squared .ensures, ← c 
 
 pub start-value-spec : {M : Type 1} → statement M
 start-value-spec =
-    tie.close
-    (tie.spec
-    enum-known-optimal-value
-    new-requires
-    mul-requires
-    enum-known-optimal-value-2
-    new-requires-2
-    length-squared-requires
-    normalize-requires
-    mul-requires-2
-    returns
-    returns-2
-    returns-3)
+    tie.close (tie.spec (search needs) (search needs) (search needs) (search needs) (search needs) (search needs) (search needs) (search needs)
+    returns returns-2 returns-3)

@@ -6,15 +6,6 @@ use borrow.Author.Needs.{needs}
 use Rattle.linear_programming.proofs.solve_3d.after_inner.Statement.{statement}
 use Rattle.linear_programming.proofs.solve_3d.after_inner.Tie as tie
 
-enum-known-inner : tie.Need-enum-known-inner
-enum-known-inner c = search needs
-
-depth-in-requires : tie.Need-depth-in-requires
-depth-in-requires c κs = search needs
-
-are-finite-requires : tie.Need-are-finite-requires
-are-finite-requires c κs = search needs
-
 add-t13 : tie.Need-add-t13
 add-t13 c =
     let h = rw (c .before .before .before .before .inner .given .1) at (c .before .before .before .before .before .before .pre .1) in
@@ -24,16 +15,10 @@ returns : tie.Need-returns
 unfolding replaced if_then_else_
 returns c = simp (c .if1 .taken, ← c .before .are-finite .ensures, ← c .before .before .depth-in .ensures, c .before .before .before .before .inner .given .1)
 
-enum-known-inner-2 : tie.Need-enum-known-inner-2
-enum-known-inner-2 c = search needs
-
 add-t14 : tie.Need-add-t14
 add-t14 c =
     let h = rw (c .before .inner2 .given .1) at (c .before .before .before .pre .1) in
     omega arith
-
-enum-known-inner-3 : tie.Need-enum-known-inner-3
-enum-known-inner-3 c = search needs
 
 returns-2 : tie.Need-returns-2
 unfolding replaced if_then_else_
@@ -49,16 +34,5 @@ returns-4 c = simp (c .before .inner3 .given .1)
 
 pub after-inner-spec : {M : Type 1} → statement M
 after-inner-spec =
-    tie.close
-    (tie.spec
-    enum-known-inner
-    depth-in-requires
-    are-finite-requires
-    add-t13
-    returns
-    enum-known-inner-2
-    add-t14
-    enum-known-inner-3
-    returns-2
-    returns-3
+    tie.close (tie.spec (search needs) (search needs) (search needs) add-t13 returns (search needs) add-t14 (search needs) returns-2 returns-3
     returns-4)

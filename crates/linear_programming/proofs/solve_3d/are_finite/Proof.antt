@@ -3,12 +3,6 @@ use borrow.Author.Needs.{needs}
 use Rattle.linear_programming.proofs.solve_3d.are_finite.Statement.{statement}
 use Rattle.linear_programming.proofs.solve_3d.are_finite.Tie as tie
 
-is-finite-point-requires : tie.Need-is-finite-point-requires
-is-finite-point-requires c κs = search needs
-
-is-finite-requires : tie.Need-is-finite-requires
-is-finite-requires c κs = search needs
-
 returns : tie.Need-returns
 returns c = simp (← c .is-finite .ensures, c .before .if1 .taken, ← c .before .before .is-finite-point .ensures)
 
@@ -17,4 +11,4 @@ returns-2 c = simp (c .if1 .left, ← c .before .is-finite-point .ensures)
 
 pub are-finite-spec : {M : Type 1} → statement M
 are-finite-spec =
-    tie.close (tie.spec is-finite-point-requires is-finite-requires returns returns-2)
+    tie.close (tie.spec (search needs) (search needs) returns returns-2)

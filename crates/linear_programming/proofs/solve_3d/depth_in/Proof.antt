@@ -4,15 +4,10 @@ use borrow.Author.Needs.{needs}
 use Rattle.linear_programming.proofs.solve_3d.depth_in.Statement.{statement}
 use Rattle.linear_programming.proofs.solve_3d.depth_in.Tie as tie
 
-sub-requires : tie.Need-sub-requires
-sub-requires c κs = search needs
-
-determinant-requires : tie.Need-determinant-requires
-determinant-requires c κs = search needs
-
 returns : tie.Need-returns
 unfolding depthIn
 returns c = simp (← c .determinant .ensures, ← c .before .sub .ensures)
 
 pub depth-in-spec : {M : Type 1} → statement M
-depth-in-spec = tie.close (tie.spec sub-requires determinant-requires returns)
+depth-in-spec =
+    tie.close (tie.spec (search needs) (search needs) returns)

@@ -5,32 +5,10 @@ use borrow.Author.Needs.{needs}
 use Rattle.linear_programming.proofs.solve_3d.intersection_point.Statement.{statement}
 use Rattle.linear_programming.proofs.solve_3d.intersection_point.Tie as tie
 
-determinant-requires : tie.Need-determinant-requires
-determinant-requires c κs = search needs
-
-sub-requires : tie.Need-sub-requires
-sub-requires c κs = search needs
-
-determinant-requires-2 : tie.Need-determinant-requires-2
-determinant-requires-2 c κs = search needs
-
-mul-requires : tie.Need-mul-requires
-mul-requires c κs = search needs
-
-add-requires : tie.Need-add-requires
-add-requires c κs = search needs
-
 returns : tie.Need-returns
 unfolding intersection pointOn
 returns c = simp (← c .add .ensures, ← c .before .mul .ensures, ← c .before .before .determinant2 .ensures, ← c .before .before .before .sub .ensures, ← c .before .before .before .before .determinant .ensures)
 
 pub intersection-point-spec : {M : Type 1} → statement M
 intersection-point-spec =
-    tie.close
-    (tie.spec
-    determinant-requires
-    sub-requires
-    determinant-requires-2
-    mul-requires
-    add-requires
-    returns)
+    tie.close (tie.spec (search needs) (search needs) (search needs) (search needs) (search needs) returns)

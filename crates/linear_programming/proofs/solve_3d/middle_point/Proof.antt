@@ -4,15 +4,10 @@ use borrow.Author.Needs.{needs}
 use Rattle.linear_programming.proofs.solve_3d.middle_point.Statement.{statement}
 use Rattle.linear_programming.proofs.solve_3d.middle_point.Tie as tie
 
-add-requires : tie.Need-add-requires
-add-requires c κs = search needs
-
-mul-requires : tie.Need-mul-requires
-mul-requires c κs = search needs
-
 returns : tie.Need-returns
 unfolding midpoint
 returns c = simp (← c .mul .ensures, ← c .before .add .ensures)
 
 pub middle-point-spec : {M : Type 1} → statement M
-middle-point-spec = tie.close (tie.spec add-requires mul-requires returns)
+middle-point-spec =
+    tie.close (tie.spec (search needs) (search needs) returns)

@@ -15,36 +15,9 @@ use borrow.Author.Needs.{needs}
 use Rattle.linear_programming.proofs.solve_3d.relax_line.Statement.{statement}
 use Rattle.linear_programming.proofs.solve_3d.relax_line.Tie as tie
 
-line-at-requires : tie.Need-line-at-requires
-line-at-requires c κs = search needs
-
-depth-in-requires : tie.Need-depth-in-requires
-depth-in-requires c κs = search needs
-
-add-t14 : tie.Need-add-t14
-add-t14 c = search needs
-
 returns : tie.Need-returns
 unfolding relaxLine if_then_else_
 returns c = simp (c .if1 .taken, ← c .before .depth-in .ensures, ← c .before .before .line-at .ensures)
-
-lesser-requires : tie.Need-lesser-requires
-lesser-requires c κs = search needs
-
-slice-aggregate-tighten-into : tie.Need-slice-aggregate-tighten-into
-slice-aggregate-tighten-into c = search needs
-
-tighten-into-requires : tie.Need-tighten-into-requires
-tighten-into-requires c κs = search needs
-
-perp-requires : tie.Need-perp-requires
-perp-requires c κs = search needs
-
-solve-tightened-requires : tie.Need-solve-tightened-requires
-solve-tightened-requires c κs = search needs
-
-add-after-inner : tie.Need-add-after-inner
-add-after-inner c = search needs
 
 after-inner-requires : tie.Need-after-inner-requires
 after-inner-requires c κs =
@@ -70,17 +43,5 @@ returns-2 c =
 
 pub relax-line-spec : {M : Type 1} → statement M
 relax-line-spec =
-    tie.close
-    (tie.spec
-    line-at-requires
-    depth-in-requires
-    add-t14
-    returns
-    lesser-requires
-    slice-aggregate-tighten-into
-    tighten-into-requires
-    perp-requires
-    solve-tightened-requires
-    add-after-inner
-    after-inner-requires
-    returns-2)
+    tie.close (tie.spec (search needs) (search needs) (search needs) returns (search needs) (search needs) (search needs) (search needs)
+    (search needs) (search needs) after-inner-requires returns-2)

@@ -29,15 +29,6 @@ abbrev μ-loop : tie.MeasureT-loop
 loop-holds : tie.Need-loop-holds Inv-loop μ-loop
 loop-holds c = (omega arith, omega arith, omega arith, refl)
 
-relax-line-requires : tie.Need-relax-line-requires Inv-loop μ-loop
-relax-line-requires c κs = search needs
-
-enum-known-relaxed : tie.Need-enum-known-relaxed Inv-loop μ-loop
-enum-known-relaxed c = search needs
-
-enum-told : tie.Need-enum-told Inv-loop μ-loop
-enum-told c = search needs
-
 returns : tie.Need-returns Inv-loop μ-loop
 returns c =
     let a = c .before .before .before .before .before .before .args in
@@ -45,12 +36,6 @@ returns c =
     let step = rw (c .enum-told .given .1) at (c .before .before .relax-line .ensures) in
     rw (c .enum-told .given .1)
     (sym (l .inv .3 ∙ walk-stop (relaxLine (a .rigid) (a .radius)) (linesOf (now (a .lines))) (a .count) (l .i) (lines-fit (now (a .lines)) (a .count) (omega arith)) offLine (omega arith) (sym step) (relax-refused-stays _ _ _)))
-
-add-i : tie.Need-add-i Inv-loop μ-loop
-add-i c = search needs
-
-loop-less : tie.Need-loop-less Inv-loop μ-loop
-loop-less c = search needs
 
 loop-again : tie.Need-loop-again Inv-loop μ-loop
 loop-again c =
@@ -72,16 +57,5 @@ returns-2 c =
 
 pub solve-linear-program-3d-spec : {M : Type 1} → statement M
 solve-linear-program-3d-spec =
-    tie.close
-    (tie.spec
-    Inv-loop
-    μ-loop
-    loop-holds
-    relax-line-requires
-    enum-known-relaxed
-    enum-told
-    returns
-    add-i
-    loop-less
-    loop-again
+    tie.close (tie.spec Inv-loop μ-loop loop-holds (search needs) (search needs) (search needs) returns (search needs) (search needs) loop-again
     returns-2)

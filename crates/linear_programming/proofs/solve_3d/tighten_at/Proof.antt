@@ -4,15 +4,10 @@ use borrow.Author.Needs.{needs}
 use Rattle.linear_programming.proofs.solve_3d.tighten_at.Statement.{statement}
 use Rattle.linear_programming.proofs.solve_3d.tighten_at.Tie as tie
 
-sub-requires : tie.Need-sub-requires
-sub-requires c κs = search needs
-
-normalize-requires : tie.Need-normalize-requires
-normalize-requires c κs = search needs
-
 returns : tie.Need-returns
 unfolding tightAt
 returns c = simp (← c .normalize .ensures, ← c .before .sub .ensures)
 
 pub tighten-at-spec : {M : Type 1} → statement M
-tighten-at-spec = tie.close (tie.spec sub-requires normalize-requires returns)
+tighten-at-spec =
+    tie.close (tie.spec (search needs) (search needs) returns)

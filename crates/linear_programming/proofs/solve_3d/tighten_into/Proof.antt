@@ -25,9 +25,6 @@ Inv-loop lines rigid index constraint tight₀ n₀ i₀ tight n i =
 abbrev μ-loop : tie.MeasureT-loop
 μ-loop lines rigid index constraint tight₀ n₀ i₀ tight n i = index - i
 
-copy-rigid-requires : tie.Need-copy-rigid-requires Inv-loop μ-loop
-copy-rigid-requires c κs = search needs
-
 loop-holds : tie.Need-loop-holds Inv-loop μ-loop
 unfolding tightened
 loop-holds c =
@@ -37,27 +34,6 @@ loop-holds c =
       c .before .before .copy-rigid .ensures .0,
       rw (take-take (a .rigid) (a .index) (linesOf (now (a .lines))) (omega arith), c .before .before .copy-rigid .ensures .1),
     )
-
-line-at-requires : tie.Need-line-at-requires Inv-loop μ-loop
-line-at-requires c κs = search needs
-
-add-i : tie.Need-add-i Inv-loop μ-loop
-add-i c = search needs
-
-tighten-requires : tie.Need-tighten-requires Inv-loop μ-loop
-tighten-requires c κs = search needs
-
-enum-known-line : tie.Need-enum-known-line Inv-loop μ-loop
-enum-known-line c = search needs
-
-put-line-requires : tie.Need-put-line-requires Inv-loop μ-loop
-put-line-requires c κs = search needs
-
-add-n : tie.Need-add-n Inv-loop μ-loop
-add-n c = search needs
-
-loop-less : tie.Need-loop-less Inv-loop μ-loop
-loop-less c = search needs
 
 loop-again : tie.Need-loop-again Inv-loop μ-loop
 loop-again c =
@@ -75,12 +51,6 @@ loop-again c =
           (next-kept _ _ _ _ made ∙ rw (c .before .before .put-line .ensures, stored-next (l .tight) (l .n) _ (omega arith))),
     )
 
-enum-told : tie.Need-enum-told Inv-loop μ-loop
-enum-told c = search needs
-
-loop-less-2 : tie.Need-loop-less-2 Inv-loop μ-loop
-loop-less-2 c = search needs
-
 loop-again-2 : tie.Need-loop-again-2 Inv-loop μ-loop
 loop-again-2 c =
     let a = c .before .before .before .before .before .before .before .before .before .before .before .before .args in
@@ -93,9 +63,6 @@ loop-again-2 c =
       l .inv .3 ∙ fold-on (tightenNext (a .constraint)) (linesOf b) (a .index) (l .i) (lines-fit b (a .index) (omega arith)) offLine (omega arith) (next-skipped _ _ _ made),
     )
 
-same-length : tie.Need-same-length Inv-loop μ-loop
-same-length c = search needs
-
 returns : tie.Need-returns Inv-loop μ-loop
 returns c =
     let a = c .before .before .before .before .before .before .before .before .args in
@@ -105,22 +72,5 @@ returns c =
 
 pub tighten-into-spec : {M : Type 1} → statement M
 tighten-into-spec =
-    tie.close
-    (tie.spec
-    Inv-loop
-    μ-loop
-    copy-rigid-requires
-    loop-holds
-    line-at-requires
-    add-i
-    tighten-requires
-    enum-known-line
-    put-line-requires
-    add-n
-    loop-less
-    loop-again
-    enum-told
-    loop-less-2
-    loop-again-2
-    same-length
-    returns)
+    tie.close (tie.spec Inv-loop μ-loop (search needs) loop-holds (search needs) (search needs) (search needs) (search needs) (search needs)
+    (search needs) (search needs) loop-again (search needs) (search needs) loop-again-2 (search needs) returns)

@@ -9,12 +9,6 @@ use borrow.Author.Needs.{needs}
 use Rattle.linear_programming.proofs.solve_list.after_pass.Statement.{statement}
 use Rattle.linear_programming.proofs.solve_list.after_pass.Tie as tie
 
-enum-known-pass : tie.Need-enum-known-pass
-enum-known-pass c = search needs
-
-enum-known-pass-2 : tie.Need-enum-known-pass-2
-enum-known-pass-2 c = search needs
-
 returns : tie.Need-returns
 unfolding afterPass if_then_else_
 returns c = simp (lt-ltb _ _ (c .if1 .taken), c .before .before .pass2 .given .1)
@@ -25,12 +19,6 @@ solve-linear-program-3d-requires c κs =
     let probes = rw (c .before .before .pass2 .given .1) at (before .2) in
     let index = rw (c .before .before .pass2 .given .1) at (before .3) in
     (index, before .0, before .1, probes)
-
-relaxed-answer-requires : tie.Need-relaxed-answer-requires
-relaxed-answer-requires c κs = search needs
-
-enum-known-pass-3 : tie.Need-enum-known-pass-3
-enum-known-pass-3 c = search needs
 
 returns-2 : tie.Need-returns-2
 unfolding afterPass if_then_else_
@@ -55,14 +43,5 @@ returns-4 c = simp (c .before .pass3 .given .1)
 
 pub after-pass-spec : {M : Type 1} → statement M
 after-pass-spec =
-    tie.close
-    (tie.spec
-    enum-known-pass
-    enum-known-pass-2
-    returns
-    solve-linear-program-3d-requires
-    relaxed-answer-requires
-    enum-known-pass-3
-    returns-2
-    returns-3
+    tie.close (tie.spec (search needs) (search needs) returns solve-linear-program-3d-requires (search needs) (search needs) returns-2 returns-3
     returns-4)

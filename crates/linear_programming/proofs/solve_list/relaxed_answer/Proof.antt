@@ -3,12 +3,6 @@ use borrow.Author.Needs.{needs}
 use Rattle.linear_programming.proofs.solve_list.relaxed_answer.Statement.{statement}
 use Rattle.linear_programming.proofs.solve_list.relaxed_answer.Tie as tie
 
-enum-known-relaxed : tie.Need-enum-known-relaxed
-enum-known-relaxed c = search needs
-
-enum-known-relaxed-2 : tie.Need-enum-known-relaxed-2
-enum-known-relaxed-2 c = search needs
-
 returns : tie.Need-returns
 returns c = simp (c .before .relaxed .given .1)
 
@@ -17,4 +11,4 @@ returns-2 c = simp (c .before .relaxed2 .given .1)
 
 pub relaxed-answer-spec : {M : Type 1} → statement M
 relaxed-answer-spec =
-    tie.close (tie.spec enum-known-relaxed enum-known-relaxed-2 returns returns-2)
+    tie.close (tie.spec (search needs) (search needs) returns returns-2)

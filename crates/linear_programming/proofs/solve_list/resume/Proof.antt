@@ -19,15 +19,6 @@ use Rattle.linear_programming.proofs.solve_list.resume.Tie as tie
 parts : (l : List Line) (n i : ℕ) → n ≤ length l → i ≤ n → length (take i l ++ drop i (take n l)) ≡ n
 parts l n i fits h = rw (← take-take i n l h, take-append-drop i (take n l)) (length-take-le n l fits)
 
-enum-known-phase : tie.Need-enum-known-phase
-enum-known-phase c = search needs
-
-new-requires : tie.Need-new-requires
-new-requires c κs = search needs
-
-solve-linear-program-2d-requires : tie.Need-solve-linear-program-2d-requires
-solve-linear-program-2d-requires c κs = search needs
-
 after-pass-requires : tie.Need-after-pass-requires
 after-pass-requires c κs =
     let start = c .before .before .before .before .before .before in
@@ -36,21 +27,6 @@ after-pass-requires c κs =
     let few = start .pre .1 in
     let bounds = pass-bounds _ _ (take (start .args .from) lines) (drop (start .args .from) (take (start .args .count) lines)) _ (c .solve-linear-program-2d .result) (omega (arith, size)) (c .solve-linear-program-2d .ensures) in
     (few, start .pre .2, bounds .0, omega (arith, size, bounds .1))
-
-enum-known-phase-2 : tie.Need-enum-known-phase-2
-enum-known-phase-2 c = search needs
-
-new-requires-2 : tie.Need-new-requires-2
-new-requires-2 c κs = search needs
-
-solve-linear-program-3d-requires : tie.Need-solve-linear-program-3d-requires
-solve-linear-program-3d-requires c κs = search needs
-
-relaxed-answer-requires : tie.Need-relaxed-answer-requires
-relaxed-answer-requires c κs = search needs
-
-enum-known-phase-3 : tie.Need-enum-known-phase-3
-enum-known-phase-3 c = search needs
 
 returns : tie.Need-returns
 unfolding resumed
@@ -70,17 +46,5 @@ returns-3 c = simp (c .before .phase3 .given .1)
 
 pub resume-spec : {M : Type 1} → statement M
 resume-spec =
-    tie.close
-    (tie.spec
-    enum-known-phase
-    new-requires
-    solve-linear-program-2d-requires
-    after-pass-requires
-    enum-known-phase-2
-    new-requires-2
-    solve-linear-program-3d-requires
-    relaxed-answer-requires
-    enum-known-phase-3
-    returns
-    returns-2
-    returns-3)
+    tie.close (tie.spec (search needs) (search needs) (search needs) after-pass-requires (search needs) (search needs) (search needs) (search needs)
+    (search needs) returns returns-2 returns-3)

@@ -13,15 +13,6 @@ use borrow.Author.Needs.{needs}
 use Rattle.linear_programming.proofs.solve_list.solve_from_start.Statement.{statement}
 use Rattle.linear_programming.proofs.solve_list.solve_from_start.Tie as tie
 
-start-value-requires : tie.Need-start-value-requires
-start-value-requires c κs = search needs
-
-is-finite-point-requires : tie.Need-is-finite-point-requires
-is-finite-point-requires c κs = search needs
-
-resume-requires : tie.Need-resume-requires
-resume-requires c κs = search needs
-
 returns : tie.Need-returns
 unfolding wholeList pass judged resumed if_then_else_
 returns c = simp (← c .resume .ensures, c .before .if1 .taken, ← c .before .before .is-finite-point .ensures, ← c .before .before .before .start-value .ensures)
@@ -34,5 +25,4 @@ returns-2 c =
 
 pub solve-from-start-spec : {M : Type 1} → statement M
 solve-from-start-spec =
-    tie.close
-    (tie.spec start-value-requires is-finite-point-requires resume-requires returns returns-2)
+    tie.close (tie.spec (search needs) (search needs) (search needs) returns returns-2)

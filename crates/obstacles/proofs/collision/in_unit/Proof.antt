@@ -12,4 +12,5 @@ unfolding inUnit
 returns-2 c = simp (c .if1 .left)
 
 pub in-unit-spec : {M : Type 1} → statement M
-in-unit-spec = tie.close (tie.spec returns returns-2)
+in-unit-spec =
+    tie.close (tie.spec returns returns-2)

@@ -4,21 +4,9 @@ use borrow.Author.Needs.{needs}
 use Rattle.obstacles.proofs.collision.is_handled_by_next.Statement.{statement}
 use Rattle.obstacles.proofs.collision.is_handled_by_next.Tie as tie
 
-enum-known-right-right-vertex : tie.Need-enum-known-right-right-vertex
-enum-known-right-right-vertex c = search needs
-
-enum-told : tie.Need-enum-told
-enum-told c = search needs
-
 returns : tie.Need-returns
 unfolding nextHandles
 returns c = simp (c .enum-told .given .1)
-
-sub-requires : tie.Need-sub-requires
-sub-requires c κs = search needs
-
-determinant-requires : tie.Need-determinant-requires
-determinant-requires c κs = search needs
 
 returns-2 : tie.Need-returns-2
 unfolding nextHandles
@@ -30,12 +18,4 @@ returns-3 c = simp (c .if1 .left, c .before .before .right-right-vertex .given .
 
 pub is-handled-by-next-spec : {M : Type 1} → statement M
 is-handled-by-next-spec =
-    tie.close
-    (tie.spec
-    enum-known-right-right-vertex
-    enum-told
-    returns
-    sub-requires
-    determinant-requires
-    returns-2
-    returns-3)
+    tie.close (tie.spec (search needs) (search needs) returns (search needs) (search needs) returns-2 returns-3)

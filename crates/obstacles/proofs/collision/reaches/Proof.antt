@@ -12,4 +12,5 @@ unfolding reaches
 returns-2 c = simp (c .if1 .left)
 
 pub reaches-spec : {M : Type 1} → statement M
-reaches-spec = tie.close (tie.spec returns returns-2)
+reaches-spec =
+    tie.close (tie.spec returns returns-2)

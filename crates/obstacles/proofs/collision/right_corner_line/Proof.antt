@@ -5,15 +5,9 @@ use borrow.Author.Needs.{needs}
 use Rattle.obstacles.proofs.collision.right_corner_line.Statement.{statement}
 use Rattle.obstacles.proofs.collision.right_corner_line.Tie as tie
 
-is-handled-by-next-requires : tie.Need-is-handled-by-next-requires
-is-handled-by-next-requires c κs = search needs
-
 returns : tie.Need-returns
 unfolding rightCornerLine if_then_else_
 returns c = simp (c .if1 .taken, ← c .before .is-handled-by-next .ensures)
-
-corner-line-requires : tie.Need-corner-line-requires
-corner-line-requires c κs = search needs
 
 returns-2 : tie.Need-returns-2
 unfolding rightCornerLine if_then_else_
@@ -21,4 +15,4 @@ returns-2 c = simp (← c .corner-line .ensures, c .before .if1 .left, ← c .be
 
 pub right-corner-line-spec : {M : Type 1} → statement M
 right-corner-line-spec =
-    tie.close (tie.spec is-handled-by-next-requires returns corner-line-requires returns-2)
+    tie.close (tie.spec (search needs) returns (search needs) returns-2)

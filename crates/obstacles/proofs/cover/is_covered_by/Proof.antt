@@ -4,12 +4,6 @@ use borrow.Author.Needs.{needs}
 use Rattle.obstacles.proofs.cover.is_covered_by.Statement.{statement}
 use Rattle.obstacles.proofs.cover.is_covered_by.Tie as tie
 
-is-deep-requires : tie.Need-is-deep-requires
-is-deep-requires c κs = search needs
-
-is-deep-requires-2 : tie.Need-is-deep-requires-2
-is-deep-requires-2 c κs = search needs
-
 returns : tie.Need-returns
 unfolding covers
 returns c = simp (← c .is-deep2 .ensures, c .before .if1 .taken, ← c .before .before .is-deep .ensures)
@@ -19,4 +13,5 @@ unfolding covers
 returns-2 c = simp (c .if1 .left, ← c .before .is-deep .ensures)
 
 pub is-covered-by-spec : {M : Type 1} → statement M
-is-covered-by-spec = tie.close (tie.spec is-deep-requires is-deep-requires-2 returns returns-2)
+is-covered-by-spec =
+    tie.close (tie.spec (search needs) (search needs) returns returns-2)

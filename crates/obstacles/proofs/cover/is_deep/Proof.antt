@@ -4,18 +4,10 @@ use borrow.Author.Needs.{needs}
 use Rattle.obstacles.proofs.cover.is_deep.Statement.{statement}
 use Rattle.obstacles.proofs.cover.is_deep.Tie as tie
 
-div-requires : tie.Need-div-requires
-div-requires c κs = search needs
-
-sub-requires : tie.Need-sub-requires
-sub-requires c κs = search needs
-
-determinant-requires : tie.Need-determinant-requires
-determinant-requires c κs = search needs
-
 returns : tie.Need-returns
 unfolding isDeep
 returns c = simp (← c .determinant .ensures, ← c .before .sub .ensures, ← c .before .before .div .ensures)
 
 pub is-deep-spec : {M : Type 1} → statement M
-is-deep-spec = tie.close (tie.spec div-requires sub-requires determinant-requires returns)
+is-deep-spec =
+    tie.close (tie.spec (search needs) (search needs) (search needs) returns)

@@ -22,12 +22,6 @@ abbrev μ-loop : tie.MeasureT-loop
 loop-holds : tie.Need-loop-holds Inv-loop μ-loop
 loop-holds c = (omega arith, refl)
 
-line-at-requires : tie.Need-line-at-requires Inv-loop μ-loop
-line-at-requires c κs = search needs
-
-is-covered-by-requires : tie.Need-is-covered-by-requires Inv-loop μ-loop
-is-covered-by-requires c κs = search needs
-
 returns : tie.Need-returns Inv-loop μ-loop
 returns c =
     let a = c .before .before .before .before .before .before .args in
@@ -35,12 +29,6 @@ returns c =
     let b = now (a .existing-lines) in
     let hit = rw (c .if1 .taken, c .before .before .line-at .ensures) at (c .before .is-covered-by .ensures) in
     sym (l .inv .1 ∙ covered-at (a .left-vertex) (a .right-vertex) (a .horizon) (a .margin) (linesOf b) (l .i) offLine (omega (arith, lines-long b)) hit)
-
-add-i : tie.Need-add-i Inv-loop μ-loop
-add-i c = search needs
-
-loop-less : tie.Need-loop-less Inv-loop μ-loop
-loop-less c = search needs
 
 loop-again : tie.Need-loop-again Inv-loop μ-loop
 loop-again c =
@@ -59,15 +47,4 @@ returns-2 c =
 
 pub is-edge-covered-spec : {M : Type 1} → statement M
 is-edge-covered-spec =
-    tie.close
-    (tie.spec
-    Inv-loop
-    μ-loop
-    loop-holds
-    line-at-requires
-    is-covered-by-requires
-    returns
-    add-i
-    loop-less
-    loop-again
-    returns-2)
+    tie.close (tie.spec Inv-loop μ-loop loop-holds (search needs) (search needs) returns (search needs) (search needs) loop-again returns-2)

@@ -12,4 +12,5 @@ unfolding areBelow
 returns-2 c = simp (c .if1 .left)
 
 pub are-below-spec : {M : Type 1} → statement M
-are-below-spec = tie.close (tie.spec returns returns-2)
+are-below-spec =
+    tie.close (tie.spec returns returns-2)

@@ -12,4 +12,5 @@ unfolding atMostBoth
 returns-2 c = simp (c .if1 .left)
 
 pub at-most-both-spec : {M : Type 1} → statement M
-at-most-both-spec = tie.close (tie.spec returns returns-2)
+at-most-both-spec =
+    tie.close (tie.spec returns returns-2)

@@ -5,28 +5,13 @@ use borrow.Author.Needs.{needs}
 use Rattle.obstacles.proofs.cutoffs.choose_line.Statement.{statement}
 use Rattle.obstacles.proofs.cutoffs.choose_line.Tie as tie
 
-projects-to-left-requires : tie.Need-projects-to-left-requires
-projects-to-left-requires c κs = search needs
-
-vertex-line-requires : tie.Need-vertex-line-requires
-vertex-line-requires c κs = search needs
-
 returns : tie.Need-returns
 unfolding chooseLine if_then_else_
 returns c = simp (← c .vertex-line .ensures, c .before .if1 .taken, ← c .before .before .projects-to-left .ensures)
 
-projects-to-right-requires : tie.Need-projects-to-right-requires
-projects-to-right-requires c κs = search needs
-
-vertex-line-requires-2 : tie.Need-vertex-line-requires-2
-vertex-line-requires-2 c κs = search needs
-
 returns-2 : tie.Need-returns-2
 unfolding chooseLine if_then_else_
 returns-2 c = simp (← c .vertex-line2 .ensures, c .before .if2 .taken, ← c .before .before .projects-to-right .ensures, c .before .before .before .if1 .left, ← c .before .before .before .before .projects-to-left .ensures)
-
-nearest-line-requires : tie.Need-nearest-line-requires
-nearest-line-requires c κs = search needs
 
 returns-3 : tie.Need-returns-3
 unfolding chooseLine if_then_else_
@@ -34,13 +19,4 @@ returns-3 c = simp (← c .nearest-line .ensures, c .before .if2 .left, ← c .b
 
 pub choose-line-spec : {M : Type 1} → statement M
 choose-line-spec =
-    tie.close
-    (tie.spec
-    projects-to-left-requires
-    vertex-line-requires
-    returns
-    projects-to-right-requires
-    vertex-line-requires-2
-    returns-2
-    nearest-line-requires
-    returns-3)
+    tie.close (tie.spec (search needs) (search needs) returns (search needs) (search needs) returns-2 (search needs) returns-3)

@@ -4,9 +4,6 @@ use borrow.Author.Needs.{needs}
 use Rattle.obstacles.proofs.cutoffs.misses_cutoff.Statement.{statement}
 use Rattle.obstacles.proofs.cutoffs.misses_cutoff.Tie as tie
 
-in-unit-requires : tie.Need-in-unit-requires
-in-unit-requires c κs = search needs
-
 returns : tie.Need-returns
 unfolding missesCutoff
 returns c = simp (c .if1 .taken, ← c .before .in-unit .ensures)
@@ -16,4 +13,5 @@ unfolding missesCutoff
 returns-2 c = simp (c .if1 .left, ← c .before .in-unit .ensures)
 
 pub misses-cutoff-spec : {M : Type 1} → statement M
-misses-cutoff-spec = tie.close (tie.spec in-unit-requires returns returns-2)
+misses-cutoff-spec =
+    tie.close (tie.spec (search needs) returns returns-2)

@@ -4,15 +4,9 @@ use borrow.Author.Needs.{needs}
 use Rattle.obstacles.proofs.cutoffs.projects_to_left.Statement.{statement}
 use Rattle.obstacles.proofs.cutoffs.projects_to_left.Tie as tie
 
-are-below-requires : tie.Need-are-below-requires
-are-below-requires c κs = search needs
-
 returns : tie.Need-returns
 unfolding projectsLeft
 returns c = simp (c .if1 .taken, ← c .before .are-below .ensures)
-
-are-below-requires-2 : tie.Need-are-below-requires-2
-are-below-requires-2 c κs = search needs
 
 returns-2 : tie.Need-returns-2
 unfolding projectsLeft
@@ -24,4 +18,4 @@ returns-3 c = simp (c .if2 .left, c .before .if1 .left, ← c .before .before .a
 
 pub projects-to-left-spec : {M : Type 1} → statement M
 projects-to-left-spec =
-    tie.close (tie.spec are-below-requires returns are-below-requires-2 returns-2 returns-3)
+    tie.close (tie.spec (search needs) returns (search needs) returns-2 returns-3)

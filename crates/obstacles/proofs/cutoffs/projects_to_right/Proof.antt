@@ -12,4 +12,5 @@ unfolding projectsRight
 returns-2 c = simp (c .if1 .left)
 
 pub projects-to-right-spec : {M : Type 1} → statement M
-projects-to-right-spec = tie.close (tie.spec returns returns-2)
+projects-to-right-spec =
+    tie.close (tie.spec returns returns-2)

@@ -9,33 +9,6 @@ returns : tie.Need-returns
 unfolding shadowLine besideShadow if_then_else_
 returns c = simp (c .if1 .taken)
 
-perp-requires : tie.Need-perp-requires
-perp-requires c κs = search needs
-
-mul-requires : tie.Need-mul-requires
-mul-requires c κs = search needs
-
-enum-told : tie.Need-enum-told
-enum-told c = search needs
-
-add-requires : tie.Need-add-requires
-add-requires c κs = search needs
-
-new-requires : tie.Need-new-requires
-new-requires c κs = search needs
-
-enum-told-2 : tie.Need-enum-told-2
-enum-told-2 c = search needs
-
-sub-requires : tie.Need-sub-requires
-sub-requires c κs = search needs
-
-neg-requires : tie.Need-neg-requires
-neg-requires c κs = search needs
-
-new-requires-2 : tie.Need-new-requires-2
-new-requires-2 c κs = search needs
-
 returns-2 : tie.Need-returns-2
 unfolding shadowLine besideShadow if_then_else_
 returns-2 c = simp (← c .new .ensures, ← c .before .add .ensures, c .before .before .enum-told .given .1, ← c .before .before .before .before .mul .ensures, ← c .before .before .before .before .before .perp .ensures, c .before .before .before .before .before .before .before .if1 .left)
@@ -46,17 +19,5 @@ returns-3 c = simp (← c .new2 .ensures, ← c .before .neg .ensures, ← c .be
 
 pub shadow-line-spec : {M : Type 1} → statement M
 shadow-line-spec =
-    tie.close
-    (tie.spec
-    returns
-    perp-requires
-    mul-requires
-    enum-told
-    add-requires
-    new-requires
-    enum-told-2
-    sub-requires
-    neg-requires
-    new-requires-2
-    returns-2
-    returns-3)
+    tie.close (tie.spec returns (search needs) (search needs) (search needs) (search needs) (search needs) (search needs) (search needs)
+    (search needs) (search needs) returns-2 returns-3)

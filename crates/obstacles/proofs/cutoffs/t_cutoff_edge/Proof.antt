@@ -9,19 +9,10 @@ returns : tie.Need-returns
 unfolding tCutoff if_then_else_
 returns c = simp (c .if1 .taken)
 
-sub-requires : tie.Need-sub-requires
-sub-requires c κs = search needs
-
-dot-requires : tie.Need-dot-requires
-dot-requires c κs = search needs
-
-length-squared-requires : tie.Need-length-squared-requires
-length-squared-requires c κs = search needs
-
 returns-2 : tie.Need-returns-2
 unfolding tCutoff if_then_else_
 returns-2 c = simp (← c .length-squared .ensures, ← c .before .dot .ensures, ← c .before .before .sub .ensures, c .before .before .before .if1 .left)
 
 pub t-cutoff-edge-spec : {M : Type 1} → statement M
 t-cutoff-edge-spec =
-    tie.close (tie.spec returns sub-requires dot-requires length-squared-requires returns-2)
+    tie.close (tie.spec returns (search needs) (search needs) (search needs) returns-2)

@@ -4,12 +4,6 @@ use borrow.Author.Needs.{needs}
 use Rattle.obstacles.proofs.edges.alone.Statement.{statement}
 use Rattle.obstacles.proofs.edges.alone.Tie as tie
 
-enum-told : tie.Need-enum-told
-enum-told c = search needs
-
-enum-told-2 : tie.Need-enum-told-2
-enum-told-2 c = search needs
-
 returns : tie.Need-returns
 unfolding alone
 returns c = simp (c .enum-told .given .1)
@@ -19,4 +13,5 @@ unfolding alone
 returns-2 c = simp (c .enum-told2 .given .1)
 
 pub alone-spec : {M : Type 1} → statement M
-alone-spec = tie.close (tie.spec enum-told enum-told-2 returns returns-2)
+alone-spec =
+    tie.close (tie.spec (search needs) (search needs) returns returns-2)

@@ -5,37 +5,13 @@ use borrow.Author.Needs.{needs}
 use Rattle.obstacles.proofs.edges.get_line_for_agent_to_edge.Statement.{statement}
 use Rattle.obstacles.proofs.edges.get_line_for_agent_to_edge.Tie as tie
 
-sub-requires : tie.Need-sub-requires
-sub-requires c κs = search needs
-
-sub-requires-2 : tie.Need-sub-requires-2
-sub-requires-2 c κs = search needs
-
-sub-requires-3 : tie.Need-sub-requires-3
-sub-requires-3 c κs = search needs
-
-neg-requires : tie.Need-neg-requires
-neg-requires c κs = search needs
-
-determinant-requires : tie.Need-determinant-requires
-determinant-requires c κs = search needs
-
 returns : tie.Need-returns
 unfolding lineForEdge if_then_else_
 returns c = simp (c .if1 .taken, ← c .before .determinant .ensures, ← c .before .before .neg .ensures, ← c .before .before .before .sub3 .ensures, ← c .before .before .before .before .sub2 .ensures, ← c .before .before .before .before .before .sub .ensures)
 
-is-edge-covered-requires : tie.Need-is-edge-covered-requires
-is-edge-covered-requires c κs = search needs
-
 returns-2 : tie.Need-returns-2
 unfolding lineForEdge if_then_else_
 returns-2 c = simp (c .if2 .taken, ← c .before .is-edge-covered .ensures, c .before .before .if1 .left, ← c .before .before .before .determinant .ensures, ← c .before .before .before .before .neg .ensures, ← c .before .before .before .before .before .sub3 .ensures, ← c .before .before .before .before .before .before .sub2 .ensures, ← c .before .before .before .before .before .before .before .sub .ensures)
-
-edge-shape-requires : tie.Need-edge-shape-requires
-edge-shape-requires c κs = search needs
-
-line-in-front-requires : tie.Need-line-in-front-requires
-line-in-front-requires c κs = search needs
 
 returns-3 : tie.Need-returns-3
 unfolding lineForEdge if_then_else_
@@ -43,16 +19,5 @@ returns-3 c = simp (← c .line-in-front .ensures, ← c .before .edge-shape .en
 
 pub get-line-for-agent-to-edge-spec : {M : Type 1} → statement M
 get-line-for-agent-to-edge-spec =
-    tie.close
-    (tie.spec
-    sub-requires
-    sub-requires-2
-    sub-requires-3
-    neg-requires
-    determinant-requires
-    returns
-    is-edge-covered-requires
-    returns-2
-    edge-shape-requires
-    line-in-front-requires
-    returns-3)
+    tie.close (tie.spec (search needs) (search needs) (search needs) (search needs) (search needs) returns (search needs) returns-2 (search needs)
+    (search needs) returns-3)

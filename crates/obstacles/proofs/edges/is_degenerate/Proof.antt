@@ -4,12 +4,10 @@ use borrow.Author.Needs.{needs}
 use Rattle.obstacles.proofs.edges.is_degenerate.Statement.{statement}
 use Rattle.obstacles.proofs.edges.is_degenerate.Tie as tie
 
-eq-requires : tie.Need-eq-requires
-eq-requires c κs = search needs
-
 returns : tie.Need-returns
 unfolding isDegenerate
 returns c = simp (← c .eq .ensures)
 
 pub is-degenerate-spec : {M : Type 1} → statement M
-is-degenerate-spec = tie.close (tie.spec eq-requires returns)
+is-degenerate-spec =
+    tie.close (tie.spec (search needs) returns)

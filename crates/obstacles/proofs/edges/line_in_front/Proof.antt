@@ -5,44 +5,17 @@ use borrow.Author.Needs.{needs}
 use Rattle.obstacles.proofs.edges.line_in_front.Statement.{statement}
 use Rattle.obstacles.proofs.edges.line_in_front.Tie as tie
 
-reaches-requires : tie.Need-reaches-requires
-reaches-requires c κs = search needs
-
-corner-line-requires : tie.Need-corner-line-requires
-corner-line-requires c κs = search needs
-
 returns : tie.Need-returns
 unfolding lineInFront if_then_else_
 returns c = simp (← c .corner-line .ensures, c .before .if1 .taken, ← c .before .before .reaches .ensures)
-
-reaches-requires-2 : tie.Need-reaches-requires-2
-reaches-requires-2 c κs = search needs
-
-right-corner-line-requires : tie.Need-right-corner-line-requires
-right-corner-line-requires c κs = search needs
 
 returns-2 : tie.Need-returns-2
 unfolding lineInFront if_then_else_
 returns-2 c = simp (← c .right-corner-line .ensures, c .before .if2 .taken, ← c .before .before .reaches2 .ensures, c .before .before .before .before .if1 .left, ← c .before .before .before .before .before .reaches .ensures)
 
-in-unit-requires : tie.Need-in-unit-requires
-in-unit-requires c κs = search needs
-
-reaches-requires-3 : tie.Need-reaches-requires-3
-reaches-requires-3 c κs = search needs
-
-neg-requires : tie.Need-neg-requires
-neg-requires c κs = search needs
-
-new-requires : tie.Need-new-requires
-new-requires c κs = search needs
-
 returns-3 : tie.Need-returns-3
 unfolding lineInFront if_then_else_
 returns-3 c = simp (← c .new .ensures, ← c .before .neg .ensures, c .before .before .if3 .taken, ← c .before .before .before .reaches3 .ensures, ← c .before .before .before .before .in-unit .ensures, c .before .before .before .before .before .if2 .left, ← c .before .before .before .before .before .before .reaches2 .ensures, c .before .before .before .before .before .before .before .before .if1 .left, ← c .before .before .before .before .before .before .before .before .before .reaches .ensures)
-
-line-past-requires : tie.Need-line-past-requires
-line-past-requires c κs = search needs
 
 returns-4 : tie.Need-returns-4
 unfolding lineInFront if_then_else_
@@ -50,18 +23,5 @@ returns-4 c = simp (← c .line-past .ensures, c .before .if3 .left, ← c .befo
 
 pub line-in-front-spec : {M : Type 1} → statement M
 line-in-front-spec =
-    tie.close
-    (tie.spec
-    reaches-requires
-    corner-line-requires
-    returns
-    reaches-requires-2
-    right-corner-line-requires
-    returns-2
-    in-unit-requires
-    reaches-requires-3
-    neg-requires
-    new-requires
-    returns-3
-    line-past-requires
-    returns-4)
+    tie.close (tie.spec (search needs) (search needs) returns (search needs) (search needs) returns-2 (search needs) (search needs) (search needs)
+    (search needs) returns-3 (search needs) returns-4)

@@ -25,9 +25,6 @@ Inv-loop agent kind vertices margin horizon lines₀ edges count₀ i₀ lines c
 abbrev μ-loop : tie.MeasureT-loop
 μ-loop agent kind vertices margin horizon lines₀ edges count₀ i₀ lines count i = edges - i
 
-edge-count-requires : tie.Need-edge-count-requires Inv-loop μ-loop
-edge-count-requires c κs = search needs
-
 loop-holds : tie.Need-loop-holds Inv-loop μ-loop
 unfolding linesUpTo linesOf
 loop-holds c = (omega arith, omega arith, filled-none _ (c .before .before .before .pre .1), refl)
@@ -38,9 +35,6 @@ mul-admitted-line c = omega (arith, c .before .before .edge-count .ensures .1, c
 sub-admitted-line : tie.Need-sub-admitted-line Inv-loop μ-loop
 sub-admitted-line c = omega arith
 
-part-admitted-line-start : tie.Need-part-admitted-line-start Inv-loop μ-loop
-part-admitted-line-start c = search needs
-
 part-admitted-line-end : tie.Need-part-admitted-line-end Inv-loop μ-loop
 part-admitted-line-end c = omega (arith, c .before .before .before .edge-count .ensures .1, c .before .before .before .before .before .before .pre .0, c .before .before .loop .inv .2 .size)
 
@@ -49,12 +43,6 @@ admitted-line-requires c κs = omega (arith, c .before .before .before .before .
 
 add-i : tie.Need-add-i Inv-loop μ-loop
 add-i c = omega (arith, c .before .before .before .before .before .edge-count .ensures .1, c .before .before .before .before .before .before .before .before .pre .0)
-
-enum-known-admitted : tie.Need-enum-known-admitted Inv-loop μ-loop
-enum-known-admitted c = search needs
-
-put-line-requires : tie.Need-put-line-requires Inv-loop μ-loop
-put-line-requires c κs = search needs
 
 add-count : tie.Need-add-count Inv-loop μ-loop
 add-count c = omega (arith, c .before .before .before .before .before .before .before .before .before .before .before .before .edge-count .ensures .1, c .before .before .before .before .before .before .before .before .before .before .before .before .before .before .before .pre .0)
@@ -77,9 +65,6 @@ loop-again c =
       rw (stored, stored-lines (l .lines) (l .count) _ room) (add-kept (a .agent) (a .kind) n (verticesOf (now (a .vertices))) (a .margin) (a .horizon) (l .i) _ _ (l .inv .3) made),
     )
 
-enum-told : tie.Need-enum-told Inv-loop μ-loop
-enum-told c = search needs
-
 loop-less-2 : tie.Need-loop-less-2 Inv-loop μ-loop
 loop-less-2 c = omega arith
 
@@ -90,9 +75,6 @@ loop-again-2 c =
     let n = length (now (a .vertices)) / 2 in
     let made = rw (c .enum-told .given .1, sub-zero) at (c .before .before .admitted-line .ensures) in
     (omega arith, omega arith, l .inv .2, add-nothing (a .agent) (a .kind) n (verticesOf (now (a .vertices))) (a .margin) (a .horizon) (l .i) _ (l .inv .3) made)
-
-enum-known-admitted-2 : tie.Need-enum-known-admitted-2 Inv-loop μ-loop
-enum-known-admitted-2 c = search needs
 
 same-length : tie.Need-same-length Inv-loop μ-loop
 same-length c = c .before .before .before .before .before .before .before .loop .inv .2 .size ∙ sym (blank-long _ (c .before .before .before .before .before .before .before .before .before .before .before .pre .1))
@@ -120,28 +102,6 @@ returns-2 c =
 
 pub add-edges-spec : {M : Type 1} → statement M
 add-edges-spec =
-    tie.close
-    (tie.spec
-    Inv-loop
-    μ-loop
-    edge-count-requires
-    loop-holds
-    mul-admitted-line
-    sub-admitted-line
-    part-admitted-line-start
-    part-admitted-line-end
-    admitted-line-requires
-    add-i
-    enum-known-admitted
-    put-line-requires
-    add-count
-    loop-less
-    loop-again
-    enum-told
-    loop-less-2
-    loop-again-2
-    enum-known-admitted-2
-    same-length
-    returns
-    same-length-2
-    returns-2)
+    tie.close (tie.spec Inv-loop μ-loop (search needs) loop-holds mul-admitted-line sub-admitted-line (search needs) part-admitted-line-end
+    admitted-line-requires add-i (search needs) (search needs) add-count loop-less loop-again (search needs) loop-less-2 loop-again-2 (search needs)
+    same-length returns same-length-2 returns-2)

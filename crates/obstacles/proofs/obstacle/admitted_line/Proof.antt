@@ -4,30 +4,9 @@ use borrow.Author.Needs.{needs}
 use Rattle.obstacles.proofs.obstacle.admitted_line.Statement.{statement}
 use Rattle.obstacles.proofs.obstacle.admitted_line.Tie as tie
 
-edge-at-requires : tie.Need-edge-at-requires
-edge-at-requires c κs = search needs
-
-get-line-for-agent-to-edge-requires : tie.Need-get-line-for-agent-to-edge-requires
-get-line-for-agent-to-edge-requires c κs = search needs
-
-enum-known-made : tie.Need-enum-known-made
-enum-known-made c = search needs
-
-enum-told : tie.Need-enum-told
-enum-told c = search needs
-
 returns : tie.Need-returns
 unfolding admitted
 returns c = simp (c .enum-told .given .1, ← c .before .before .get-line-for-agent-to-edge .ensures, ← c .before .before .before .edge-at .ensures)
-
-judge-line-requires : tie.Need-judge-line-requires
-judge-line-requires c κs = search needs
-
-enum-told-2 : tie.Need-enum-told-2
-enum-told-2 c = search needs
-
-enum-told-3 : tie.Need-enum-told-3
-enum-told-3 c = search needs
 
 returns-2 : tie.Need-returns-2
 unfolding admitted
@@ -39,15 +18,5 @@ returns-3 c = simp (c .enum-told2 .given .1, ← c .before .before .judge-line .
 
 pub admitted-line-spec : {M : Type 1} → statement M
 admitted-line-spec =
-    tie.close
-    (tie.spec
-    edge-at-requires
-    get-line-for-agent-to-edge-requires
-    enum-known-made
-    enum-told
-    returns
-    judge-line-requires
-    enum-told-2
-    enum-told-3
-    returns-2
+    tie.close (tie.spec (search needs) (search needs) (search needs) (search needs) returns (search needs) (search needs) (search needs) returns-2
     returns-3)

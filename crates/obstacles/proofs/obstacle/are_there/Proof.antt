@@ -14,4 +14,5 @@ returns-2 : tie.Need-returns-2
 returns-2 c = let a = c .before .args in left-over (a .offset) (a .count) (a .have) (c .if1 .left)
 
 pub are-there-spec : {M : Type 1} → statement M
-are-there-spec = tie.close (tie.spec returns returns-2)
+are-there-spec =
+    tie.close (tie.spec returns returns-2)

@@ -9,4 +9,5 @@ unfolding blankNumbers
 returns c = refl
 
 pub blank-spec : {M : Type 1} → statement M
-blank-spec = tie.close (tie.spec returns)
+blank-spec =
+    tie.close (tie.spec returns)

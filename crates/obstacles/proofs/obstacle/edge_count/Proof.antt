@@ -15,12 +15,10 @@ returns-2 : tie.Need-returns-2
 unfolding edgeCount if_then_else_
 returns-2 c = (simp (eq-eqb _ _ (c .before .if1 .left)) (omega arith), omega arith)
 
-sub-result : tie.Need-sub-result
-sub-result c = search needs
-
 returns-3 : tie.Need-returns-3
 unfolding edgeCount if_then_else_
 returns-3 c = (simp (eq-eqb _ _ (c .before .if1 .left)), omega arith)
 
 pub edge-count-spec : {M : Type 1} → statement M
-edge-count-spec = tie.close (tie.spec returns returns-2 sub-result returns-3)
+edge-count-spec =
+    tie.close (tie.spec returns returns-2 (search needs) returns-3)

@@ -3,11 +3,9 @@ use borrow.Author.Needs.{needs}
 use Rattle.obstacles.proofs.obstacle.refused.Statement.{statement}
 use Rattle.obstacles.proofs.obstacle.refused.Tie as tie
 
-blank-requires : tie.Need-blank-requires
-blank-requires c κs = search needs
-
 returns : tie.Need-returns
 returns c = simp (← c .blank .ensures)
 
 pub refused-spec : {M : Type 1} → statement M
-refused-spec = tie.close (tie.spec blank-requires returns)
+refused-spec =
+    tie.close (tie.spec (search needs) returns)

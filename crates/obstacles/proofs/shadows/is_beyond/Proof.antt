@@ -4,18 +4,6 @@ use borrow.Author.Needs.{needs}
 use Rattle.obstacles.proofs.shadows.is_beyond.Statement.{statement}
 use Rattle.obstacles.proofs.shadows.is_beyond.Tie as tie
 
-enum-told : tie.Need-enum-told
-enum-told c = search needs
-
-determinant-requires : tie.Need-determinant-requires
-determinant-requires c κs = search needs
-
-enum-told-2 : tie.Need-enum-told-2
-enum-told-2 c = search needs
-
-determinant-requires-2 : tie.Need-determinant-requires-2
-determinant-requires-2 c κs = search needs
-
 returns : tie.Need-returns
 unfolding isBeyond
 returns c = simp (← c .determinant .ensures, c .before .enum-told .given .1)
@@ -26,5 +14,4 @@ returns-2 c = simp (← c .determinant2 .ensures, c .before .enum-told2 .given .
 
 pub is-beyond-spec : {M : Type 1} → statement M
 is-beyond-spec =
-    tie.close
-    (tie.spec enum-told determinant-requires enum-told-2 determinant-requires-2 returns returns-2)
+    tie.close (tie.spec (search needs) (search needs) (search needs) (search needs) returns returns-2)

@@ -5,24 +5,9 @@ use borrow.Author.Needs.{needs}
 use Rattle.obstacles.proofs.shadows.shadow_beside.Statement.{statement}
 use Rattle.obstacles.proofs.shadows.shadow_beside.Tie as tie
 
-enum-known-outer-vertex : tie.Need-enum-known-outer-vertex
-enum-known-outer-vertex c = search needs
-
-enum-told : tie.Need-enum-told
-enum-told c = search needs
-
 returns : tie.Need-returns
 unfolding shadowBeside if_then_else_
 returns c = simp (c .enum-told .given .1)
-
-sub-requires : tie.Need-sub-requires
-sub-requires c κs = search needs
-
-is-beyond-requires : tie.Need-is-beyond-requires
-is-beyond-requires c κs = search needs
-
-normalize-requires : tie.Need-normalize-requires
-normalize-requires c κs = search needs
 
 returns-2 : tie.Need-returns-2
 unfolding shadowBeside if_then_else_
@@ -38,14 +23,4 @@ returns-4 c = simp (c .if1 .left, ← c .before .sub .ensures, c .before .before
 
 pub shadow-beside-spec : {M : Type 1} → statement M
 shadow-beside-spec =
-    tie.close
-    (tie.spec
-    enum-known-outer-vertex
-    enum-told
-    returns
-    sub-requires
-    is-beyond-requires
-    normalize-requires
-    returns-2
-    returns-3
-    returns-4)
+    tie.close (tie.spec (search needs) (search needs) returns (search needs) (search needs) (search needs) returns-2 returns-3 returns-4)

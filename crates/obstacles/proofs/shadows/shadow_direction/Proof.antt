@@ -5,21 +5,9 @@ use borrow.Author.Needs.{needs}
 use Rattle.obstacles.proofs.shadows.shadow_direction.Statement.{statement}
 use Rattle.obstacles.proofs.shadows.shadow_direction.Tie as tie
 
-tangent-direction-requires : tie.Need-tangent-direction-requires
-tangent-direction-requires c κs = search needs
-
 returns : tie.Need-returns
 unfolding sideDirection extended if_then_else_
 returns c = simp (← c .tangent-direction .ensures, c .before .if1 .taken)
-
-enum-told : tie.Need-enum-told
-enum-told c = search needs
-
-neg-requires : tie.Need-neg-requires
-neg-requires c κs = search needs
-
-enum-told-2 : tie.Need-enum-told-2
-enum-told-2 c = search needs
 
 returns-2 : tie.Need-returns-2
 unfolding sideDirection extended if_then_else_
@@ -31,12 +19,4 @@ returns-3 c = simp (c .enum-told2 .given .1, c .before .before .if1 .left)
 
 pub shadow-direction-spec : {M : Type 1} → statement M
 shadow-direction-spec =
-    tie.close
-    (tie.spec
-    tangent-direction-requires
-    returns
-    enum-told
-    neg-requires
-    enum-told-2
-    returns-2
-    returns-3)
+    tie.close (tie.spec (search needs) returns (search needs) (search needs) (search needs) returns-2 returns-3)

@@ -4,18 +4,10 @@ use borrow.Author.Needs.{needs}
 use Rattle.obstacles.proofs.vertices.is_convex.Statement.{statement}
 use Rattle.obstacles.proofs.vertices.is_convex.Tie as tie
 
-sub-requires : tie.Need-sub-requires
-sub-requires c κs = search needs
-
-sub-requires-2 : tie.Need-sub-requires-2
-sub-requires-2 c κs = search needs
-
-determinant-requires : tie.Need-determinant-requires
-determinant-requires c κs = search needs
-
 returns : tie.Need-returns
 unfolding convexAt
 returns c = simp (← c .determinant .ensures, ← c .before .sub2 .ensures, ← c .before .before .sub .ensures)
 
 pub is-convex-spec : {M : Type 1} → statement M
-is-convex-spec = tie.close (tie.spec sub-requires sub-requires-2 determinant-requires returns)
+is-convex-spec =
+    tie.close (tie.spec (search needs) (search needs) (search needs) returns)

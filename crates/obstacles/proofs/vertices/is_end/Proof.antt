@@ -13,12 +13,10 @@ returns-2 : tie.Need-returns-2
 unfolding isEnd
 returns-2 c = simp (eq-eqb _ _ (c .before .if1 .left), eq-eqb _ _ (c .if2 .taken))
 
-sub-result : tie.Need-sub-result
-sub-result c = search needs
-
 returns-3 : tie.Need-returns-3
 unfolding isEnd
 returns-3 c = simp (eq-eqb _ _ (c .before .if1 .left), ne-eqb _ _ (c .if2 .left))
 
 pub is-end-spec : {M : Type 1} → statement M
-is-end-spec = tie.close (tie.spec returns returns-2 sub-result returns-3)
+is-end-spec =
+    tie.close (tie.spec returns returns-2 (search needs) returns-3)

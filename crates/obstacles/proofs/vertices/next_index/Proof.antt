@@ -7,19 +7,14 @@ use borrow.Author.Needs.{needs}
 use Rattle.obstacles.proofs.vertices.next_index.Statement.{statement}
 use Rattle.obstacles.proofs.vertices.next_index.Tie as tie
 
-sub-if1 : tie.Need-sub-if1
-sub-if1 c = search needs
-
 returns : tie.Need-returns
 unfolding nextOf if_then_else_
 returns c = (simp (eq-eqb _ _ (c .if1 .taken)), omega arith)
-
-add-result : tie.Need-add-result
-add-result c = search needs
 
 returns-2 : tie.Need-returns-2
 unfolding nextOf if_then_else_
 returns-2 c = (simp (ne-eqb _ _ (c .if1 .left)), omega arith)
 
 pub next-index-spec : {M : Type 1} → statement M
-next-index-spec = tie.close (tie.spec sub-if1 returns add-result returns-2)
+next-index-spec =
+    tie.close (tie.spec (search needs) returns (search needs) returns-2)

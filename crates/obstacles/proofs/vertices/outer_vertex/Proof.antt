@@ -6,9 +6,6 @@ use borrow.Author.Needs.{needs}
 use Rattle.obstacles.proofs.vertices.outer_vertex.Statement.{statement}
 use Rattle.obstacles.proofs.vertices.outer_vertex.Tie as tie
 
-vertex-at-requires : tie.Need-vertex-at-requires
-vertex-at-requires c κs = search needs
-
 returns : tie.Need-returns
 unfolding outerAt if_then_else_
 returns c = simp (← c .vertex-at .ensures, ne-eqb _ _ (c .before .if1 .taken))
@@ -17,13 +14,10 @@ returns-2 : tie.Need-returns-2
 unfolding outerAt if_then_else_
 returns-2 c = simp (eq-eqb _ _ (c .if2 .taken), eq-eqb _ _ (c .before .if1 .left))
 
-vertex-at-requires-2 : tie.Need-vertex-at-requires-2
-vertex-at-requires-2 c κs = search needs
-
 returns-3 : tie.Need-returns-3
 unfolding outerAt if_then_else_
 returns-3 c = simp (← c .vertex-at2 .ensures, ne-eqb _ _ (c .before .if2 .left), eq-eqb _ _ (c .before .before .if1 .left))
 
 pub outer-vertex-spec : {M : Type 1} → statement M
 outer-vertex-spec =
-    tie.close (tie.spec vertex-at-requires returns returns-2 vertex-at-requires-2 returns-3)
+    tie.close (tie.spec (search needs) returns returns-2 (search needs) returns-3)

@@ -7,19 +7,14 @@ use borrow.Author.Needs.{needs}
 use Rattle.obstacles.proofs.vertices.previous_index.Statement.{statement}
 use Rattle.obstacles.proofs.vertices.previous_index.Tie as tie
 
-sub-result : tie.Need-sub-result
-sub-result c = search needs
-
 returns : tie.Need-returns
 unfolding previousOf if_then_else_
 returns c = (simp (eq-eqb _ _ (c .if1 .taken)), omega arith)
-
-sub-result-2 : tie.Need-sub-result-2
-sub-result-2 c = search needs
 
 returns-2 : tie.Need-returns-2
 unfolding previousOf if_then_else_
 returns-2 c = (simp (ne-eqb _ _ (c .if1 .left)), omega arith)
 
 pub previous-index-spec : {M : Type 1} → statement M
-previous-index-spec = tie.close (tie.spec sub-result returns sub-result-2 returns-2)
+previous-index-spec =
+    tie.close (tie.spec (search needs) returns (search needs) returns-2)

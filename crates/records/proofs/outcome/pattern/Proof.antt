@@ -19,4 +19,5 @@ unfolding patternOf if_then_else_
 returns-2 c = rw (sym (ne-self _) ∙ c .if1 .left)
 
 pub pattern-spec : {M : Type 1} → statement M
-pattern-spec = tie.close (tie.spec returns float-to-bits-result returns-2)
+pattern-spec =
+    tie.close (tie.spec returns float-to-bits-result returns-2)

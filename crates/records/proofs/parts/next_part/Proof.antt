@@ -6,9 +6,6 @@ use Rattle.records.specs.Parts.{partIn}
 use Rattle.records.proofs.parts.next_part.Statement.{statement}
 use Rattle.records.proofs.parts.next_part.Tie as tie
 
-skipped-requires : tie.Need-skipped-requires
-skipped-requires c κs = search needs
-
 returns : tie.Need-returns
 unfolding partIn if_then_else_
 returns c = simp (← c .skipped .ensures, lt-ltb _ _ (c .before .if1 .taken))
@@ -17,25 +14,13 @@ returns-2 : tie.Need-returns-2
 unfolding partIn if_then_else_
 returns-2 c = simp (le-ltb 0 _ (c .before .if1 .left), lt-ltb _ 2 (c .if2 .taken))
 
-pair-at-requires : tie.Need-pair-at-requires
-pair-at-requires c κs = search needs
-
-cast-length : tie.Need-cast-length
-cast-length c = search needs
-
 returns-3 : tie.Need-returns-3
 unfolding partIn if_then_else_
 returns-3 c = simp (le-ltb 0 _ (c .before .before .before .if1 .left), le-ltb _ 2 (c .before .before .if2 .left), ← c .before .pair-at .ensures, lt-ltb _ _ (c .if3 .taken))
 
-add-if4 : tie.Need-add-if4
-add-if4 c = search needs
-
 returns-4 : tie.Need-returns-4
 unfolding partIn if_then_else_
 returns-4 c = simp (le-ltb 0 _ (c .before .before .before .before .if1 .left), le-ltb _ 2 (c .before .before .before .if2 .left), ← c .before .before .pair-at .ensures, le-ltb _ _ (c .before .if3 .left), lt-ltb _ _ (c .if4 .taken))
-
-add-t6 : tie.Need-add-t6
-add-t6 c = search needs
 
 returns-5 : tie.Need-returns-5
 unfolding partIn if_then_else_
@@ -43,15 +28,4 @@ returns-5 c = simp (le-ltb 0 _ (c .before .before .before .before .if1 .left), l
 
 pub next-part-spec : {M : Type 1} → statement M
 next-part-spec =
-    tie.close
-    (tie.spec
-    skipped-requires
-    returns
-    returns-2
-    pair-at-requires
-    cast-length
-    returns-3
-    add-if4
-    returns-4
-    add-t6
-    returns-5)
+    tie.close (tie.spec (search needs) returns returns-2 (search needs) (search needs) returns-3 (search needs) returns-4 (search needs) returns-5)

@@ -18,4 +18,5 @@ unfolding skippedOf if_then_else_
 returns-3 c = simp (ne-eqb _ _ (c .before .if1 .left), le-ltb _ _ (c .if2 .left))
 
 pub skipped-spec : {M : Type 1} → statement M
-skipped-spec = tie.close (tie.spec returns returns-2 returns-3)
+skipped-spec =
+    tie.close (tie.spec returns returns-2 returns-3)

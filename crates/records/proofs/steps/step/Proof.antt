@@ -10,29 +10,8 @@ use Rattle.records.proofs.StepLaws.{no-room, cut-step, skip-step, skip-
 use Rattle.records.proofs.steps.step.Statement.{statement}
 use Rattle.records.proofs.steps.step.Tie as tie
 
-sub-if1 : tie.Need-sub-if1
-sub-if1 c = search needs
-
 returns : tie.Need-returns
 returns c = no-room _ _ _ (c .if1 .taken)
-
-sub-next-part : tie.Need-sub-next-part
-sub-next-part c = search needs
-
-part-next-part-start : tie.Need-part-next-part-start
-part-next-part-start c = search needs
-
-part-next-part-end : tie.Need-part-next-part-end
-part-next-part-end c = search needs
-
-next-part-requires : tie.Need-next-part-requires
-next-part-requires c κs = search needs
-
-enum-told : tie.Need-enum-told
-enum-told c = search needs
-
-enum-known-part : tie.Need-enum-known-part
-enum-known-part c = search needs
 
 add-t20 : tie.Need-add-t20
 add-t20 c =
@@ -49,30 +28,6 @@ sub-t21 c =
     let a = start .args in
     skip-fits (now (a .input)) (now (a .output)) (a .place) (t .before .before .if1 .left) _ (t .next-part .ensures) _ (c .before .part .given .1) .1
 
-enum-known-part-2 : tie.Need-enum-known-part-2
-enum-known-part-2 c = search needs
-
-sub-write-refusal : tie.Need-sub-write-refusal
-sub-write-refusal c = search needs
-
-part-write-refusal-start : tie.Need-part-write-refusal-start
-part-write-refusal-start c = search needs
-
-part-write-refusal-end : tie.Need-part-write-refusal-end
-part-write-refusal-end c = search needs
-
-write-refusal-requires : tie.Need-write-refusal-requires
-write-refusal-requires c κs = search needs
-
-add-t25 : tie.Need-add-t25
-add-t25 c = search needs
-
-add-t28 : tie.Need-add-t28
-add-t28 c = search needs
-
-enum-known-part-3 : tie.Need-enum-known-part-3
-enum-known-part-3 c = search needs
-
 add-end : tie.Need-add-end
 add-end c =
     let t = c .before .before .before in
@@ -81,12 +36,6 @@ add-end c =
     let fits = whole-fits (now (a .input)) (now (a .output)) (a .place) (t .before .before .if1 .left) _ (t .next-part .ensures) _ (c .before .part3 .given .1) in
     omega (arith, start .pre)
 
-sub-reply : tie.Need-sub-reply
-sub-reply c = search needs
-
-part-reply-start : tie.Need-part-reply-start
-part-reply-start c = search needs
-
 part-reply-end : tie.Need-part-reply-end
 part-reply-end c =
     let t = c .before .before .before in
@@ -94,18 +43,6 @@ part-reply-end c =
     let a = start .args in
     let fits = whole-fits (now (a .input)) (now (a .output)) (a .place) (t .before .before .if1 .left) _ (t .next-part .ensures) _ (c .before .part3 .given .1) in
     omega (arith, start .pre)
-
-sub-reply-2 : tie.Need-sub-reply-2
-sub-reply-2 c = search needs
-
-part-reply-start-2 : tie.Need-part-reply-start-2
-part-reply-start-2 c = search needs
-
-part-reply-end-2 : tie.Need-part-reply-end-2
-part-reply-end-2 c = search needs
-
-reply-requires : tie.Need-reply-requires
-reply-requires c κs = search needs
 
 add-t31 : tie.Need-add-t31
 add-t31 c =
@@ -130,18 +67,12 @@ returns-3 c =
     let a = start .args in
     skip-step (now (a .input)) (now (a .output)) (a .place) (t .before .before .if1 .left) _ (t .next-part .ensures) _ (c .before .part .given .1)
 
-same-length : tie.Need-same-length
-same-length c = search needs
-
 returns-4 : tie.Need-returns-4
 returns-4 c =
     let t = c .before .before .before .before .before .before .before in
     let start = t .before .before .before .before .before in
     let a = start .args in
     overlong-step (now (a .input)) (now (a .output)) (a .place) (t .before .before .if1 .left) _ (t .next-part .ensures) _ (c .before .before .before .before .before .part2 .given .1) _ _ (start .pre .1) (c .before .before .write-refusal .ensures)
-
-same-length-2 : tie.Need-same-length-2
-same-length-2 c = search needs
 
 returns-5 : tie.Need-returns-5
 returns-5 c =
@@ -152,38 +83,7 @@ returns-5 c =
 
 pub step-spec : {M : Type 1} → statement M
 step-spec =
-    tie.close
-    (tie.spec
-    sub-if1
-    returns
-    sub-next-part
-    part-next-part-start
-    part-next-part-end
-    next-part-requires
-    enum-told
-    enum-known-part
-    add-t20
-    sub-t21
-    enum-known-part-2
-    sub-write-refusal
-    part-write-refusal-start
-    part-write-refusal-end
-    write-refusal-requires
-    add-t25
-    add-t28
-    enum-known-part-3
-    add-end
-    sub-reply
-    part-reply-start
-    part-reply-end
-    sub-reply-2
-    part-reply-start-2
-    part-reply-end-2
-    reply-requires
-    add-t31
-    returns-2
-    returns-3
-    same-length
-    returns-4
-    same-length-2
-    returns-5)
+    tie.close (tie.spec (search needs) returns (search needs) (search needs) (search needs) (search needs) (search needs) (search needs) add-t20
+    sub-t21 (search needs) (search needs) (search needs) (search needs) (search needs) (search needs) (search needs) (search needs) add-end
+    (search needs) (search needs) part-reply-end (search needs) (search needs) (search needs) (search needs) add-t31 returns-2 returns-3
+    (search needs) returns-4 (search needs) returns-5)

@@ -4,12 +4,10 @@ use Rattle.replay.specs.Answers.{agreesWith}
 use Rattle.replay.proofs.answers.agrees.Statement.{statement}
 use Rattle.replay.proofs.answers.agrees.Tie as tie
 
-number-requires : tie.Need-number-requires
-number-requires c κs = search needs
-
 returns : tie.Need-returns
 unfolding agreesWith
 returns c = simp (← c .number .ensures)
 
 pub agrees-spec : {M : Type 1} → statement M
-agrees-spec = tie.close (tie.spec number-requires returns)
+agrees-spec =
+    tie.close (tie.spec (search needs) returns)

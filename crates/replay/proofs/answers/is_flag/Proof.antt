@@ -4,9 +4,6 @@ use Rattle.replay.specs.Answers.{isFlag}
 use Rattle.replay.proofs.answers.is_flag.Statement.{statement}
 use Rattle.replay.proofs.answers.is_flag.Tie as tie
 
-word-at-requires : tie.Need-word-at-requires
-word-at-requires c κs = search needs
-
 returns : tie.Need-returns
 unfolding isFlag
 returns c = simp (c .if1 .taken, ← c .before .word-at .ensures)
@@ -16,4 +13,5 @@ unfolding isFlag
 returns-2 c = simp (c .if1 .left, ← c .before .word-at .ensures)
 
 pub is-flag-spec : {M : Type 1} → statement M
-is-flag-spec = tie.close (tie.spec word-at-requires returns returns-2)
+is-flag-spec =
+    tie.close (tie.spec (search needs) returns returns-2)

@@ -4,15 +4,10 @@ use Rattle.replay.specs.Answers.{isNumber}
 use Rattle.replay.proofs.answers.is_number.Statement.{statement}
 use Rattle.replay.proofs.answers.is_number.Tie as tie
 
-word-at-requires : tie.Need-word-at-requires
-word-at-requires c κs = search needs
-
-has-pattern-requires : tie.Need-has-pattern-requires
-has-pattern-requires c κs = search needs
-
 returns : tie.Need-returns
 unfolding isNumber
 returns c = simp (← c .has-pattern .ensures, ← c .before .word-at .ensures)
 
 pub is-number-spec : {M : Type 1} → statement M
-is-number-spec = tie.close (tie.spec word-at-requires has-pattern-requires returns)
+is-number-spec =
+    tie.close (tie.spec (search needs) (search needs) returns)

@@ -4,15 +4,10 @@ use Rattle.replay.specs.Answers.{numberAt}
 use Rattle.replay.proofs.answers.number_at.Statement.{statement}
 use Rattle.replay.proofs.answers.number_at.Tie as tie
 
-word-at-requires : tie.Need-word-at-requires
-word-at-requires c κs = search needs
-
-number-requires : tie.Need-number-requires
-number-requires c κs = search needs
-
 returns : tie.Need-returns
 unfolding numberAt
 returns c = simp (← c .number .ensures, ← c .before .word-at .ensures)
 
 pub number-at-spec : {M : Type 1} → statement M
-number-at-spec = tie.close (tie.spec word-at-requires number-requires returns)
+number-at-spec =
+    tie.close (tie.spec (search needs) (search needs) returns)

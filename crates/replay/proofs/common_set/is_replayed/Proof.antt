@@ -9,21 +9,6 @@ returns : tie.Need-returns
 unfolding isReplayed
 returns c = simp (lt-leb _ _ (c .if1 .taken))
 
-vector-at-requires : tie.Need-vector-at-requires
-vector-at-requires c κs = search needs
-
-vector-at-requires-2 : tie.Need-vector-at-requires-2
-vector-at-requires-2 c κs = search needs
-
-number-at-requires : tie.Need-number-at-requires
-number-at-requires c κs = search needs
-
-operators-agree-requires : tie.Need-operators-agree-requires
-operators-agree-requires c κs = search needs
-
-functions-agree-requires : tie.Need-functions-agree-requires
-functions-agree-requires c κs = search needs
-
 returns-2 : tie.Need-returns-2
 unfolding isReplayed
 returns-2 c =
@@ -38,12 +23,4 @@ returns-2 c =
 
 pub is-replayed-spec : {M : Type 1} → statement M
 is-replayed-spec =
-    tie.close
-    (tie.spec
-    returns
-    vector-at-requires
-    vector-at-requires-2
-    number-at-requires
-    operators-agree-requires
-    functions-agree-requires
-    returns-2)
+    tie.close (tie.spec returns (search needs) (search needs) (search needs) (search needs) (search needs) returns-2)

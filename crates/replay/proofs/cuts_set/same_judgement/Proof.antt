@@ -4,24 +4,6 @@ use Rattle.replay.specs.CutsSet.{sameFault}
 use Rattle.replay.proofs.cuts_set.same_judgement.Statement.{statement}
 use Rattle.replay.proofs.cuts_set.same_judgement.Tie as tie
 
-enum-told : tie.Need-enum-told
-enum-told c = search needs
-
-enum-told-2 : tie.Need-enum-told-2
-enum-told-2 c = search needs
-
-enum-told-3 : tie.Need-enum-told-3
-enum-told-3 c = search needs
-
-enum-known-judged : tie.Need-enum-known-judged
-enum-known-judged c = search needs
-
-enum-told-4 : tie.Need-enum-told-4
-enum-told-4 c = search needs
-
-enum-known-expected : tie.Need-enum-known-expected
-enum-known-expected c = search needs
-
 returns : tie.Need-returns
 unfolding sameFault
 returns c = simp (c .enum-told2 .given .1, c .before .before .enum-told .given .1)
@@ -40,15 +22,5 @@ returns-4 c = simp (c .before .expected .given .1, c .before .before .before .be
 
 pub same-judgement-spec : {M : Type 1} → statement M
 same-judgement-spec =
-    tie.close
-    (tie.spec
-    enum-told
-    enum-told-2
-    enum-told-3
-    enum-known-judged
-    enum-told-4
-    enum-known-expected
-    returns
-    returns-2
-    returns-3
+    tie.close (tie.spec (search needs) (search needs) (search needs) (search needs) (search needs) (search needs) returns returns-2 returns-3
     returns-4)

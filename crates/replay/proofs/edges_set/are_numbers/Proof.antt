@@ -18,30 +18,6 @@ loop-holds : tie.Need-loop-holds Inv-loop μ-loop
 unfolding areNumbers
 loop-holds c = (omega arith, refl)
 
-mul-agrees : tie.Need-mul-agrees Inv-loop μ-loop
-mul-agrees c = search needs
-
-array-read-agrees : tie.Need-array-read-agrees Inv-loop μ-loop
-array-read-agrees c = search needs
-
-mul-word-at : tie.Need-mul-word-at Inv-loop μ-loop
-mul-word-at c = search needs
-
-add-word-at : tie.Need-add-word-at Inv-loop μ-loop
-add-word-at c = search needs
-
-word-at-requires : tie.Need-word-at-requires Inv-loop μ-loop
-word-at-requires c κs = search needs
-
-agrees-requires : tie.Need-agrees-requires Inv-loop μ-loop
-agrees-requires c κs = search needs
-
-add-i : tie.Need-add-i Inv-loop μ-loop
-add-i c = search needs
-
-loop-less : tie.Need-loop-less Inv-loop μ-loop
-loop-less c = search needs
-
 loop-again : tie.Need-loop-again Inv-loop μ-loop
 unfolding areNumbers
 loop-again c =
@@ -55,18 +31,5 @@ returns c =
 
 pub are-numbers-spec : {M : Type 1} → statement M
 are-numbers-spec =
-    tie.close
-    (tie.spec
-    Inv-loop
-    μ-loop
-    loop-holds
-    mul-agrees
-    array-read-agrees
-    mul-word-at
-    add-word-at
-    word-at-requires
-    agrees-requires
-    add-i
-    loop-less
-    loop-again
-    returns)
+    tie.close (tie.spec Inv-loop μ-loop loop-holds (search needs) (search needs) (search needs) (search needs) (search needs) (search needs)
+    (search needs) (search needs) loop-again returns)

@@ -5,27 +5,9 @@ use Rattle.replay.specs.EdgesSet.{isAnswer, isLinesOrRefusal}
 use Rattle.replay.proofs.edges_set.is_answer.Statement.{statement}
 use Rattle.replay.proofs.edges_set.is_answer.Tie as tie
 
-enum-told : tie.Need-enum-told
-enum-told c = search needs
-
 returns : tie.Need-returns
 unfolding isAnswer isLinesOrRefusal
 returns c = simp (c .before .before .enum-told .given .1, lt-leb _ _ (c .if1 .taken))
-
-mul-are-numbers : tie.Need-mul-are-numbers
-mul-are-numbers c = search needs
-
-are-numbers-requires : tie.Need-are-numbers-requires
-are-numbers-requires c κs = search needs
-
-enum-known-judged : tie.Need-enum-known-judged
-enum-known-judged c = search needs
-
-cast-result : tie.Need-cast-result
-cast-result c = search needs
-
-add-result : tie.Need-add-result
-add-result c = search needs
 
 returns-2 : tie.Need-returns-2
 unfolding isAnswer isLinesOrRefusal
@@ -42,14 +24,4 @@ returns-3 c = simp (c .before .judged .given .1)
 
 pub is-answer-spec : {M : Type 1} → statement M
 is-answer-spec =
-    tie.close
-    (tie.spec
-    enum-told
-    returns
-    mul-are-numbers
-    are-numbers-requires
-    enum-known-judged
-    cast-result
-    add-result
-    returns-2
-    returns-3)
+    tie.close (tie.spec (search needs) returns (search needs) (search needs) (search needs) (search needs) (search needs) returns-2 returns-3)

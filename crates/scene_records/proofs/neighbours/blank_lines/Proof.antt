@@ -9,4 +9,5 @@ unfolding blankNumbers
 returns c = refl
 
 pub blank-lines-spec : {M : Type 1} → statement M
-blank-lines-spec = tie.close (tie.spec returns)
+blank-lines-spec =
+    tie.close (tie.spec returns)

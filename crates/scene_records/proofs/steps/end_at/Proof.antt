@@ -5,22 +5,14 @@ use borrow.Author.Needs.{needs}
 use Rattle.scene_records.proofs.steps.end_at.Statement.{statement}
 use Rattle.scene_records.proofs.steps.end_at.Tie as tie
 
-enum-known-cursor : tie.Need-enum-known-cursor
-enum-known-cursor c = search needs
-
-enum-told : tie.Need-enum-told
-enum-told c = search needs
-
 returns : tie.Need-returns
 unfolding told from
 returns c = rw (c .enum-told .given .1)
-
-held-to-requires : tie.Need-held-to-requires
-held-to-requires c κs = search needs
 
 returns-2 : tie.Need-returns-2
 unfolding from
 returns-2 c = rw (c .before .before .cursor .given .1, c .held-to .ensures) (ended-read _ _)
 
 pub end-at-spec : {M : Type 1} → statement M
-end-at-spec = tie.close (tie.spec enum-known-cursor enum-told returns held-to-requires returns-2)
+end-at-spec =
+    tie.close (tie.spec (search needs) (search needs) returns (search needs) returns-2)

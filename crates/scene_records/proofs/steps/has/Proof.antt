@@ -13,11 +13,9 @@ use Rattle.scene_records.proofs.steps.has.Tie as tie
 returns : tie.Need-returns
 returns c = let a = c .before .args in sym (lt-leb (a .at + a .count) (length (now (a .bytes))) (omega arith))
 
-sub-result : tie.Need-sub-result
-sub-result c = search needs
-
 returns-2 : tie.Need-returns-2
 returns-2 c = let a = c .before .args in left-over (a .at) (a .count) (length (now (a .bytes))) (c .if1 .left)
 
 pub has-spec : {M : Type 1} → statement M
-has-spec = tie.close (tie.spec returns sub-result returns-2)
+has-spec =
+    tie.close (tie.spec returns (search needs) returns-2)

@@ -3,14 +3,8 @@ use borrow.Author.Needs.{needs}
 use Rattle.scene_records.proofs.steps.held_to.Statement.{statement}
 use Rattle.scene_records.proofs.steps.held_to.Tie as tie
 
-enum-known-cursor : tie.Need-enum-known-cursor
-enum-known-cursor c = search needs
-
 returns : tie.Need-returns
 returns c = rw (c .before .cursor .given .1)
-
-enum-told : tie.Need-enum-told
-enum-told c = search needs
 
 returns-2 : tie.Need-returns-2
 returns-2 c = rw (c .before .enum-told .given .1, c .if1 .taken)
@@ -19,4 +13,5 @@ returns-3 : tie.Need-returns-3
 returns-3 c = rw (c .before .enum-told .given .1, c .if1 .left)
 
 pub held-to-spec : {M : Type 1} → statement M
-held-to-spec = tie.close (tie.spec enum-known-cursor returns enum-told returns-2 returns-3)
+held-to-spec =
+    tie.close (tie.spec (search needs) returns (search needs) returns-2 returns-3)

@@ -10,33 +10,12 @@ use borrow.Author.Needs.{needs}
 use Rattle.scene_records.proofs.steps.number_at.Statement.{statement}
 use Rattle.scene_records.proofs.steps.number_at.Tie as tie
 
-enum-known-cursor : tie.Need-enum-known-cursor
-enum-known-cursor c = search needs
-
-enum-told : tie.Need-enum-told
-enum-told c = search needs
-
 returns : tie.Need-returns
 unfolding told from
 returns c = rw (c .enum-told .given .1)
 
-has-requires : tie.Need-has-requires
-has-requires c κs = search needs
-
-word-at-requires : tie.Need-word-at-requires
-word-at-requires c κs = search needs
-
-number-requires : tie.Need-number-requires
-number-requires c κs = search needs
-
-passes-requires : tie.Need-passes-requires
-passes-requires c κs = search needs
-
 add-t10 : tie.Need-add-t10
 add-t10 c = omega (arith, leb-true _ (length (now (c .before .before .before .before .before .before .before .before .before .args .bytes))) (sym (c .before .before .before .before .has .ensures) ∙ c .before .before .before .if1 .taken))
-
-held-to-requires : tie.Need-held-to-requires
-held-to-requires c κs = search needs
 
 returns-2 : tie.Need-returns-2
 unfolding from
@@ -48,16 +27,5 @@ returns-3 c = rw (c .before .before .before .cursor .given .1) (number-missing _
 
 pub number-at-spec : {M : Type 1} → statement M
 number-at-spec =
-    tie.close
-    (tie.spec
-    enum-known-cursor
-    enum-told
-    returns
-    has-requires
-    word-at-requires
-    number-requires
-    passes-requires
-    add-t10
-    held-to-requires
-    returns-2
-    returns-3)
+    tie.close (tie.spec (search needs) (search needs) returns (search needs) (search needs) (search needs) (search needs) add-t10 (search needs)
+    returns-2 returns-3)

@@ -4,17 +4,9 @@ use borrow.Author.Needs.{needs}
 use Rattle.scene_records.proofs.steps.vector_at.Statement.{statement}
 use Rattle.scene_records.proofs.steps.vector_at.Tie as tie
 
-number-at-requires : tie.Need-number-at-requires
-number-at-requires c κs = search needs
-
-number-at-requires-2 : tie.Need-number-at-requires-2
-number-at-requires-2 c κs = search needs
-
-new-requires : tie.Need-new-requires
-new-requires c κs = search needs
-
 returns : tie.Need-returns
 returns c = rw (c .new .ensures) (vector-read _ _ _ _ _ _ _ (c .before .before .number-at .ensures) (c .before .number-at2 .ensures))
 
 pub vector-at-spec : {M : Type 1} → statement M
-vector-at-spec = tie.close (tie.spec number-at-requires number-at-requires-2 new-requires returns)
+vector-at-spec =
+    tie.close (tie.spec (search needs) (search needs) (search needs) returns)

@@ -4,14 +4,9 @@ use borrow.Author.Needs.{needs}
 use Rattle.scene_records.proofs.steps.version_at.Statement.{statement}
 use Rattle.scene_records.proofs.steps.version_at.Tie as tie
 
-byte-at-requires : tie.Need-byte-at-requires
-byte-at-requires c κs = search needs
-
-held-to-requires : tie.Need-held-to-requires
-held-to-requires c κs = search needs
-
 returns : tie.Need-returns
 returns c = rw (c .held-to .ensures) (version-read _ _ _ _ (c .before .before .byte-at .ensures))
 
 pub version-at-spec : {M : Type 1} → statement M
-version-at-spec = tie.close (tie.spec byte-at-requires held-to-requires returns)
+version-at-spec =
+    tie.close (tie.spec (search needs) (search needs) returns)

@@ -9,4 +9,5 @@ unfolding blankBytes
 returns c = refl
 
 pub blank-bytes-spec : {M : Type 1} → statement M
-blank-bytes-spec = tie.close (tie.spec returns)
+blank-bytes-spec =
+    tie.close (tie.spec returns)

@@ -9,4 +9,5 @@ unfolding blankVertices
 returns c = refl
 
 pub blank-vertices-spec : {M : Type 1} → statement M
-blank-vertices-spec = tie.close (tie.spec returns)
+blank-vertices-spec =
+    tie.close (tie.spec returns)

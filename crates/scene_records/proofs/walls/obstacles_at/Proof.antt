@@ -24,12 +24,6 @@ abbrev μ-loop : tie.MeasureT-loop
 loop-holds : tie.Need-loop-holds Inv-loop μ-loop
 loop-holds c = (omega arith, omega arith, refl, refl, refl, rw sub-zero)
 
-head-at-requires : tie.Need-head-at-requires Inv-loop μ-loop
-head-at-requires c κs = search needs
-
-wide-requires : tie.Need-wide-requires Inv-loop μ-loop
-wide-requires c κs = search needs
-
 vertices-at-requires : tie.Need-vertices-at-requires Inv-loop μ-loop
 vertices-at-requires c κs = omega (arith, head-fits _ (c .before .before .before .before .loop .total) (c .before .before .before .before .loop .next) _ _ (c .before .before .before .before .loop .inv .1) (c .before .before .head-at .ensures) (c .before .wide .ensures .0), c .before .before .before .before .loop .inv .4, c .before .before .before .before .before .before .before .before .before .pre .2)
 
@@ -41,9 +35,6 @@ slice-write-counts c = omega (arith, c .before .before .before .before .before .
 
 add-total : tie.Need-add-total Inv-loop μ-loop
 add-total c = omega (arith, head-fits _ (c .before .before .before .before .before .before .before .loop .total) (c .before .before .before .before .before .before .before .loop .next) _ _ (c .before .before .before .before .before .before .before .loop .inv .1) (c .before .before .before .before .before .head-at .ensures) (c .before .before .before .before .wide .ensures .0))
-
-add-i : tie.Need-add-i Inv-loop μ-loop
-add-i c = search needs
 
 loop-less : tie.Need-loop-less Inv-loop μ-loop
 loop-less c = omega arith
@@ -75,21 +66,5 @@ returns c = let l = c .before .loop in walls-done _ _ _ _ _ _ (c .loop-test .lef
 
 pub obstacles-at-spec : {M : Type 1} → statement M
 obstacles-at-spec =
-    tie.close
-    (tie.spec
-    Inv-loop
-    μ-loop
-    loop-holds
-    head-at-requires
-    wide-requires
-    vertices-at-requires
-    slice-write-kinds
-    slice-write-counts
-    add-total
-    add-i
-    loop-less
-    loop-again
-    same-length
-    same-length-2
-    same-length-3
-    returns)
+    tie.close (tie.spec Inv-loop μ-loop loop-holds (search needs) (search needs) vertices-at-requires slice-write-kinds slice-write-counts add-total
+    (search needs) loop-less loop-again same-length same-length-2 same-length-3 returns)

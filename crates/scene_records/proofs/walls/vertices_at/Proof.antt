@@ -26,17 +26,11 @@ abbrev μ-loop : tie.MeasureT-loop
 loop-holds : tie.Need-loop-holds Inv-loop μ-loop
 loop-holds c = (omega arith, refl, rw (add-zero, sub-zero))
 
-vector-at-requires : tie.Need-vector-at-requires Inv-loop μ-loop
-vector-at-requires c κs = search needs
-
 add-put : tie.Need-add-put Inv-loop μ-loop
 add-put c = omega (arith, c .before .before .before .loop .inv .1, c .before .before .before .before .before .before .pre)
 
 put-requires : tie.Need-put-requires Inv-loop μ-loop
 put-requires c κs = omega (arith, c .before .before .before .loop .inv .1, c .before .before .before .before .before .before .pre)
-
-add-i : tie.Need-add-i Inv-loop μ-loop
-add-i c = search needs
 
 loop-less : tie.Need-loop-less Inv-loop μ-loop
 loop-less c = omega arith
@@ -61,16 +55,4 @@ returns c = let l = c .before .loop in stored-done coordinates 2 (λ v. refl) (v
 
 pub vertices-at-spec : {M : Type 1} → statement M
 vertices-at-spec =
-    tie.close
-    (tie.spec
-    Inv-loop
-    μ-loop
-    loop-holds
-    vector-at-requires
-    add-put
-    put-requires
-    add-i
-    loop-less
-    loop-again
-    same-length
-    returns)
+    tie.close (tie.spec Inv-loop μ-loop loop-holds (search needs) add-put put-requires (search needs) loop-less loop-again same-length returns)

@@ -7,18 +7,9 @@ use borrow.Author.Needs.{needs}
 use Rattle.session.proofs.Session.batch.Statement.{statement}
 use Rattle.session.proofs.Session.batch.Tie as tie
 
-judge-batch-requires : tie.Need-judge-batch-requires
-judge-batch-requires c κs = search needs
-
-enum-told : tie.Need-enum-told
-enum-told c = search needs
-
 returns : tie.Need-returns
 unfolding fedAs
 returns c = continues-by _ _ _ (simp (c .enum-told .given .1, ← c .before .before .judge-batch .ensures))
-
-enum-told-2 : tie.Need-enum-told-2
-enum-told-2 c = search needs
 
 work-requires : tie.Need-work-requires
 work-requires c κs = batch-fits _ (now (c .before .before .before .before .args .numbers)) (rw (c .enum-told2 .given .1) at (c .before .before .judge-batch .ensures))
@@ -29,4 +20,4 @@ returns-2 c = continues-by _ _ _ (simp (c .before .enum-told2 .given .1, ← c .
 
 pub batch-spec : {M : Type 1} → statement M
 batch-spec =
-    tie.close (tie.spec judge-batch-requires enum-told returns enum-told-2 work-requires returns-2)
+    tie.close (tie.spec (search needs) (search needs) returns (search needs) work-requires returns-2)

@@ -13,4 +13,5 @@ unfolding isGood
 returns-2 c = simp (le-ltb _ _ (c .if1 .left))
 
 pub is-good-spec : {M : Type 1} → statement M
-is-good-spec = tie.close (tie.spec returns returns-2)
+is-good-spec =
+    tie.close (tie.spec returns returns-2)
