@@ -2,12 +2,15 @@
 -- Definitions only. Assumes nothing.
 use mathlib.Core.Bool.{Bool, _&&_}
 use lib.Ieee.{Float, neg}
-use Rattle.arithmetic.specs.Binary32.{_⊕_, _⊖_, _⊗_, _⊘_, _≈ᶠ_, 1ᶠ}
+use Rattle.arithmetic.specs.Binary32.{_⊕_, _⊖_, _⊗_, _⊘_, _≈ᶠ_, 0ᶠ, 1ᶠ}
 use Rattle.arithmetic.specs.Root.{sqrtOf}
 use Rattle.common.specs.declared.Vec2.{Vec2}
 
 abbrev pub vec : Float → Float → Vec2
 vec x y = record { x = x; y = y }
+
+abbrev pub zeroVector : Vec2
+zeroVector = vec 0ᶠ 0ᶠ
 
 unfoldable pub addOf : Vec2 → Vec2 → Vec2
 addOf a b = vec (a .x ⊕ b .x) (a .y ⊕ b .y)

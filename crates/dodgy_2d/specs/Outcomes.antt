@@ -3,11 +3,10 @@ use Prim.Native.Nat.{ℕ, _+_}
 use mathlib.Core.List.{List, [], _∷_, _++_}
 use lib.ListN.{length}
 use lib.Ieee.{Float}
-use Rattle.arithmetic.specs.Binary32.{0ᶠ}
 use Rattle.admission.specs.declared.Head.{Head}
 use Rattle.admission.specs.Faults.{unlessFault}
 use Rattle.common.specs.declared.Vec2.{Vec2}
-use Rattle.common.specs.Vectors.{vec}
+use Rattle.common.specs.Vectors.{zeroVector}
 use Rattle.lines.specs.declared.Line.{Line}
 use Rattle.linear_programming.specs.Whole.{Failed, Outcome, stands, refusal, solving, relaxing, rigidFailure, wholeList}
 use Rattle.obstacles.specs.declared.Agent.{Agent}
@@ -47,7 +46,7 @@ unfoldable pub passAt : Scene → Vec2 → Outcome
 passAt s velocity = solvedOver (s .wish) (s .limit) (neighboursIn s) (edgesAt s velocity)
 
 abbrev pub atRest : Vec2
-atRest = vec 0ᶠ 0ᶠ
+atRest = zeroVector
 
 -- ---- the outcomes
 

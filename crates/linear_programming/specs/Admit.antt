@@ -5,7 +5,7 @@ use lib.ListN.{length}
 use lib.Dec.{leb, eqb}
 use lib.Ieee.{Float}
 use Rattle.arithmetic.specs.Binary32.{bits, 0ᶠ}
-use Rattle.admission.specs.Faults.{Fault, fine, fault, must, _⊳_, within, inside}
+use Rattle.admission.specs.Faults.{Fault, must, _⊳_, unlessFault, within, inside}
 use Rattle.common.specs.declared.Vec2.{Vec2}
 use Rattle.lines.specs.declared.Line.{Line}
 use Rattle.lines.specs.Lines.{linesOf}
@@ -15,8 +15,7 @@ use Rattle.linear_programming.specs.Whole.{Outcome, refusal, wholeList}
 infix 15 _⟫_
 -- what comes where there is no fault
 abbrev pub _⟫_ : Fault → Outcome → Outcome
-fine ⟫ o = o
-fault r ⟫ o = refusal r
+f ⟫ o = unlessFault refusal f o
 
 -- ---- limits
 

@@ -3,7 +3,7 @@ use mathlib.Core.Bool.{Bool, false, _&&_}
 use lib.Ieee.{Float}
 use Rattle.arithmetic.specs.Binary32.{_⊗_, _⊘_, _≤ᶠ_, _<ᶠ_, 0ᶠ, 1ᶠ, if_then_else_}
 use Rattle.common.specs.declared.Vec2.{Vec2}
-use Rattle.common.specs.Vectors.{vec, subOf, negOf, mulOf, dotOf, perpOf, lengthSquaredOf, distanceSquaredOf, normalizeOf, determinantOf}
+use Rattle.common.specs.Vectors.{zeroVector, subOf, negOf, mulOf, dotOf, perpOf, lengthSquaredOf, distanceSquaredOf, normalizeOf, determinantOf}
 use Rattle.lines.specs.declared.Line.{Line}
 use Rattle.lines.specs.Lines.{line}
 use Rattle.obstacles.specs.declared.EdgeShape.{EdgeShape}
@@ -34,12 +34,9 @@ inUnit t = 0ᶠ ≤ᶠ t && t ≤ᶠ 1ᶠ
 unfoldable pub reaches : Bool → Float → Float → Bool
 reaches there distance radius = there && distance ≤ᶠ radius
 
-abbrev pub zero : Vec2
-zero = vec 0ᶠ 0ᶠ
-
 -- the agent collides with a vertex: "if !convex", along the edge; else across the way to the vertex
 unfoldable pub cornerLine : Bool → Vec2 → Vec2 → Line
-cornerLine convex relative unit = if convex then line zero (normalizeOf (perpOf relative)) else line zero (negOf unit)
+cornerLine convex relative unit = if convex then line zeroVector (normalizeOf (perpOf relative)) else line zeroVector (negOf unit)
 
 -- "If the right edge goes to the right of the right vertex", which is asked of a convex one that has a next edge
 unfoldable pub nextHandles : EdgeVertex → Vec2 → OuterVertex → Bool

@@ -4,14 +4,14 @@ use mathlib.Core.List.{List}
 use lib.Ieee.{Float}
 use Rattle.arithmetic.specs.Binary32.{_⊘_, _<ᶠ_, 0ᶠ, 1ᶠ, if_then_else_}
 use Rattle.common.specs.declared.Vec2.{Vec2}
-use Rattle.common.specs.Vectors.{subOf, negOf, eqOf, determinantOf}
+use Rattle.common.specs.Vectors.{zeroVector, subOf, negOf, eqOf, determinantOf}
 use Rattle.lines.specs.declared.Line.{Line}
 use Rattle.lines.specs.Lines.{line}
 use Rattle.obstacles.specs.declared.Agent.{Agent}
 use Rattle.obstacles.specs.declared.EdgeShape.{EdgeShape}
 use Rattle.obstacles.specs.Edges.{at, Edge, Side, onLeft, onRight, EdgeLine, nothing, made}
 use Rattle.obstacles.specs.Cover.{isEdgeCovered}
-use Rattle.obstacles.specs.Collision.{shapeOf, inUnit, reaches, zero, cornerLine, rightCornerLine}
+use Rattle.obstacles.specs.Collision.{shapeOf, inUnit, reaches, cornerLine, rightCornerLine}
 use Rattle.obstacles.specs.Shadows.{tangent, sideDirection, shadowBeside}
 use Rattle.obstacles.specs.Cutoffs.{cutoffOf, chooseLine}
 
@@ -69,7 +69,7 @@ lineInFront agent e s margin horizon =
     else if reaches (1ᶠ <ᶠ s .«edge_t») (s .«dist_right_squared») (s .«squared_radius»)
     then rightCornerLine e s
     else if reaches (inUnit (s .«edge_t»)) (s .«dist_to_edge_line_squared») (s .«squared_radius»)
-    then made (line zero (negOf (s .«edge_unit_vector»)))
+    then made (line zeroVector (negOf (s .«edge_unit_vector»)))
     else linePast agent e s margin horizon
 
 -- "If the agent is already on the wrong side of the edge", or the edge is "already covered by existing lines", there is no line

@@ -7,7 +7,7 @@ use lib.Dec.{leb, eqb}
 use lib.Ieee.{Float}
 use Rattle.arithmetic.specs.Binary32.{0ᶠ}
 use Rattle.admission.specs.Faults.{fine, fault, judgedAs}
-use Rattle.common.specs.Vectors.{vec}
+use Rattle.common.specs.Vectors.{zeroVector}
 use Rattle.lines.specs.declared.Line.{Line}
 use Rattle.lines.specs.Lines.{fourOf}
 use Rattle.obstacles.specs.Read.{blankNumbers}
@@ -44,7 +44,7 @@ abbrev pub sceneOf : Cart → ℕ → List Obstacle → ℕ → List Line → Sc
 sceneOf c n os m ls = sceneWith c n (wallsWith noWalls 0 0 os) m (sets blankNumbers 0 (each fourOf ls))
 
 abbrev pub blankCart : Cart
-blankCart = cartOf (vec 0ᶠ 0ᶠ) (vec 0ᶠ 0ᶠ) 0ᶠ 0ᶠ (vec 0ᶠ 0ᶠ) 0ᶠ
+blankCart = cartOf zeroVector zeroVector 0ᶠ 0ᶠ zeroVector 0ᶠ
 
 abbrev pub blankScene : Scene
 blankScene = sceneWith blankCart 0 noWalls 0 blankNumbers

@@ -7,7 +7,7 @@ use lib.ListN.{length}
 use lib.Ieee.{Float}
 use Rattle.arithmetic.specs.Binary32.{0ᶠ}
 use Rattle.common.specs.declared.Vec2.{Vec2}
-use Rattle.common.specs.Vectors.{vec}
+use Rattle.common.specs.Vectors.{zeroVector}
 use Rattle.lines.specs.Lines.{linesOf}
 use Rattle.lines.specs.LineFaults.{linesFault}
 use Rattle.linear_programming.specs.Whole.{Outcome, stands, refusal, solving, noLine}
@@ -23,7 +23,7 @@ blank-size : length blankLines ≡ 256
 unfolding blankLines
 blank-size = refl
 
-nothing-wished : judgedList 0 (vec 0ᶠ 0ᶠ) 0ᶠ [] ≡ stands (solving (vec 0ᶠ 0ᶠ)) noLine 0
+nothing-wished : judgedList 0 zeroVector 0ᶠ [] ≡ stands (solving zeroVector) noLine 0
 unfolding computed within inside wishFault linesFault judgedList
 nothing-wished = refl
 

@@ -5,7 +5,7 @@ use lib.ListN.{take, replicate}
 use lib.Ieee.{Float}
 use Rattle.arithmetic.specs.Binary32.{0ᶠ}
 use Rattle.common.specs.declared.Vec2.{Vec2}
-use Rattle.common.specs.Vectors.{vec}
+use Rattle.common.specs.Vectors.{zeroVector}
 use Rattle.lines.specs.declared.Line.{Line}
 use Rattle.lines.specs.Lines.{line}
 use Rattle.linear_programming.specs.Whole.{solving, noLine, Outcome, stands, refusal}
@@ -24,16 +24,16 @@ outcomeIn s = stands (phaseOf (s .phase)) (failedOf (s .failed)) (s .probes)
 
 -- the array of a session that has no lines yet
 unfoldable pub blankLines : List Line
-blankLines = replicate 256 (line (vec 0ᶠ 0ᶠ) (vec 0ᶠ 0ᶠ))
+blankLines = replicate 256 (line zeroVector zeroVector)
 
 unfoldable pub blankSession : Session
 blankSession = record {
   lines = blankLines;
   count = 0;
   rigid = 0;
-  wish = vec 0ᶠ 0ᶠ;
+  wish = zeroVector;
   limit = 0ᶠ;
-  phase = phaseAs (solving (vec 0ᶠ 0ᶠ));
+  phase = phaseAs (solving zeroVector);
   failed = failedAs noLine;
   probes = 0;
 }

@@ -5,7 +5,7 @@ use native.Mathlib.Omega.{arith}
 use denote.Ref.{now}
 use Rattle.obstacles.specs.Obstacles.{obstacleCall}
 use Rattle.obstacles.proofs.VertexNumbers.{part-size}
-use Rattle.obstacles.proofs.Faults.{few-there}
+use Rattle.obstacles.proofs.ObstacleFaults.{few-there}
 use borrow.Author.Needs.{needs}
 use Rattle.obstacles.proofs.get_lines_for_agent_to_obstacle.Statement.{statement}
 use Rattle.obstacles.proofs.get_lines_for_agent_to_obstacle.Tie as tie
