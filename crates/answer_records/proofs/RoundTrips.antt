@@ -10,8 +10,8 @@ use lib.ListN.{length, getD}
 use borrow.Author.Tests.{le-leb, lt-leb, lt-ltb, le-ltb, ltb-true, ltb-false}
 use Rattle.arithmetic.specs.Binary32.{if_then_else_}
 use Rattle.words.specs.Words.{pairOf, wordOf}
-use Rattle.fields.specs.Bytes.{be, beFrom, toBe, AllBytes}
-use Rattle.fields.proofs.ByteLaws.{be-toBe}
+use Rattle.fields.specs.Bytes.{bigEndianNumber, bigEndianFrom, bigEndian, AllBytes}
+use Rattle.fields.proofs.ByteLaws.{number-of-bytes}
 use Rattle.admission.specs.Faults.{Fault, fine, fault, unlessFault}
 use Rattle.answer_records.specs.declared.Answer.{Answer}
 use Rattle.answer_records.specs.declared.Reply.the-variants as reply
@@ -22,8 +22,8 @@ use Rattle.answer_records.proofs.ReplyLaws.{Faultless, faultless, has-c
 -- ---- numbers and their bytes
 
 module _ (s : List ℕ) (at : ℕ) (bytes : AllBytes s) where
-  pair-bytes : toBe 2 (pairOf s at) ≡ getD s at 0 ∷ getD s (at + 1) 0 ∷ []
-  unfolding toBe pairOf
+  pair-bytes : bigEndian 2 (pairOf s at) ≡ getD s at 0 ∷ getD s (at + 1) 0 ∷ []
+  unfolding bigEndian pairOf
   pair-bytes =
       let a = bytes at in
       let b = bytes (at + 1) in
@@ -31,8 +31,8 @@ module _ (s : List ℕ) (at : ℕ) (bytes : AllBytes s) where
       let second : pairOf s at / 256 ^ 0 % 256 ≡ getD s (at + 1) 0 = rw div-one (omega arith) in
       rw (first, second)
 
-  word-bytes : toBe 4 (wordOf s at) ≡ getD s at 0 ∷ getD s (at + 1) 0 ∷ getD s (at + 2) 0 ∷ getD s (at + 3) 0 ∷ []
-  unfolding toBe wordOf
+  word-bytes : bigEndian 4 (wordOf s at) ≡ getD s at 0 ∷ getD s (at + 1) 0 ∷ getD s (at + 2) 0 ∷ getD s (at + 3) 0 ∷ []
+  unfolding bigEndian wordOf
   word-bytes =
       let a = bytes at in
       let b = bytes (at + 1) in
@@ -67,20 +67,20 @@ pub record Fits (a : Answer) : Type 0 where
 
 module _ (a : Answer) (fits : Fits a) where
   same-outcome : outcomeIn (answerBytes a) ≡ a
-  unfolding outcomeIn answerBytes toBe be beFrom wordOf pairOf
+  unfolding outcomeIn answerBytes bigEndian bigEndianNumber bigEndianFrom wordOf pairOf
   same-outcome =
-      let x : wordOf (answerBytes a) 4 ≡ a .x = omega (arith, be-toBe 4 (a .x) (fits .x)) in
-      let y : wordOf (answerBytes a) 8 ≡ a .y = omega (arith, be-toBe 4 (a .y) (fits .y)) in
-      let failed : pairOf (answerBytes a) 12 ≡ a .failed = omega (arith, be-toBe 2 (a .failed) (fits .failed)) in
-      let probes : wordOf (answerBytes a) 14 ≡ a .probes = omega (arith, be-toBe 4 (a .probes) (fits .probes)) in
+      let x : wordOf (answerBytes a) 4 ≡ a .x = omega (arith, number-of-bytes 4 (a .x) (fits .x)) in
+      let y : wordOf (answerBytes a) 8 ≡ a .y = omega (arith, number-of-bytes 4 (a .y) (fits .y)) in
+      let failed : pairOf (answerBytes a) 12 ≡ a .failed = omega (arith, number-of-bytes 2 (a .failed) (fits .failed)) in
+      let probes : wordOf (answerBytes a) 14 ≡ a .probes = omega (arith, number-of-bytes 4 (a .probes) (fits .probes)) in
       rw (x, y, failed, probes)
 
   outcome-fine : answerFault (answerBytes a) ≡ fine
-  unfolding answerFault answerBytes toBe pairOf isLength lengthOfCode if_then_else_
+  unfolding answerFault answerBytes bigEndian pairOf isLength lengthOfCode if_then_else_
   outcome-fine = rw (le-leb 1 (a .code) (fits .least), le-leb (a .code) 5 (fits .most))
 
   outcome-code : ltb (getD (answerBytes a) 3 0) 128 ≡ true
-  unfolding answerBytes toBe
+  unfolding answerBytes bigEndian
   outcome-code = lt-ltb (a .code) 128 (omega (arith, fits .most))
 
   pub outcome-read-back : answerIn (answerBytes a) ≡ reply.Outcome a
@@ -92,11 +92,11 @@ module _ (n : ℕ) (least : 1 ≤ n) (most : n ≤ 10) where
   code-of = omega arith
 
   refusal-fine : answerFault (refusalBytes n) ≡ fine
-  unfolding answerFault refusalBytes toBe pairOf isLength lengthOfCode if_then_else_
+  unfolding answerFault refusalBytes bigEndian pairOf isLength lengthOfCode if_then_else_
   refusal-fine = rw (code-of, le-leb 1 (128 + n) (omega arith), lt-leb (128 + n) 5 (omega arith), le-leb 129 (128 + n) (omega arith), le-leb (128 + n) 138 (omega arith))
 
   pub refusal-read-back : answerIn (refusalBytes n) ≡ reply.Refusal n
-  unfolding answerIn refusalBytes toBe if_then_else_
+  unfolding answerIn refusalBytes bigEndian if_then_else_
   refusal-read-back =
       let number : 128 + n - 128 ≡ n = omega arith in
       rw (refusal-fine, code-of, le-ltb (128 + n) 128 (omega arith), number)
@@ -143,8 +143,8 @@ its-bytes : (s : List ℕ) (w : ℕ) → Faultless s → pairOf s 0 ≡ w → s 
 its-bytes s w whole e = rw (whole .matched ∙ ap (λ (n : ℕ). 2 + n) e) at (listed s)
 
 module _ (s : List ℕ) (bytes : AllBytes s) where
-  length-bytes : (w : ℕ) → pairOf s 0 ≡ w → toBe 2 w ≡ getD s 0 0 ∷ getD s 1 0 ∷ []
-  length-bytes w e = ap (toBe 2) (sym e) ∙ pair-bytes s 0 bytes
+  length-bytes : (w : ℕ) → pairOf s 0 ≡ w → bigEndian 2 w ≡ getD s 0 0 ∷ getD s 1 0 ∷ []
+  length-bytes w e = ap (bigEndian 2) (sym e) ∙ pair-bytes s 0 bytes
 
   pub outcome-written-again : (a : Answer) → answerIn s ≡ reply.Outcome a → s ≡ answerBytes a
   unfolding answerIn answerBytes outcomeIn upTo

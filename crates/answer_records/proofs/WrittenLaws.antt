@@ -10,13 +10,13 @@ use lib.Seq.{sets, sets-eq}
 use borrow.Author.Tests.{le-leb, lt-leb}
 use Rattle.arithmetic.specs.Binary32.{if_then_else_}
 use Rattle.admission.specs.Faults.{fine, fault}
-use Rattle.fields.specs.Bytes.{toBe}
+use Rattle.fields.specs.Bytes.{bigEndian}
 use Rattle.answer_records.specs.declared.Answer.{Answer}
 use Rattle.answer_records.specs.Answers.{outcomeLength, refusalLength, answerVersion, longestAnswer, answerBytes, refusalBytes, written, laid}
 
 -- a word's two halves, one behind the other
-pub halves : (l : List ℕ) (at x : ℕ) → sets (sets l at (toBe 2 (x / 65536))) (at + 2) (toBe 2 (x % 65536)) ≡ sets l at (toBe 4 x)
-unfolding toBe
+pub halves : (l : List ℕ) (at x : ℕ) → sets (sets l at (bigEndian 2 (x / 65536))) (at + 2) (bigEndian 2 (x % 65536)) ≡ sets l at (bigEndian 4 x)
+unfolding bigEndian
 halves l at x =
     let first : x / 65536 / 256 % 256 ≡ x / 16777216 % 256 = omega arith in
     let third : x % 65536 / 256 % 256 ≡ x / 256 % 256 = omega arith in
@@ -37,19 +37,19 @@ module _ (bytes l : List ℕ) where
 
 module _ (a : Answer) (l : List ℕ) where
   pub no-room : length l < longestAnswer → written (fault 10) l ≡ laid (answerBytes a) l
-  unfolding answerBytes toBe
+  unfolding answerBytes bigEndian
   no-room = too-short (answerBytes a) l
 
-  pub stored : (named placed-x placed-y placed-line whole : List ℕ) → longestAnswer ≤ length l → named ≡ sets l 0 (toBe 2 outcomeLength) → placed-x ≡ sets (set (set named 2 answerVersion) 3 (a .code)) 4 (toBe 4 (a .x))
-      → placed-y ≡ sets placed-x 8 (toBe 4 (a .y)) → placed-line ≡ sets placed-y 12 (toBe 2 (a .failed)) → whole ≡ sets placed-line 14 (toBe 4 (a .probes)) → written fine whole ≡ laid (answerBytes a) l
-  unfolding answerBytes toBe
+  pub stored : (named placed-x placed-y placed-line whole : List ℕ) → longestAnswer ≤ length l → named ≡ sets l 0 (bigEndian 2 outcomeLength) → placed-x ≡ sets (set (set named 2 answerVersion) 3 (a .code)) 4 (bigEndian 4 (a .x))
+      → placed-y ≡ sets placed-x 8 (bigEndian 4 (a .y)) → placed-line ≡ sets placed-y 12 (bigEndian 2 (a .failed)) → whole ≡ sets placed-line 14 (bigEndian 4 (a .probes)) → written fine whole ≡ laid (answerBytes a) l
+  unfolding answerBytes bigEndian
   stored named placed-x placed-y placed-line whole h by-length by-x by-y by-line by-probes = rw (by-probes, by-line, by-y, by-x, by-length) (room (answerBytes a) l h)
 
 module _ (n : ℕ) (l : List ℕ) where
   pub no-room-for-refusal : length l < 4 → written (fault 10) l ≡ laid (refusalBytes n) l
-  unfolding refusalBytes toBe
+  unfolding refusalBytes bigEndian
   no-room-for-refusal = too-short (refusalBytes n) l
 
-  pub stored-refusal : (named : List ℕ) (code : ℕ) → 4 ≤ length l → named ≡ sets l 0 (toBe 2 refusalLength) → code ≡ (128 + n) % 256 → written fine (set (set named 2 answerVersion) 3 code) ≡ laid (refusalBytes n) l
-  unfolding refusalBytes toBe
+  pub stored-refusal : (named : List ℕ) (code : ℕ) → 4 ≤ length l → named ≡ sets l 0 (bigEndian 2 refusalLength) → code ≡ (128 + n) % 256 → written fine (set (set named 2 answerVersion) 3 code) ≡ laid (refusalBytes n) l
+  unfolding refusalBytes bigEndian
   stored-refusal named code h e c = rw (e, c) (room (refusalBytes n) l h)

@@ -4,7 +4,7 @@ use mathlib.Core.List.{List, [], _∷_, _++_}
 use lib.Dec.{leb}
 use lib.ListN.{length, drop}
 use Rattle.arithmetic.specs.Binary32.{if_then_else_}
-use Rattle.fields.specs.Bytes.{toBe}
+use Rattle.fields.specs.Bytes.{bigEndian}
 use Rattle.admission.specs.declared.Judged.{Judged}
 use Rattle.admission.specs.Faults.{Fault, fine, fault, faultOf}
 use Rattle.answer_records.specs.declared.Answer.{Answer}
@@ -25,11 +25,11 @@ longestAnswer = 18
 
 -- "Answer: length 16, version 1, outcome, x, y, failed line (2 bytes, FFFF for none), probes (4 bytes)"
 unfoldable pub answerBytes : Answer → List ℕ
-answerBytes a = toBe 2 outcomeLength ++ answerVersion ∷ a .code ∷ toBe 4 (a .x) ++ toBe 4 (a .y) ++ toBe 2 (a .failed) ++ toBe 4 (a .probes)
+answerBytes a = bigEndian 2 outcomeLength ++ answerVersion ∷ a .code ∷ bigEndian 4 (a .x) ++ bigEndian 4 (a .y) ++ bigEndian 2 (a .failed) ++ bigEndian 4 (a .probes)
 
 -- "a refused scene as 00 02 01 and 128 + number". A code is a byte: numbers go up to 10, and one over 127 is never read as a refusal's
 unfoldable pub refusalBytes : ℕ → List ℕ
-refusalBytes n = toBe 2 refusalLength ++ answerVersion ∷ (128 + n) % 256 ∷ []
+refusalBytes n = bigEndian 2 refusalLength ++ answerVersion ∷ (128 + n) % 256 ∷ []
 
 -- what a writer tells, and what the buffer holds then
 pub record Written : Type 0 where

@@ -4,7 +4,7 @@ ghost use mathlib.Core.Path.{_≡_};
 ghost use Prim.Native.Nat.{_+_, _≤_, _<_};
 ghost use lib.ListN.{length};
 ghost use lib.Seq.{sets};
-ghost use Rattle.fields.specs.Bytes.{toBe};
+ghost use Rattle.fields.specs.Bytes.{bigEndian};
 ghost use Rattle.admission.specs.Faults.{faultOf};
 ghost use Rattle.answer_records.specs.Answers.{answerBytes, refusalBytes, laid, writtenOf};
 ghost use Rattle.answer_records.specs.Replies.{isLength, lengthOfCode, answerFault, outcomeIn, answerIn};
@@ -141,7 +141,7 @@ fn outcome_in(bytes: &[u8]) -> Answer
 
 fn put_pair(buffer: &mut [u8], at: usize, x: u16)
     requires { ⌜ at + 2 ≤ length (now buffer) ⌝ }
-    ensures { λ _. ⌜ now (buffer .exit) ≡ sets (now (buffer .entry)) at (toBe 2 x) ⌝ }
+    ensures { λ _. ⌜ now (buffer .exit) ≡ sets (now (buffer .entry)) at (bigEndian 2 x) ⌝ }
 {
     buffer[at] = (x / 0x100 % 0x100) as u8;
     buffer[at + 1] = (x % 0x100) as u8;
@@ -149,7 +149,7 @@ fn put_pair(buffer: &mut [u8], at: usize, x: u16)
 
 fn put_word(buffer: &mut [u8], at: usize, x: u32)
     requires { ⌜ at + 4 ≤ length (now buffer) ⌝ }
-    ensures { λ _. ⌜ now (buffer .exit) ≡ sets (now (buffer .entry)) at (toBe 4 x) ⌝ }
+    ensures { λ _. ⌜ now (buffer .exit) ≡ sets (now (buffer .entry)) at (bigEndian 4 x) ⌝ }
 {
     put_pair(buffer, at, (x / 0x1_0000) as u16);
     put_pair(buffer, at + 2, (x % 0x1_0000) as u16);

@@ -6,9 +6,9 @@ use mathlib.Core.List.{List, [], _∷_, _++_, append-assoc}
 use lib.ListN.{length, take, drop, length-drop, length-append}
 use lib.Seq.{drop-drop, take-at, drop-at}
 use borrow.Author.Tests.{le-leb}
-use Rattle.fields.specs.Bytes.{toBe, each}
+use Rattle.fields.specs.Bytes.{bigEndian, each}
 use Rattle.fields.specs.Got.{Got, got, word, many}
-use Rattle.fields.proofs.ByteLaws.{be-toBe, length-toBe}
+use Rattle.fields.proofs.ByteLaws.{number-of-bytes, length-big-endian}
 
 -- the step gives v, and r is what is left behind it
 pub record Back {A : Type 0} (s : List ℕ) (g : Got A) (v : A) (r : List ℕ) : Type 0 where
@@ -20,14 +20,14 @@ pub record Back {A : Type 0} (s : List ℕ) (g : Got A) (v : A) (r : List ℕ) :
 pub taking : {A C : Type 0} {s : List ℕ} {g : Got A} {v : A} {r : List ℕ} → Back s g v r → ((m : ℕ) → g ≡ got v m → m ≤ length s → drop m s ≡ r → C) → C
 taking b k = k (b .place) (b .gives) (b .bound) (b .left)
 
-pub word-back : (s : List ℕ) (w at x : ℕ) (r : List ℕ) → 0 < w → x < 256 ^ w → drop at s ≡ toBe w x ++ r → Back s (word w s at) x r
+pub word-back : (s : List ℕ) (w at x : ℕ) (r : List ℕ) → 0 < w → x < 256 ^ w → drop at s ≡ bigEndian w x ++ r → Back s (word w s at) x r
 unfolding word
 word-back s w at x r p h e =
-    let l : length s - at ≡ w + length r = sym (length-drop at s) ∙ ap length e ∙ length-append (toBe w x) r ∙ ap (λ (k : ℕ). k + length r) (length-toBe w x) in
+    let l : length s - at ≡ w + length r = sym (length-drop at s) ∙ ap length e ∙ length-append (bigEndian w x) r ∙ ap (λ (k : ℕ). k + length r) (length-big-endian w x) in
     let b : at + w ≤ length s = omega arith in
-    let t : take w (drop at s) ≡ toBe w x = ap (take w) e ∙ take-at (toBe w x) r w (length-toBe w x) in
-    let d : drop (at + w) s ≡ r = sym (drop-drop w at s) ∙ ap (drop w) e ∙ drop-at (toBe w x) r w (length-toBe w x) in
-    record { place = at + w; gives = rw (le-leb (at + w) (length s) b, t, be-toBe w x h); bound = b; left = d }
+    let t : take w (drop at s) ≡ bigEndian w x = ap (take w) e ∙ take-at (bigEndian w x) r w (length-big-endian w x) in
+    let d : drop (at + w) s ≡ r = sym (drop-drop w at s) ∙ ap (drop w) e ∙ drop-at (bigEndian w x) r w (length-big-endian w x) in
+    record { place = at + w; gives = rw (le-leb (at + w) (length s) b, t, number-of-bytes w x h); bound = b; left = d }
 
 -- each in its turn, with the state that those before it left
 abbrev pub Every : {A S : Type 0} → (S → A → Type 0) → (S → A → S) → S → List A → Type 0

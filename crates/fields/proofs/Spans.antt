@@ -8,9 +8,9 @@ use lib.ListN.{length, take, drop, getD, take-append-drop, length-drop, length-t
 use lib.Seq.{drop-drop, getD-take, getD-drop, length-take-le}
 use lib.Dec.{leb, lit<}
 use borrow.Author.Tests.{leb-true}
-use Rattle.fields.specs.Bytes.{be, toBe, each, AllBytes}
+use Rattle.fields.specs.Bytes.{bigEndianNumber, bigEndian, each, AllBytes}
 use Rattle.fields.specs.Got.{Got, got, word, many}
-use Rattle.fields.proofs.ByteLaws.{toBe-be, be-lt}
+use Rattle.fields.proofs.ByteLaws.{bytes-of-number, number-lt}
 use Rattle.fields.proofs.ChainLaws.{got-same, then-got, guard-got, cons-got}
 
 -- from place `at` to place m stand the bytes b. A record, so that b and m are found from a proof of it
@@ -36,17 +36,17 @@ unfolding word
 word-fits s w at x m e = guard-got (leb (at + w) (length s)) 2 _ e λ t r. (sym (got-same r .1), leb-true (at + w) (length s) t)
 
 module _ (s : List ℕ) (h : AllBytes s) where
-  pub word-span : (w at x m : ℕ) → word w s at ≡ got x m → (x < 256 ^ w) × Span s at (toBe w x) m
+  pub word-span : (w at x m : ℕ) → word w s at ≡ got x m → (x < 256 ^ w) × Span s at (bigEndian w x) m
   unfolding word
   word-span w at x m e =
       guard-got (leb (at + w) (length s)) 2 _ e λ t r.
       let f : at + w ≤ length s = leb-true (at + w) (length s) t in
-      let p : be (take w (drop at s)) ≡ x = got-same r .0 in
+      let p : bigEndianNumber (take w (drop at s)) ≡ x = got-same r .0 in
       let q : at + w ≡ m = got-same r .1 in
       let l : length (take w (drop at s)) ≡ w = length-take-le w (drop at s) (rw length-drop (omega arith)) in
       let k : AllBytes (take w (drop at s)) = part-bytes s w at h in
-      let b : toBe w x ≡ take w (drop at s) = rw (l, p) at (toBe-be (take w (drop at s)) k) in
-      (rw (l, p) at (be-lt (take w (drop at s)) k), record { stands = rw (b, ← q, ← drop-drop w at s) (sym (take-append-drop w (drop at s))) })
+      let b : bigEndian w x ≡ take w (drop at s) = rw (l, p) at (bytes-of-number (take w (drop at s)) k) in
+      (rw (l, p) at (number-lt (take w (drop at s)) k), record { stands = rw (b, ← q, ← drop-drop w at s) (sym (take-append-drop w (drop at s))) })
 
 -- steps that each read the bytes of their value read those of all, one behind the other
 pub many-span : {A S : Type 0} (s : List ℕ) (step : S → ℕ → Got A) (on : S → A → S) (bytes : A → List ℕ)

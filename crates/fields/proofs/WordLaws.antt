@@ -9,35 +9,35 @@ use lib.ListN.{length, take, drop, getD}
 use lib.Seq.{drop-cons}
 use borrow.Author.Tests.{lt-leb, le-leb}
 use Rattle.words.specs.Words.{pairOf, wordOf}
-use Rattle.fields.specs.Bytes.{be, beFrom}
+use Rattle.fields.specs.Bytes.{bigEndianNumber, bigEndianFrom}
 use Rattle.fields.specs.Got.{refused, got, word}
 
 -- one byte more
-be-step : (n w : ℕ) (s : List ℕ) (at : ℕ) → at < length s → beFrom n (take (suc w) (drop at s)) ≡ beFrom (n * 256 + getD s at 0) (take w (drop (at + 1) s))
-unfolding beFrom
-be-step n w s at h = rw (add-one, drop-cons s at 0)
+number-step : (n w : ℕ) (s : List ℕ) (at : ℕ) → at < length s → bigEndianFrom n (take (suc w) (drop at s)) ≡ bigEndianFrom (n * 256 + getD s at 0) (take w (drop (at + 1) s))
+unfolding bigEndianFrom
+number-step n w s at h = rw (add-one, drop-cons s at 0)
 
 -- bytes that are missing
-pub word-none : (w : ℕ) (s : List ℕ) (at : ℕ) → length s < at + w → refused 2 ≡ word w s at
+pub word-missing : (w : ℕ) (s : List ℕ) (at : ℕ) → length s < at + w → refused 2 ≡ word w s at
 unfolding word
-word-none w s at h = simp (lt-leb (at + w) (length s) h)
+word-missing w s at h = simp (lt-leb (at + w) (length s) h)
 
 module _ (s : List ℕ) (at : ℕ) where
-  pub byte-some : at < length s → got (getD s at 0) (at + 1) ≡ word 1 s at
-  unfolding word be beFrom
-  byte-some h =
+  pub byte-there : at < length s → got (getD s at 0) (at + 1) ≡ word 1 s at
+  unfolding word bigEndianNumber bigEndianFrom
+  byte-there h =
       let e : getD s at 0 ≡ 0 + getD s at 0 = omega arith in
       rw (le-leb (at + 1) (length s) (omega arith), drop-cons s at 0) (ap (λ (n : ℕ). got n (at + 1)) e)
 
   -- two bytes are what `words` calls the pair, four the word
-  pub two-some : at + 2 ≤ length s → got (pairOf s at) (at + 2) ≡ word 2 s at
-  unfolding word be beFrom pairOf
-  two-some h =
-      let e : pairOf s at ≡ be (take 2 (drop at s)) = sym (be-step 0 1 s at (omega arith) ∙ be-step _ 0 s (at + 1) (omega arith) ∙ omega arith) in
+  pub pair-there : at + 2 ≤ length s → got (pairOf s at) (at + 2) ≡ word 2 s at
+  unfolding word bigEndianNumber bigEndianFrom pairOf
+  pair-there h =
+      let e : pairOf s at ≡ bigEndianNumber (take 2 (drop at s)) = sym (number-step 0 1 s at (omega arith) ∙ number-step _ 0 s (at + 1) (omega arith) ∙ omega arith) in
       rw (le-leb (at + 2) (length s) h) (ap (λ (n : ℕ). got n (at + 2)) e)
 
-  pub four-some : at + 4 ≤ length s → got (wordOf s at) (at + 4) ≡ word 4 s at
-  unfolding word be beFrom wordOf
-  four-some h =
-      let e : wordOf s at ≡ be (take 4 (drop at s)) = sym (be-step 0 3 s at (omega arith) ∙ be-step _ 2 s (at + 1) (omega arith) ∙ be-step _ 1 s (at + 1 + 1) (omega arith) ∙ be-step _ 0 s (at + 1 + 1 + 1) (omega arith) ∙ simp add-assoc (omega arith)) in
+  pub word-there : at + 4 ≤ length s → got (wordOf s at) (at + 4) ≡ word 4 s at
+  unfolding word bigEndianNumber bigEndianFrom wordOf
+  word-there h =
+      let e : wordOf s at ≡ bigEndianNumber (take 4 (drop at s)) = sym (number-step 0 3 s at (omega arith) ∙ number-step _ 2 s (at + 1) (omega arith) ∙ number-step _ 1 s (at + 1 + 1) (omega arith) ∙ number-step _ 0 s (at + 1 + 1 + 1) (omega arith) ∙ simp add-assoc (omega arith)) in
       rw (le-leb (at + 4) (length s) h) (ap (λ (n : ℕ). got n (at + 4)) e)

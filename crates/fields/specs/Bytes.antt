@@ -4,18 +4,18 @@ use lib.ListN.{getD}
 use mathlib.Core.List.{List, [], _∷_, _++_}
 
 -- the bytes as one number, n being the number that stands in front of them
-unfoldable pub beFrom : ℕ → List ℕ → ℕ
-beFrom n [] = n
-beFrom n (b ∷ l) = beFrom (n * 256 + b) l
+unfoldable pub bigEndianFrom : ℕ → List ℕ → ℕ
+bigEndianFrom n [] = n
+bigEndianFrom n (b ∷ l) = bigEndianFrom (n * 256 + b) l
 
 -- the bytes as one number, the first byte highest
-unfoldable pub be : List ℕ → ℕ
-be l = beFrom 0 l
+unfoldable pub bigEndianNumber : List ℕ → ℕ
+bigEndianNumber l = bigEndianFrom 0 l
 
 -- the w lowest bytes of x, the highest first
-unfoldable pub toBe : ℕ → ℕ → List ℕ
-toBe zero x = []
-toBe (suc w) x = x / 256 ^ w % 256 ∷ toBe w x
+unfoldable pub bigEndian : ℕ → ℕ → List ℕ
+bigEndian zero x = []
+bigEndian (suc w) x = x / 256 ^ w % 256 ∷ bigEndian w x
 
 -- the bytes of each, or its numbers, one behind the other
 unfoldable pub each : {A B : Type 0} → (A → List B) → List A → List B

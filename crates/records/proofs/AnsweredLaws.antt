@@ -14,7 +14,7 @@ use Rattle.admission.specs.Faults.{Fault, fine, fault, faultOf}
 use Rattle.admission.proofs.FaultLaws.{no-fault}
 use Rattle.dodgy_2d.specs.declared.Scene.{Scene}
 use Rattle.dodgy_2d.specs.Outcomes.{sceneOutcome}
-use Rattle.fields.specs.Bytes.{toBe}
+use Rattle.fields.specs.Bytes.{bigEndian}
 use Rattle.fields.specs.Got.{Got, refused, got}
 use Rattle.scene_records.specs.declared.SceneRead.{SceneRead}
 use Rattle.scene_records.specs.Records.{readAs}
@@ -49,12 +49,12 @@ module _ (bytes buffer : List ℕ) where
 -- ---- the reply's bytes
 
 laid-outcome : (a : Answered) (out l : List ℕ) → longestAnswer ≤ length out → written fine l ≡ laidAnswer a out → put longestAnswer l ≡ putAt 0 (replyBytes a) out
-unfolding answerBytes toBe
+unfolding answerBytes bigEndian
 laid-outcome (answer a) out l h e = ap (λ (w : Written). put longestAnswer (w .contents)) (e ∙ laid-there (answerBytes a) out h)
 laid-outcome (refusal r) out l h e = absurd (no-fault r (ap (λ (w : Written). w .told) e))
 
 laid-refusal : (a : Answered) (n : ℕ) (f : Fault) (out l m : List ℕ) → longestAnswer ≤ length out → written (fault n) l ≡ laidAnswer a out → written f m ≡ laid (refusalBytes n) l → put 4 m ≡ putAt 0 (replyBytes a) out
-unfolding answerBytes refusalBytes toBe
+unfolding answerBytes refusalBytes bigEndian
 laid-refusal (answer a) n f out l m h e w = absurd (no-fault n (sym (ap (λ (x : Written). x .told) (e ∙ laid-there (answerBytes a) out h))))
 laid-refusal (refusal r) n f out l m h e w =
     let number : n ≡ r = (let z : _≡_ {A = Fault} (fault n) (fault r) = ap (λ (x : Written). x .told) e in cc) in

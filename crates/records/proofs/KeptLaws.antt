@@ -14,7 +14,7 @@ use Rattle.arithmetic.specs.Binary32.{if_then_else_}
 use Rattle.arithmetic.proofs.Choice.{if-case}
 use Rattle.admission.specs.Faults.{fine, fault}
 use Rattle.admission.proofs.FaultLaws.{no-fault}
-use Rattle.fields.specs.Bytes.{toBe}
+use Rattle.fields.specs.Bytes.{bigEndian}
 use Rattle.answer_records.specs.Answers.{refusalBytes, Written, written, laid}
 use Rattle.records.specs.Steps.{Put, put}
 use Rattle.records.specs.Streams.{lastAnswer, finishedOver, shifted}
@@ -65,11 +65,11 @@ module _ (left : ℕ) (out : List ℕ) where
     last-two = rw (ne-eqb left 0 some)
 
     pub finished-told : (l : List ℕ) → written fine l ≡ laid (refusalBytes 2) out → put 4 l ≡ finishedOver left out
-    unfolding finishedOver laid refusalBytes toBe
+    unfolding finishedOver laid refusalBytes bigEndian
     finished-told l e = rw last-two (told-fine (leb 4 (length out)) 4 l (refusalBytes 2 ++ drop 4 out) out e)
 
     pub finished-short : (r : ℕ) (l : List ℕ) → written (fault r) l ≡ laid (refusalBytes 2) out → put 0 l ≡ finishedOver left out
-    unfolding finishedOver laid refusalBytes toBe
+    unfolding finishedOver laid refusalBytes bigEndian
     finished-short r l e = rw last-two (told-fault (leb 4 (length out)) 4 r l (refusalBytes 2 ++ drop 4 out) out e)
 
 last-fits : (left : ℕ) (out : List ℕ) → finishedOver left out .count ≤ length out

@@ -9,7 +9,7 @@ use borrow.Author.Tests.{le-leb}
 use Rattle.arithmetic.specs.Binary32.{if_then_else_}
 use Rattle.dodgy_2d.specs.declared.Scene.{Scene}
 use Rattle.dodgy_2d.specs.Outcomes.{sceneOutcome}
-use Rattle.fields.specs.Bytes.{toBe}
+use Rattle.fields.specs.Bytes.{bigEndian}
 use Rattle.fields.specs.Got.{Got, refused, got}
 use Rattle.fields.proofs.Spans.{word-fits}
 use Rattle.scene_records.specs.Records.{sceneIn}
@@ -38,7 +38,7 @@ accepted-long s c m e =
 -- ---- an answer has at most two bytes for each of its record
 
 reading-sparing : (b : List ℕ) (g : Got Scene) → sceneIn b ≡ g → 2 ≤ length b → length (replyBytes (ofReading g)) ≤ 2 * length b
-unfolding refusalBytes toBe
+unfolding refusalBytes bigEndian
 reading-sparing b (refused r) e h = omega arith
 reading-sparing b (got c m) e h = omega (arith, accepted-long b c m e, reply-bytes (ofOutcome (sceneOutcome c)))
 
@@ -51,7 +51,7 @@ reply-sparing b h = reading-sparing b (sceneIn b) refl h
 part-free : (n skip : ℕ) (l : List ℕ) (q : Part) → Lies skip l q → 2 * length l + longestAnswer ≤ n →
     ((k : ℕ) → 1 ≤ k → k ≤ length l → (m s : ℕ) → 2 * length (drop k l) + longestAnswer ≤ m → worked (bytes m) s (drop k l) ≡ worked unlimited s (drop k l)) →
     onward worked (bytes n) skip l q ≡ onward worked unlimited skip l q
-unfolding refusalBytes toBe
+unfolding refusalBytes bigEndian
 part-free n skip l (skipped k) (skips one fits there) h next = rw (next k one there n (skip - k) (rw length-drop (omega arith)))
 part-free n skip l (overlong m) (names z two far e) h next = rw (next 2 (omega arith) two (n - 4) m (rw length-drop (omega arith)))
 part-free n skip l (whole k) (holds z two near there e) h next =

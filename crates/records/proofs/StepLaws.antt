@@ -10,7 +10,7 @@ use borrow.Author.Tests.{le-leb, lt-leb}
 use borrow.Rule.Slice.PartMut.{putMid, postOf}
 use Rattle.arithmetic.specs.Binary32.{if_then_else_}
 use Rattle.admission.specs.Faults.{Fault}
-use Rattle.fields.specs.Bytes.{toBe}
+use Rattle.fields.specs.Bytes.{bigEndian}
 use Rattle.answer_records.specs.Answers.{longestAnswer, answerBytes, refusalBytes, Written, written, laid}
 use Rattle.answer_records.proofs.WrittenLaws.{laid-there}
 use Rattle.records.specs.declared.Place.{Place}
@@ -36,7 +36,7 @@ put-in-part n bytes out part h e =
 -- ---- replies
 
 pub reply-bytes : (a : Answered) → length (replyBytes a) ≤ longestAnswer
-unfolding answerBytes refusalBytes toBe
+unfolding answerBytes refusalBytes bigEndian
 reply-bytes (answer a) = omega arith
 reply-bytes (refusal r) = omega arith
 
@@ -72,7 +72,7 @@ module _ (s out : List ℕ) (p : Place) where
     module _ (n : ℕ) (e : q ≡ code.Overlong n) where
       pub overlong-step : (f : Fault) (part : List ℕ) → p .put ≤ length out → written f part ≡ laid (refusalBytes 4) (take (length out - p .put) (drop (p .put) out)) →
           goesOn (record { used = p .used + 2; put = p .put + 4; skip = n }) (putMid (p .put) (length out - p .put) out part) ≡ stepOver s out p
-      unfolding refusalBytes toBe
+      unfolding refusalBytes bigEndian
       overlong-step f part h w =
           let w′ : written f part ≡ laid (refusalBytes 4) (drop (p .put) out) = rw (rest-of (p .put) out) at w in
           let held = ap (λ (x : Written). x .contents) (w′ ∙ laid-there (refusalBytes 4) (drop (p .put) out) (rw length-drop (omega arith))) in

@@ -10,7 +10,7 @@ use lib.Seq.{drop-drop, take-at, drop-at, length-take-le}
 use borrow.Author.Tests.{leb-true, le-leb}
 use Rattle.arithmetic.specs.Binary32.{if_then_else_}
 use Rattle.arithmetic.proofs.Choice.{if-case}
-use Rattle.fields.specs.Bytes.{toBe}
+use Rattle.fields.specs.Bytes.{bigEndian}
 use Rattle.answer_records.specs.Answers.{longestAnswer, refusalBytes}
 use Rattle.records.specs.declared.Place.{Place}
 use Rattle.records.specs.Answered.{replyTo}
@@ -104,7 +104,7 @@ module _ (s out : List ℕ) (p : Place) (room : longestAnswer ≤ length out - p
     with-part = work-on (bytes (length out - p .put)) (p .skip) (drop (p .used) s) ∙ rw (le-leb longestAnswer (length out - p .put) room, e)
 
   by-part : (q : Part) → Lies (p .skip) (drop (p .used) s) q → partIn (p .skip) (drop (p .used) s) ≡ q → Does s out p (stepBy s out p q)
-  unfolding refusalBytes toBe
+  unfolding refusalBytes bigEndian
   by-part cutShort (none few) e = halts (with-part cutShort e)
   by-part (skipped k) (skips one fits there) e = turns (skipped-turn k one there (with-part (skipped k) e))
   by-part (overlong n) (names z two far f) e = turns (answered-turn 2 n (refusalBytes 4) (omega arith) two (omega arith) (with-part (overlong n) e))

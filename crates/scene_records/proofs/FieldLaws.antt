@@ -18,7 +18,7 @@ use Rattle.linear_programming.specs.Admit.{reach, longest}
 use Rattle.dodgy_2d.specs.Scenes.{shortestHorizon, longestHorizon}
 use Rattle.words.specs.Words.{wordOf}
 use Rattle.fields.specs.Got.{refused, got, then, guard, word}
-use Rattle.fields.proofs.WordLaws.{four-some}
+use Rattle.fields.proofs.WordLaws.{word-there}
 use Rattle.scene_records.specs.declared.Cursor.{Cursor}
 use Rattle.scene_records.specs.declared.Cursor.the-variants as cursor
 use Rattle.scene_records.specs.Steps.{from, told, held, version, count, number, vector, ended}
@@ -46,7 +46,7 @@ module _ (s : List ℕ) where
 
     pub number-read : (b : ℕ) (x : Float) → leb (at + 4) (length s) ≡ true → b ≡ wordOf s at → x ≡ ofBits binary32 b → told (held (passes x) 6 (cursor.At (at + 4))) x ≡ number passes s at
     unfolding number from
-    number-read b x h eb ex = sym (rw (← four-some s at (leb-true _ _ h), ← eb, ← ex) (held-from (passes x) 6 (cursor.At (at + 4)) (got x) ∙ told-from _ x))
+    number-read b x h eb ex = sym (rw (← word-there s at (leb-true _ _ h), ← eb, ← ex) (held-from (passes x) 6 (cursor.At (at + 4)) (got x) ∙ told-from _ x))
 
   pub vector-read : (passes : Float → Bool) (c d e : Cursor) (x y : Float) → told d x ≡ from c (number passes s) → told e y ≡ from d (number passes s) → told e (vec x y) ≡ from c (vector passes s)
   unfolding vector

@@ -18,7 +18,7 @@ use Rattle.lines.specs.declared.Line.{Line}
 use Rattle.lines.specs.LineFaults.{lineReach}
 use Rattle.linear_programming.specs.Admit.{reach}
 use Rattle.dodgy_2d.specs.declared.Scene.{Scene}
-use Rattle.fields.specs.Bytes.{toBe, each, AllBytes}
+use Rattle.fields.specs.Bytes.{bigEndian, each, AllBytes}
 use Rattle.fields.specs.Got.{got, many}
 use Rattle.fields.proofs.ChainLaws.{then-got, cons-got, got-same}
 use Rattle.fields.proofs.Spans.{Span, join, word-span, many-span}
@@ -113,11 +113,11 @@ module _ (s : List ℕ) (h : AllBytes s) where
   accepted-is-bytes c m z =
       scene-taken s c m z λ n read-n few-n right z'.
       fields-taken s 2 c m z' λ a b d e f x os ls read-version read-cart read-os few-os list-os read-ls few-ls list-ls end same.
-      let start : Span s 2 (toBe 1 1 ++ cartBytes x) b = join (word-span s h 1 2 1 a read-version .1) (cart-span a x b read-cart) in
+      let start : Span s 2 (bigEndian 1 1 ++ cartBytes x) b = join (word-span s h 1 2 1 a read-version .1) (cart-span a x b read-cart) in
       let walls : Span s 2 _ e = join (join start (word-span s h 1 b (length os) d read-os .1)) (many-span s (obstacle s) (λ t o. t + sizeOf o) obstacleBytes obstacle-span (length os) 0 d os e list-os) in
       let body : Span s 2 (bodyBytes x os ls) m = join (join walls (word-span s h 1 e (length ls) f read-ls .1)) (many-span s (λ (u : Unit {0}). neighbour s) (λ u l. u) lineBytes (λ u. line-span) (length ls) tt f ls m list-ls) in
       let rest : drop 2 s ≡ bodyBytes x os ls = body .stands ∙ rw (end, drop-length s) (append-nil (bodyBytes x os ls)) in
       let size : length (bodyBytes x os ls) ≡ n = ap length (sym rest) ∙ length-drop 2 s ∙ sym right in
-      let all : s ≡ recordBytes x os ls = rw size (word-span s h 2 0 n 2 read-n .1 .stands ∙ ap (λ (r : List ℕ). toBe 2 n ++ r) rest) in
+      let all : s ≡ recordBytes x os ls = rw size (word-span s h 2 0 n 2 read-n .1 .stands ∙ ap (λ (r : List ℕ). bigEndian 2 n ++ r) rest) in
       let fits : length (each numbersIn os) ≤ 384 = (let most = obstacles-total s (length os) 0 d os e (omega arith) list-os in omega arith) in
       rw (same, obstacles-back x os (length ls) ls few-os fits, neighbours-back x (length os) os ls few-ls) all

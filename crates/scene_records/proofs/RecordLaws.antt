@@ -13,7 +13,7 @@ use Rattle.lines.specs.Lines.{fourOf}
 use Rattle.obstacles.specs.Read.{blankNumbers}
 use Rattle.fields.specs.Bytes.{each}
 use Rattle.fields.specs.Got.{Got, refused, got, then, word}
-use Rattle.fields.proofs.WordLaws.{word-none, two-some}
+use Rattle.fields.proofs.WordLaws.{word-missing, pair-there}
 use Rattle.scene_records.specs.declared.Cursor.{Cursor}
 use Rattle.scene_records.specs.declared.Cursor.the-variants as cursor
 use Rattle.scene_records.specs.declared.Cart.{Cart}
@@ -29,11 +29,11 @@ use Rattle.scene_records.proofs.Cursors.{then-told, then-from, linked, 
 module _ (s : List ℕ) where
   pub length-missing : length s < 2 → told (cursor.Fault 2) (tt {0}) ≡ announced s
   unfolding announced told
-  length-missing h = rw (← word-none 2 s 0 h)
+  length-missing h = rw (← word-missing 2 s 0 h)
 
   module _ (n : ℕ) (there : 2 ≤ length s) (names : n ≡ pairOf s 0) where
     field : got n 2 ≡ word 2 s 0
-    field = rw names (two-some s 0 there)
+    field = rw names (pair-there s 0 there)
 
     pub length-over : longestRest < n → told (cursor.Fault 4) (tt {0}) ≡ announced s
     unfolding announced told

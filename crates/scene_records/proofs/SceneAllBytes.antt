@@ -7,8 +7,8 @@ use Rattle.common.specs.declared.Vec2.{Vec2}
 use Rattle.lines.specs.declared.Line.{Line}
 use Rattle.dodgy_2d.specs.declared.Scene.{Scene}
 use Rattle.dodgy_2d.specs.Scenes.{neighboursIn}
-use Rattle.fields.specs.Bytes.{toBe, each, AllBytes}
-use Rattle.fields.proofs.ByteLaws.{toBe-bytes, append-bytes, each-bytes}
+use Rattle.fields.specs.Bytes.{bigEndian, each, AllBytes}
+use Rattle.fields.proofs.ByteLaws.{big-endian-bytes, append-bytes, each-bytes}
 use Rattle.scene_records.specs.declared.Cart.{Cart}
 use Rattle.scene_records.specs.Parts.{Obstacle}
 use Rattle.scene_records.specs.SceneBytes.{cartIn, obstaclesIn, numberBytes, vectorBytes, cartBytes, obstacleBytes, lineBytes, bodyBytes, recordBytes, sceneBytes}
@@ -17,8 +17,8 @@ use Rattle.scene_records.specs.SceneBytes.{cartIn, obstaclesIn, numberBy
 record AreBytes (l : List ℕ) : Type 0 where
   are : AllBytes l
 
-word-bytes : (w x : ℕ) → AreBytes (toBe w x)
-word-bytes w x = record { are = toBe-bytes w x }
+word-bytes : (w x : ℕ) → AreBytes (bigEndian w x)
+word-bytes w x = record { are = big-endian-bytes w x }
 
 infixl 20 _behind_
 _behind_ : {k l : List ℕ} → AreBytes k → AreBytes l → AreBytes (k ++ l)

@@ -22,9 +22,9 @@ use Rattle.lines.specs.declared.Line.{Line}
 use Rattle.lines.specs.LineFaults.{lineReach, bandLow, bandHigh}
 use Rattle.linear_programming.specs.Admit.{reach, longest}
 use Rattle.dodgy_2d.specs.Scenes.{shortestHorizon, longestHorizon}
-use Rattle.fields.specs.Bytes.{toBe, each}
+use Rattle.fields.specs.Bytes.{bigEndian, each}
 use Rattle.fields.specs.Got.{got, word}
-use Rattle.fields.proofs.ByteLaws.{length-toBe}
+use Rattle.fields.proofs.ByteLaws.{length-big-endian}
 use Rattle.fields.proofs.Backs.{Back, taking, word-back, Every, many-back}
 use Rattle.scene_records.specs.declared.Cart.{Cart}
 use Rattle.scene_records.specs.Steps.{number, vector, version, count, ended}
@@ -142,7 +142,7 @@ module _ (s : List ℕ) where
 
 length-number : (x : Float) → length (numberBytes x) ≡ 4
 unfolding numberBytes
-length-number x = length-toBe 4 (toBits binary32 x)
+length-number x = length-big-endian 4 (toBits binary32 x)
 
 length-vector : (v : Vec2) → length (vectorBytes v) ≡ 8
 unfolding vectorBytes
@@ -164,7 +164,7 @@ length-line l = simp (length-append, length-vector)
 
 length-obstacle : (o : Obstacle) → length (obstacleBytes o) ≡ 2 + 8 * sizeOf o
 unfolding obstacleBytes
-length-obstacle o = simp (length-append, length-toBe, length-each vectorBytes 8 length-vector)
+length-obstacle o = simp (length-append, length-big-endian, length-each vectorBytes 8 length-vector)
 
 length-obstacles : (total : ℕ) (os : List Obstacle) → total ≤ 192 → Every GoodObstacle onTotal total os → length (each obstacleBytes os) + 8 * total ≤ 2 * length os + 1536
 unfolding each
@@ -180,13 +180,13 @@ module _ (x : Cart) (os : List Obstacle) (ls : List Line) (ok : GoodParts x os l
   unfolding bodyBytes
   length-body =
       let r = length-obstacles 0 os (omega arith) (ok .obstacles) in
-      simp (length-append, length-toBe, length-cart, length-each lineBytes 16 length-line) (omega (arith, ok .few, ok .fewer))
+      simp (length-append, length-big-endian, length-cart, length-each lineBytes 16 length-line) (omega (arith, ok .few, ok .fewer))
 
   pub parts-read : sceneIn (recordBytes x os ls) ≡ got (sceneOf x (length os) os (length ls) ls) (length (recordBytes x os ls))
   unfolding sceneIn announced recordBytes
   parts-read =
       let n : length (bodyBytes x os ls) ≤ longestRest = length-body in
-      let s : List ℕ = toBe 2 (length (bodyBytes x os ls)) ++ bodyBytes x os ls in
-      let e : length (bodyBytes x os ls) ≡ length s - 2 = (let k = length-append (toBe 2 (length (bodyBytes x os ls))) (bodyBytes x os ls) in let j = length-toBe 2 (length (bodyBytes x os ls)) in omega arith) in
+      let s : List ℕ = bigEndian 2 (length (bodyBytes x os ls)) ++ bodyBytes x os ls in
+      let e : length (bodyBytes x os ls) ≡ length s - 2 = (let k = length-append (bigEndian 2 (length (bodyBytes x os ls))) (bodyBytes x os ls) in let j = length-big-endian 2 (length (bodyBytes x os ls)) in omega arith) in
       taking (word-back s 2 0 (length (bodyBytes x os ls)) (bodyBytes x os ls) (lit< tt) (omega arith) refl) λ a g i d.
       rw (g, le-leb _ longestRest n, eq-eqb _ _ e) (fields-back s x os ls ok a d)

@@ -9,7 +9,7 @@ use Rattle.lines.specs.declared.Line.{Line}
 use Rattle.obstacles.specs.Vertices.{verticesOf}
 use Rattle.dodgy_2d.specs.declared.Scene.{Scene}
 use Rattle.dodgy_2d.specs.Scenes.{headsIn, neighboursIn}
-use Rattle.fields.specs.Bytes.{toBe, each}
+use Rattle.fields.specs.Bytes.{bigEndian, each}
 use Rattle.scene_records.specs.declared.Cart.{Cart}
 use Rattle.scene_records.specs.Parts.{Obstacle}
 
@@ -29,7 +29,7 @@ obstaclesIn c = withVertices (headsIn c) (c .vertices)
 -- ---- their bytes
 
 unfoldable pub numberBytes : Float → List ℕ
-numberBytes x = toBe 4 (toBits binary32 x)
+numberBytes x = bigEndian 4 (toBits binary32 x)
 
 unfoldable pub vectorBytes : Vec2 → List ℕ
 vectorBytes v = numberBytes (v .x) ++ numberBytes (v .y)
@@ -40,18 +40,18 @@ cartBytes c =
     ++ numberBytes (c .limit)
 
 unfoldable pub obstacleBytes : Obstacle → List ℕ
-obstacleBytes o = toBe 1 (o .kind) ++ toBe 1 (length (o .vertices)) ++ each vectorBytes (o .vertices)
+obstacleBytes o = bigEndian 1 (o .kind) ++ bigEndian 1 (length (o .vertices)) ++ each vectorBytes (o .vertices)
 
 unfoldable pub lineBytes : Line → List ℕ
 lineBytes l = vectorBytes (l .point) ++ vectorBytes (l .direction)
 
 -- version, cart, obstacles, neighbour lines
 unfoldable pub bodyBytes : Cart → List Obstacle → List Line → List ℕ
-bodyBytes c os ls = toBe 1 1 ++ cartBytes c ++ toBe 1 (length os) ++ each obstacleBytes os ++ toBe 1 (length ls) ++ each lineBytes ls
+bodyBytes c os ls = bigEndian 1 1 ++ cartBytes c ++ bigEndian 1 (length os) ++ each obstacleBytes os ++ bigEndian 1 (length ls) ++ each lineBytes ls
 
 -- "two-byte length of the rest", then the rest
 unfoldable pub recordBytes : Cart → List Obstacle → List Line → List ℕ
-recordBytes c os ls = toBe 2 (length (bodyBytes c os ls)) ++ bodyBytes c os ls
+recordBytes c os ls = bigEndian 2 (length (bodyBytes c os ls)) ++ bodyBytes c os ls
 
 abbrev pub sceneBytes : Scene → List ℕ
 sceneBytes c = recordBytes (cartIn c) (obstaclesIn c) (neighboursIn c)

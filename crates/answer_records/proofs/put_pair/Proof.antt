@@ -3,7 +3,7 @@ use native.Mathlib.Omega.{arith}
 use native.Mathlib.Nat.{div-one}
 use native.Mathlib.Numerals.{towards-suc}
 use lib.ListN.{length-set}
-use Rattle.fields.specs.Bytes.{toBe}
+use Rattle.fields.specs.Bytes.{bigEndian}
 use borrow.Author.Needs.{needs}
 use Rattle.answer_records.proofs.put_pair.Statement.{statement}
 use Rattle.answer_records.proofs.put_pair.Tie as tie
@@ -12,7 +12,7 @@ slice-write-buffer-2 : tie.Need-slice-write-buffer-2
 slice-write-buffer-2 c = simp length-set (omega arith)
 
 returns : tie.Need-returns
-unfolding toBe
+unfolding bigEndian
 returns c = simp (towards-suc, div-one)
 
 pub put-pair-spec : {M : Type 1} → statement M
