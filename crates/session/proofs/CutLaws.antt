@@ -14,7 +14,7 @@ use Rattle.lines.specs.Lines.{linesOf}
 use Rattle.lines.specs.LineFaults.{linesFault}
 use Rattle.linear_programming.specs.Whole.{Phase, Failed, Outcome, stands, wholeList}
 use Rattle.admission.specs.Faults.{Fault, fine, fault, must, _⊳_, faultOf}
-use Rattle.linear_programming.specs.Admit.{fours, wishFault, judgedList, listCall}
+use Rattle.linear_programming.specs.Admit.{_⟫_, fours, wishFault, judgedList, listCall}
 use Rattle.admission.proofs.FaultLaws.{⊳-fine, must-fine}
 use Rattle.lines.proofs.JudgeLaws.{faults-append}
 use Rattle.linear_programming.proofs.JudgeLaws.{⟫-stands}
@@ -23,15 +23,14 @@ use Rattle.linear_programming.proofs.Bounds.NeverRefused.{Stood, stood, never-r
 use Rattle.session.specs.declared.Session.{Session}
 use Rattle.session.specs.Sessions.{linesIn, outcomeIn, startedBy, startedAs}
 use Rattle.session.specs.Batches.{fedAs}
-use Rattle.session.specs.Handed.{Handed, toldIn}
+use Rattle.session.specs.Handed.{Handed}
 use Rattle.session.specs.Cuts.{fedAll, Taken, all-taken, taken, WholeLines, none, more, joined}
 use Rattle.session.proofs.HandedLaws.{fault-free, continues}
 use Rattle.session.proofs.StartLaws.{begins}
 
 -- what is told of a session that stands was not refused
-told-fine : (f : Fault) (s : Session) {o : Outcome} → Stood o → toldIn f s ≡ o → f ≡ fine
-told-fine fine s h e = refl
-told-fine (fault r) s (stood {ph} {f} {n}) e = let z : _≡_ {A = ℕ} 0 1 = cc in absurd (omega arith)
+told-fine : (f : Fault) (s : Session) {o : Outcome} → Stood o → (f ⟫ outcomeIn s) ≡ o → f ≡ fine
+told-fine f s stood e = ⟫-stands f e .0
 
 -- where the session stands, over which lines
 pub record StandsOver (s : Session) (rigid : ℕ) (wish : Vec2) (limit : Float) (lines : List Line) : Type 0 where

@@ -6,8 +6,8 @@ use lib.ListN.{length}
 use lib.Ieee.{Float}
 use Rattle.common.specs.declared.Vec2.{Vec2}
 use Rattle.lines.specs.Lines.{linesOf}
-use Rattle.linear_programming.specs.Whole.{Outcome, refusal}
-use Rattle.admission.specs.Faults.{Fault, fine, fault, faultOf}
+use Rattle.linear_programming.specs.Whole.{Outcome}
+use Rattle.admission.specs.Faults.{fine, fault, faultOf}
 use Rattle.linear_programming.specs.Admit.{_⟫_, fours, judgedList, listCall}
 use Rattle.session.specs.declared.Session.{Session}
 use Rattle.session.specs.declared.Fed.{Fed}
@@ -20,12 +20,8 @@ pub record Handed (s : Session) : Type 0 where
   pub stand : judgedList (s .rigid) (s .wish) (s .limit) (linesIn s) ≡ outcomeIn s
 
 -- what a call tells: how its session stands, or the number of its refusal
-abbrev pub toldIn : Fault → Session → Outcome
-toldIn fine s = outcomeIn s
-toldIn (fault r) s = refusal r
-
 abbrev pub toldBy : Fed → Outcome
-toldBy r = toldIn (faultOf (r .judged)) (r .session)
+toldBy r = faultOf (r .judged) ⟫ outcomeIn (r .session)
 
 -- a start tells what the single call over no lines tells, and hands a session out
 pub record Begins (wish : Vec2) (limit : Float) (rigid : ℕ) (r : Fed) : Type 0 where
