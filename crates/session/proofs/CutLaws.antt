@@ -13,7 +13,7 @@ use Rattle.lines.specs.declared.Line.{Line}
 use Rattle.lines.specs.Lines.{linesOf}
 use Rattle.lines.specs.LineFaults.{linesFault}
 use Rattle.linear_programming.specs.Whole.{Phase, Failed, Outcome, stands, wholeList}
-use Rattle.admission.specs.Faults.{Fault, fine, fault, must, _⊳_, faultOf}
+use Rattle.admission.specs.Faults.{Fault, fine, must, _⊳_, faultOf}
 use Rattle.linear_programming.specs.Admit.{_⟫_, fours, wishFault, judgedList, listCall}
 use Rattle.admission.proofs.FaultLaws.{⊳-fine, must-fine}
 use Rattle.lines.proofs.JudgeLaws.{faults-append}
