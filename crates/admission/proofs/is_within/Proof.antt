@@ -10,4 +10,4 @@ returns c = simp (← c .abs .ensures)
 
 pub is-within-spec : {M : Type 1} → statement M
 is-within-spec =
-    tie.close (tie.spec (search needs) returns)
+    tie.close (tie.spec (λ c κs. search needs) returns)

@@ -35,5 +35,6 @@ returns-4 c =
 
 pub judge-answer-spec : {M : Type 1} → statement M
 judge-answer-spec =
-    tie.close (tie.spec returns (search needs) (search needs) returns-2 (search needs) (search needs) returns-3 shared-slice-read-fault-unless
-    (search needs) shared-slice-read-length-of-code (search needs) (search needs) (search needs) returns-4)
+    tie.close (tie.spec returns (λ c κs. search needs) (λ c κs. search needs) returns-2 (λ c. search needs) (λ c. search needs) returns-3
+    shared-slice-read-fault-unless (λ c κs. search needs) shared-slice-read-length-of-code (λ c κs. search needs) (λ c κs. search needs)
+    (λ c κs. search needs) returns-4)

@@ -10,4 +10,4 @@ returns c = simp (← c .word-at3 .ensures, ← c .before .pair-at .ensures, ←
 
 pub outcome-in-spec : {M : Type 1} → statement M
 outcome-in-spec =
-    tie.close (tie.spec (search needs) (search needs) (search needs) (search needs) (search needs) returns)
+    tie.close (tie.spec (λ c. search needs) (λ c κs. search needs) (λ c κs. search needs) (λ c κs. search needs) (λ c κs. search needs) returns)

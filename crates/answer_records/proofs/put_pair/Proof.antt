@@ -17,4 +17,5 @@ returns c = simp (towards-suc, div-one)
 
 pub put-pair-spec : {M : Type 1} → statement M
 put-pair-spec =
-    tie.close (tie.spec (search needs) (search needs) (search needs) (search needs) slice-write-buffer-2 (search needs) returns)
+    tie.close (tie.spec (λ c. search needs) (λ c. search needs) (λ c. search needs) (λ c. search needs) slice-write-buffer-2 (λ c. search needs)
+    returns)

@@ -29,4 +29,5 @@ returns-3 c = simp (le-ltb _ _ (c .if1 .left), c .before .before .enum-told .giv
 
 pub read-answer-spec : {M : Type 1} → statement M
 read-answer-spec =
-    tie.close (tie.spec (search needs) (search needs) returns (search needs) shared-slice-read-code outcome-in-requires returns-2 returns-3)
+    tie.close (tie.spec (λ c κs. search needs) (λ c. search needs) returns (λ c. search needs) shared-slice-read-code outcome-in-requires returns-2
+    returns-3)

@@ -59,5 +59,5 @@ returns-2 c =
 
 pub write-answer-spec : {M : Type 1} → statement M
 write-answer-spec =
-    tie.close (tie.spec returns (search needs) (search needs) slice-write-buffer-2 put-word-requires put-word-requires-2 put-pair-requires-2
-    put-word-requires-3 same-length returns-2)
+    tie.close (tie.spec returns (λ c κs. search needs) (λ c. search needs) slice-write-buffer-2 put-word-requires put-word-requires-2
+    put-pair-requires-2 put-word-requires-3 same-length returns-2)

@@ -12,4 +12,4 @@ returns-2 c = stored-refusal _ _ _ _ (c .before .before .before .before .before 
 
 pub write-refusal-spec : {M : Type 1} → statement M
 write-refusal-spec =
-    tie.close (tie.spec returns (search needs) (search needs) (search needs) (λ c. search needs) (λ c. search needs) returns-2)
+    tie.close (tie.spec returns (λ c κs. search needs) (λ c. search needs) (λ c κs. search needs) (λ c. search needs) (λ c. search needs) returns-2)

@@ -18,4 +18,4 @@ returns-2 c = simp (c .before .enum-told .given .1, ← c .before .before .befor
 
 pub compute-avoiding-velocity-spec : {M : Type 1} → statement M
 compute-avoiding-velocity-spec =
-    tie.close (tie.spec (search needs) (search needs) returns (search needs) solve-requires returns-2)
+    tie.close (tie.spec (λ c κs. search needs) (λ c. search needs) returns (λ c. search needs) solve-requires returns-2)

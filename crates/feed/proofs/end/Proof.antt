@@ -10,4 +10,5 @@ part-put-end c = let fits = finish-fits _ _ _ _ (c .before .before .before .fini
 
 pub end-spec : {M : Type 1} → statement M
 end-spec =
-    tie.close (tie.spec (search needs) (search needs) (search needs) part-put-end (search needs) (search needs) (search needs))
+    tie.close (tie.spec (λ c κs. search needs) (λ c. search needs) (λ c. search needs) part-put-end (λ c κs. search needs) (λ c. search needs)
+    (λ c. search needs))

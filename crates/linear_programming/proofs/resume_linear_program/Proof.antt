@@ -23,4 +23,4 @@ returns-2 c =
 
 pub resume-linear-program-spec : {M : Type 1} → statement M
 resume-linear-program-spec =
-    tie.close (tie.spec returns (search needs) (search needs) (search needs) (search needs) (search needs) returns-2)
+    tie.close (tie.spec returns (λ c. search needs) (λ c κs. search needs) (λ c. search needs) (λ c κs. search needs) (λ c κs. search needs) returns-2)

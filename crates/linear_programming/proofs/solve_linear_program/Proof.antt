@@ -65,5 +65,5 @@ returns-4 c =
 
 pub solve-linear-program-spec : {M : Type 1} → statement M
 solve-linear-program-spec =
-    tie.close (tie.spec returns returns-2 (search needs) (search needs) (search needs) (search needs) returns-3 (search needs) (search needs)
-    returns-4)
+    tie.close (tie.spec returns returns-2 (λ c κs. search needs) (λ c κs. search needs) (λ c κs. search needs) (λ c. search needs) returns-3
+    (λ c. search needs) (λ c κs. search needs) returns-4)

@@ -26,5 +26,6 @@ returns-2 c = let a = c .before .args in rw (stored-sets (now (a .numbers)) (a .
 
 pub put-line-spec : {M : Type 1} → statement M
 put-line-spec =
-    tie.close (tie.spec returns (search needs) (search needs) (search needs) (search needs) (search needs) slice-write-numbers-2 (search needs)
-    (search needs) slice-write-numbers-3 (search needs) (search needs) slice-write-numbers-4 (search needs) returns-2)
+    tie.close (tie.spec returns (λ c. search needs) (λ c. search needs) (λ c. search needs) (λ c. search needs) (λ c. search needs)
+    slice-write-numbers-2 (λ c. search needs) (λ c. search needs) slice-write-numbers-3 (λ c. search needs) (λ c. search needs) slice-write-numbers-4
+    (λ c. search needs) returns-2)

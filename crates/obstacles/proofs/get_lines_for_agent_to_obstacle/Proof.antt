@@ -43,5 +43,6 @@ returns-2 c =
 
 pub get-lines-for-agent-to-obstacle-spec : {M : Type 1} → statement M
 get-lines-for-agent-to-obstacle-spec =
-    tie.close (tie.spec (search needs) (search needs) (search needs) returns (search needs) mul-lines-for-edges add-lines-for-edges
-    mul-lines-for-edges-2 mul-lines-for-edges-3 (search needs) (search needs) part-lines-for-edges-end lines-for-edges-requires returns-2)
+    tie.close (tie.spec (λ c κs. search needs) (λ c. search needs) (λ c κs. search needs) returns (λ c. search needs) mul-lines-for-edges
+    add-lines-for-edges mul-lines-for-edges-2 mul-lines-for-edges-3 (λ c. search needs) (λ c. search needs) part-lines-for-edges-end
+    lines-for-edges-requires returns-2)

@@ -19,4 +19,5 @@ returns-3 c = c .before .before .write-outcome .ensures ∙ sym (some-room _ _ (
 
 pub answer-record-spec : {M : Type 1} → statement M
 answer-record-spec =
-    tie.close (tie.spec returns (search needs) (search needs) returns-2 (search needs) (search needs) (search needs) (search needs) returns-3)
+    tie.close (tie.spec returns (λ c κs. search needs) (λ c. search needs) returns-2 (λ c. search needs) (λ c κs. search needs) (λ c κs. search needs)
+    (λ c. search needs) returns-3)

@@ -15,4 +15,5 @@ returns-3 c = finished-short _ _ (c .before .before .before .before .before .bef
 
 pub finish-spec : {M : Type 1} → statement M
 finish-spec =
-    tie.close (tie.spec returns (search needs) (search needs) (search needs) (search needs) returns-2 (search needs) returns-3)
+    tie.close (tie.spec returns (λ c κs. search needs) (λ c. search needs) (λ c. search needs) (λ c. search needs) returns-2 (λ c. search needs)
+    returns-3)

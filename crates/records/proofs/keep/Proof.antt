@@ -20,4 +20,4 @@ returns-3 c = simp (c .before .before .shift .ensures, le-ltb _ _ (c .before .be
 
 pub keep-spec : {M : Type 1} → statement M
 keep-spec =
-    tie.close (tie.spec returns returns-2 (search needs) (search needs) returns-3)
+    tie.close (tie.spec returns returns-2 (λ c κs. search needs) (λ c. search needs) returns-3)

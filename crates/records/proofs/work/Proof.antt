@@ -40,4 +40,4 @@ loop-again c =
 
 pub work-spec : {M : Type 1} → statement M
 work-spec =
-    tie.close (tie.spec Inv-loop μ-loop loop-holds step-requires (search needs) (search needs) same-length returns loop-less loop-again)
+    tie.close (tie.spec Inv-loop μ-loop loop-holds step-requires (λ c. search needs) (λ c. search needs) same-length returns loop-less loop-again)

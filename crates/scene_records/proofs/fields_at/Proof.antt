@@ -21,5 +21,5 @@ returns-2 c = rw (c .scene-of .ensures) (made-here readAs _ _ _ _ (c .before .en
 
 pub fields-at-spec : {M : Type 1} → statement M
 fields-at-spec =
-    tie.close (tie.spec (search needs) (search needs) (search needs) walls-at-requires (search needs) lines-at-requires (search needs) (search needs)
-    (search needs) returns (search needs) (search needs) returns-2)
+    tie.close (tie.spec (λ c κs. search needs) (λ c κs. search needs) (λ c κs. search needs) walls-at-requires (λ c κs. search needs)
+    lines-at-requires (λ c κs. search needs) (λ c. search needs) (λ c κs. search needs) returns (λ c. search needs) (λ c κs. search needs) returns-2)

@@ -18,4 +18,4 @@ returns-4 c = length-right _ _ (c .before .before .before .if1 .left) (c .before
 
 pub length-of-spec : {M : Type 1} → statement M
 length-of-spec =
-    tie.close (tie.spec returns (search needs) (search needs) returns-2 (search needs) returns-3 returns-4)
+    tie.close (tie.spec returns (λ c κs. search needs) (λ c. search needs) returns-2 (λ c. search needs) returns-3 returns-4)

@@ -10,4 +10,4 @@ returns c = c .fields-at .ensures ∙ scene-read _ _ (c .before .length-of .ensu
 
 pub read-scene-spec : {M : Type 1} → statement M
 read-scene-spec =
-    tie.close (tie.spec (search needs) (search needs) returns)
+    tie.close (tie.spec (λ c κs. search needs) (λ c κs. search needs) returns)

@@ -10,4 +10,4 @@ returns c = simp (← c .blank-lines .ensures)
 
 pub blank-spec : {M : Type 1} → statement M
 blank-spec =
-    tie.close (tie.spec (search needs) returns)
+    tie.close (tie.spec (λ c κs. search needs) returns)

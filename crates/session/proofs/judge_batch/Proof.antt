@@ -42,4 +42,4 @@ returns-4 c =
 
 pub judge-batch-spec : {M : Type 1} → statement M
 judge-batch-spec =
-    tie.close (tie.spec returns returns-2 returns-3 (search needs) returns-4)
+    tie.close (tie.spec returns returns-2 returns-3 (λ c κs. search needs) returns-4)

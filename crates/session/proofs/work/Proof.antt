@@ -14,4 +14,4 @@ returns c =
 
 pub work-spec : {M : Type 1} → statement M
 work-spec =
-    tie.close (tie.spec (search needs) (search needs) (search needs) (search needs) returns)
+    tie.close (tie.spec (λ c. search needs) (λ c κs. search needs) (λ c κs. search needs) (λ c κs. search needs) returns)

@@ -20,4 +20,4 @@ returns-2 c = rw (sym (ne-self _) ∙ c .if1 .left)
 
 pub has-pattern-spec : {M : Type 1} → statement M
 has-pattern-spec =
-    tie.close (tie.spec (search needs) returns float-to-bits-result returns-2)
+    tie.close (tie.spec (λ c κs. search needs) returns float-to-bits-result returns-2)

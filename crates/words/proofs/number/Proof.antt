@@ -15,4 +15,4 @@ float-from-bits-result c = failed _ (sym (c .before .is-nan .ensures) ∙ c .if1
 
 pub number-spec : {M : Type 1} → statement M
 number-spec =
-    tie.close (tie.spec (search needs) returns float-from-bits-result (search needs))
+    tie.close (tie.spec (λ c κs. search needs) returns float-from-bits-result (λ c. search needs))

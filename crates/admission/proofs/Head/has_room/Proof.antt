@@ -16,4 +16,4 @@ returns-2 c = rw (le-leb _ _ (c .if1 .left)) (room-left _ _ (c .if1 .left))
 
 pub has-room-spec : {M : Type 1} → statement M
 has-room-spec =
-    tie.close (tie.spec returns (search needs) returns-2)
+    tie.close (tie.spec returns (λ c. search needs) returns-2)

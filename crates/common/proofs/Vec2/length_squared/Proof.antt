@@ -10,4 +10,4 @@ returns c = c .dot .ensures
 
 pub length-squared-spec : {M : Type 1} → statement M
 length-squared-spec =
-    tie.close (tie.spec (search needs) returns)
+    tie.close (tie.spec (λ c κs. search needs) returns)

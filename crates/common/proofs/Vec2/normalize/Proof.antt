@@ -10,4 +10,4 @@ returns c = cc
 
 pub normalize-spec : {M : Type 1} → statement M
 normalize-spec =
-    tie.close (tie.spec (search needs) (search needs) (search needs) returns)
+    tie.close (tie.spec (λ c κs. search needs) (λ c κs. search needs) (λ c κs. search needs) returns)

@@ -46,4 +46,5 @@ returns-2 c =
 
 pub add-obstacle-spec : {M : Type 1} → statement M
 add-obstacle-spec =
-    tie.close (tie.spec (search needs) (search needs) returns (search needs) (search needs) mul-copy-2 copy-requires add-t17 (search needs) returns-2)
+    tie.close (tie.spec (λ c κs. search needs) (λ c. search needs) returns (λ c. search needs) (λ c. search needs) mul-copy-2 copy-requires add-t17
+    (λ c. search needs) returns-2)

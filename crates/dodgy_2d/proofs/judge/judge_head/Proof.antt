@@ -10,5 +10,5 @@ returns c = simp (← c .first-of2 .ensures, ← c .before .first-of .ensures, �
 
 pub judge-head-spec : {M : Type 1} → statement M
 judge-head-spec =
-    tie.close (tie.spec (search needs) (search needs) (search needs) (search needs) (search needs) (search needs) (search needs) (search needs)
-    returns)
+    tie.close (tie.spec (λ c κs. search needs) (λ c κs. search needs) (λ c κs. search needs) (λ c κs. search needs) (λ c κs. search needs)
+    (λ c κs. search needs) (λ c κs. search needs) (λ c κs. search needs) returns)

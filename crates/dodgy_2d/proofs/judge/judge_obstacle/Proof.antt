@@ -25,5 +25,5 @@ returns-2 c =
 
 pub judge-obstacle-spec : {M : Type 1} → statement M
 judge-obstacle-spec =
-    tie.close (tie.spec (search needs) (search needs) (search needs) returns (search needs) (search needs) (search needs) judge-numbers-requires
-    returns-2)
+    tie.close (tie.spec (λ c κs. search needs) (λ c. search needs) (λ c. search needs) returns (λ c. search needs) (λ c. search needs)
+    (λ c. search needs) judge-numbers-requires returns-2)

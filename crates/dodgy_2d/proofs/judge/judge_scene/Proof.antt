@@ -42,5 +42,6 @@ returns-5 c = simp (le-leb _ _ (c .before .before .before .before .if2 .left), c
 
 pub judge-scene-spec : {M : Type 1} → statement M
 judge-scene-spec =
-    tie.close (tie.spec (search needs) (search needs) (search needs) returns returns-2 (λ c. search needs) (λ c κs. search needs) (search needs)
-    (search needs) returns-3 returns-4 (search needs) (search needs) (search needs) part-judge-lines-end (search needs) returns-5)
+    tie.close (tie.spec (λ c κs. search needs) (λ c. search needs) (λ c. search needs) returns returns-2 (λ c. search needs) (λ c κs. search needs)
+    (λ c. search needs) (λ c. search needs) returns-3 returns-4 (λ c. search needs) (λ c. search needs) (λ c. search needs) part-judge-lines-end
+    (λ c κs. search needs) returns-5)

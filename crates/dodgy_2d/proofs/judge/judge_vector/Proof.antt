@@ -11,4 +11,4 @@ returns c = simp (⊳-none, ← c .first-of .ensures, ← c .before .fault-unles
 
 pub judge-vector-spec : {M : Type 1} → statement M
 judge-vector-spec =
-    tie.close (tie.spec (search needs) (search needs) (search needs) (search needs) (search needs) returns)
+    tie.close (tie.spec (λ c κs. search needs) (λ c κs. search needs) (λ c κs. search needs) (λ c κs. search needs) (λ c κs. search needs) returns)

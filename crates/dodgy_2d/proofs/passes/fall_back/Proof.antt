@@ -25,5 +25,5 @@ returns-4 c = simp (c .before .phase4 .given .1, c .before .before .before .befo
 
 pub fall-back-spec : {M : Type 1} → statement M
 fall-back-spec =
-    tie.close (tie.spec (λ c κs. search needs) (search needs) (search needs) add-all (search needs) (search needs) (search needs) returns returns-2
-    returns-3 returns-4)
+    tie.close (tie.spec (λ c κs. search needs) (λ c. search needs) (λ c. search needs) add-all (λ c. search needs) (λ c. search needs)
+    (λ c. search needs) returns returns-2 returns-3 returns-4)

@@ -83,5 +83,6 @@ returns-2 c =
 
 pub pass-spec : {M : Type 1} → statement M
 pass-spec =
-    tie.close (tie.spec (λ c. search needs) (search needs) edge-lines-requires (search needs) (search needs) add-end (search needs) mul-copy
-    mul-copy-2 copy-requires mul-solve-linear-program (search needs) (search needs) part-solve-linear-program-end (search needs) returns returns-2)
+    tie.close (tie.spec (λ c. search needs) (λ c. search needs) edge-lines-requires (λ c. search needs) (λ c. search needs) add-end
+    (λ c. search needs) mul-copy mul-copy-2 copy-requires mul-solve-linear-program (λ c. search needs) (λ c. search needs)
+    part-solve-linear-program-end (λ c κs. search needs) returns returns-2)

@@ -23,5 +23,5 @@ returns-4 c = simp (c .before .enum-told .given .1, c .before .before .before .b
 
 pub solve-spec : {M : Type 1} → statement M
 solve-spec =
-    tie.close (tie.spec (λ c κs. search needs) (search needs) (search needs) (search needs) (search needs) (search needs) fall-back-requires returns
-    returns-2 returns-3 returns-4)
+    tie.close (tie.spec (λ c κs. search needs) (λ c. search needs) (λ c. search needs) (λ c. search needs) (λ c. search needs) (λ c. search needs)
+    fall-back-requires returns returns-2 returns-3 returns-4)

@@ -23,5 +23,6 @@ returns-4 c = simp (c .if2 .left, c .before .before .optimal-value2 .given .1)
 
 pub best-on-spec : {M : Type 1} → statement M
 best-on-spec =
-    tie.close (tie.spec (search needs) (search needs) (search needs) (search needs) returns (search needs) (search needs) (search needs)
-    (search needs) (search needs) (search needs) (search needs) returns-2 returns-3 returns-4)
+    tie.close (tie.spec (λ c. search needs) (λ c κs. search needs) (λ c κs. search needs) (λ c κs. search needs) returns (λ c κs. search needs)
+    (λ c. search needs) (λ c κs. search needs) (λ c κs. search needs) (λ c κs. search needs) (λ c κs. search needs) (λ c κs. search needs) returns-2
+    returns-3 returns-4)

@@ -15,4 +15,4 @@ returns-2 c = rw (← c .before .before .before .dot .ensures, ← c .before .be
 
 pub circle-interval-spec : {M : Type 1} → statement M
 circle-interval-spec =
-    tie.close (tie.spec (search needs) (search needs) returns (search needs) returns-2)
+    tie.close (tie.spec (λ c κs. search needs) (λ c κs. search needs) returns (λ c κs. search needs) returns-2)

@@ -15,4 +15,5 @@ returns-2 c = simp (← c .cut-at .ensures, c .before .if1 .left, ← c .before 
 
 pub narrow-by-spec : {M : Type 1} → statement M
 narrow-by-spec =
-    tie.close (tie.spec (search needs) (search needs) (search needs) (search needs) (search needs) returns (search needs) returns-2)
+    tie.close (tie.spec (λ c κs. search needs) (λ c κs. search needs) (λ c κs. search needs) (λ c κs. search needs) (λ c κs. search needs) returns
+    (λ c κs. search needs) returns-2)

@@ -10,4 +10,4 @@ returns c = simp (← c .add .ensures, ← c .before .mul .ensures)
 
 pub point-on-spec : {M : Type 1} → statement M
 point-on-spec =
-    tie.close (tie.spec (search needs) (search needs) returns)
+    tie.close (tie.spec (λ c κs. search needs) (λ c κs. search needs) returns)

@@ -27,5 +27,5 @@ returns-3 c =
 
 pub solve-linear-program-along-line-spec : {M : Type 1} → statement M
 solve-linear-program-along-line-spec =
-    tie.close (tie.spec (search needs) (search needs) (search needs) returns (search needs) (search needs) (search needs) (search needs) returns-2
-    returns-3)
+    tie.close (tie.spec (λ c κs. search needs) (λ c. search needs) (λ c. search needs) returns (λ c κs. search needs) (λ c. search needs)
+    (λ c. search needs) (λ c κs. search needs) returns-2 returns-3)

@@ -15,4 +15,4 @@ returns-2 c = simp (c .if1 .left)
 
 pub unless-fails-spec : {M : Type 1} → statement M
 unless-fails-spec =
-    tie.close (tie.spec (search needs) returns (search needs) returns-2)
+    tie.close (tie.spec (λ c. search needs) returns (λ c. search needs) returns-2)

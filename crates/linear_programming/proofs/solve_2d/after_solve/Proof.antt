@@ -30,4 +30,4 @@ returns-3 c = simp (← c .judge-point .ensures, c .before .before .along .given
 
 pub after-solve-spec : {M : Type 1} → statement M
 after-solve-spec =
-    tie.close (tie.spec (search needs) (search needs) returns add-t10 returns-2 add-judge-point (search needs) returns-3)
+    tie.close (tie.spec (λ c. search needs) (λ c. search needs) returns add-t10 returns-2 add-judge-point (λ c κs. search needs) returns-3)

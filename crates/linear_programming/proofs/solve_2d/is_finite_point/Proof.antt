@@ -14,4 +14,4 @@ returns-2 c = simp (c .if1 .left, ← c .before .is-finite .ensures)
 
 pub is-finite-point-spec : {M : Type 1} → statement M
 is-finite-point-spec =
-    tie.close (tie.spec (search needs) (search needs) returns returns-2)
+    tie.close (tie.spec (λ c κs. search needs) (λ c κs. search needs) returns returns-2)

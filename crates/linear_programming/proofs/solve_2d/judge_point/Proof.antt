@@ -19,4 +19,4 @@ returns-3 c = simp (c .if1 .left, ← c .before .is-finite-point .ensures, c .be
 
 pub judge-point-spec : {M : Type 1} → statement M
 judge-point-spec =
-    tie.close (tie.spec (search needs) (search needs) (search needs) returns returns-2 returns-3)
+    tie.close (tie.spec (λ c. search needs) (λ c. search needs) (λ c κs. search needs) returns returns-2 returns-3)

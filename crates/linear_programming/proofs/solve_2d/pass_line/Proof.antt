@@ -29,5 +29,5 @@ returns-2 c =
 
 pub pass-line-spec : {M : Type 1} → statement M
 pass-line-spec =
-    tie.close (tie.spec (search needs) (search needs) (search needs) (search needs) returns (search needs) (search needs) after-solve-requires
-    returns-2)
+    tie.close (tie.spec (λ c κs. search needs) (λ c κs. search needs) (λ c κs. search needs) (λ c. search needs) returns (λ c κs. search needs)
+    (λ c. search needs) after-solve-requires returns-2)

@@ -19,5 +19,5 @@ returns-3 c = simp (c .if1 .left, ← c .before .length-squared .ensures, ← c 
 
 pub start-value-spec : {M : Type 1} → statement M
 start-value-spec =
-    tie.close (tie.spec (search needs) (search needs) (search needs) (search needs) (search needs) (search needs) (search needs) (search needs)
-    returns returns-2 returns-3)
+    tie.close (tie.spec (λ c. search needs) (λ c κs. search needs) (λ c κs. search needs) (λ c. search needs) (λ c κs. search needs)
+    (λ c κs. search needs) (λ c κs. search needs) (λ c κs. search needs) returns returns-2 returns-3)

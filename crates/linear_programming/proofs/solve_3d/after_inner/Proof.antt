@@ -34,5 +34,5 @@ returns-4 c = simp (c .before .inner3 .given .1)
 
 pub after-inner-spec : {M : Type 1} → statement M
 after-inner-spec =
-    tie.close (tie.spec (search needs) (search needs) (search needs) add-t13 returns (search needs) add-t14 (search needs) returns-2 returns-3
-    returns-4)
+    tie.close (tie.spec (λ c. search needs) (λ c κs. search needs) (λ c κs. search needs) add-t13 returns (λ c. search needs) add-t14
+    (λ c. search needs) returns-2 returns-3 returns-4)

@@ -11,4 +11,4 @@ returns-2 c = simp (c .if1 .left, ← c .before .is-finite-point .ensures)
 
 pub are-finite-spec : {M : Type 1} → statement M
 are-finite-spec =
-    tie.close (tie.spec (search needs) (search needs) returns returns-2)
+    tie.close (tie.spec (λ c κs. search needs) (λ c κs. search needs) returns returns-2)

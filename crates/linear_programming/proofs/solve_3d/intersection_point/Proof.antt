@@ -11,4 +11,4 @@ returns c = simp (← c .add .ensures, ← c .before .mul .ensures, ← c .befor
 
 pub intersection-point-spec : {M : Type 1} → statement M
 intersection-point-spec =
-    tie.close (tie.spec (search needs) (search needs) (search needs) (search needs) (search needs) returns)
+    tie.close (tie.spec (λ c κs. search needs) (λ c κs. search needs) (λ c κs. search needs) (λ c κs. search needs) (λ c κs. search needs) returns)

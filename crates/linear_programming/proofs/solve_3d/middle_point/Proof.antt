@@ -10,4 +10,4 @@ returns c = simp (← c .mul .ensures, ← c .before .add .ensures)
 
 pub middle-point-spec : {M : Type 1} → statement M
 middle-point-spec =
-    tie.close (tie.spec (search needs) (search needs) returns)
+    tie.close (tie.spec (λ c κs. search needs) (λ c κs. search needs) returns)

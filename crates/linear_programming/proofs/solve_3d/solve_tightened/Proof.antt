@@ -10,4 +10,4 @@ returns c = simp (← c .solve-linear-program-2d .ensures, ← c .before .before
 
 pub solve-tightened-spec : {M : Type 1} → statement M
 solve-tightened-spec =
-    tie.close (tie.spec (search needs) (search needs) (search needs) returns)
+    tie.close (tie.spec (λ c κs. search needs) (λ c. search needs) (λ c κs. search needs) returns)

@@ -19,5 +19,5 @@ returns-3 c = simp (← c .tighten-at2 .ensures, ← c .before .intersection-poi
 
 pub tighten-spec : {M : Type 1} → statement M
 tighten-spec =
-    tie.close (tie.spec (search needs) (search needs) (search needs) returns (search needs) (search needs) returns-2 (search needs) (search needs)
-    returns-3)
+    tie.close (tie.spec (λ c κs. search needs) (λ c κs. search needs) (λ c κs. search needs) returns (λ c κs. search needs) (λ c κs. search needs)
+    returns-2 (λ c κs. search needs) (λ c κs. search needs) returns-3)

@@ -10,4 +10,4 @@ returns c = simp (← c .normalize .ensures, ← c .before .sub .ensures)
 
 pub tighten-at-spec : {M : Type 1} → statement M
 tighten-at-spec =
-    tie.close (tie.spec (search needs) (search needs) returns)
+    tie.close (tie.spec (λ c κs. search needs) (λ c κs. search needs) returns)

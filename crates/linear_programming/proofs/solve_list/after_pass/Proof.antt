@@ -43,5 +43,5 @@ returns-4 c = simp (c .before .pass3 .given .1)
 
 pub after-pass-spec : {M : Type 1} → statement M
 after-pass-spec =
-    tie.close (tie.spec (search needs) (search needs) returns solve-linear-program-3d-requires (search needs) (search needs) returns-2 returns-3
-    returns-4)
+    tie.close (tie.spec (λ c. search needs) (λ c. search needs) returns solve-linear-program-3d-requires (λ c κs. search needs) (λ c. search needs)
+    returns-2 returns-3 returns-4)

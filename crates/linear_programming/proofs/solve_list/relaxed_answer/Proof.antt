@@ -11,4 +11,4 @@ returns-2 c = simp (c .before .relaxed2 .given .1)
 
 pub relaxed-answer-spec : {M : Type 1} → statement M
 relaxed-answer-spec =
-    tie.close (tie.spec (search needs) (search needs) returns returns-2)
+    tie.close (tie.spec (λ c. search needs) (λ c. search needs) returns returns-2)

@@ -46,5 +46,5 @@ returns-3 c = simp (c .before .phase3 .given .1)
 
 pub resume-spec : {M : Type 1} → statement M
 resume-spec =
-    tie.close (tie.spec (search needs) (search needs) (search needs) after-pass-requires (search needs) (search needs) (search needs) (search needs)
-    (search needs) returns returns-2 returns-3)
+    tie.close (tie.spec (λ c. search needs) (λ c κs. search needs) (λ c κs. search needs) after-pass-requires (λ c. search needs)
+    (λ c κs. search needs) (λ c κs. search needs) (λ c κs. search needs) (λ c. search needs) returns returns-2 returns-3)

@@ -25,4 +25,4 @@ returns-2 c =
 
 pub solve-from-start-spec : {M : Type 1} → statement M
 solve-from-start-spec =
-    tie.close (tie.spec (search needs) (search needs) (search needs) returns returns-2)
+    tie.close (tie.spec (λ c κs. search needs) (λ c κs. search needs) (λ c κs. search needs) returns returns-2)

@@ -15,4 +15,5 @@ returns-2 c = simp (← c .new2 .ensures, ← c .before .neg .ensures, c .before
 
 pub corner-line-spec : {M : Type 1} → statement M
 corner-line-spec =
-    tie.close (tie.spec (search needs) (search needs) (search needs) returns (search needs) (search needs) returns-2)
+    tie.close (tie.spec (λ c κs. search needs) (λ c κs. search needs) (λ c κs. search needs) returns (λ c κs. search needs) (λ c κs. search needs)
+    returns-2)

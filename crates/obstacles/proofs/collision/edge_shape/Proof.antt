@@ -10,5 +10,5 @@ returns c = simp (← c .length-squared3 .ensures, ← c .before .length-squared
 
 pub edge-shape-spec : {M : Type 1} → statement M
 edge-shape-spec =
-    tie.close (tie.spec (search needs) (search needs) (search needs) (search needs) (search needs) (search needs) (search needs) (search needs)
-    returns)
+    tie.close (tie.spec (λ c κs. search needs) (λ c κs. search needs) (λ c κs. search needs) (λ c κs. search needs) (λ c κs. search needs)
+    (λ c κs. search needs) (λ c κs. search needs) (λ c κs. search needs) returns)

@@ -18,4 +18,4 @@ returns-3 c = simp (c .if1 .left, c .before .before .right-right-vertex .given .
 
 pub is-handled-by-next-spec : {M : Type 1} → statement M
 is-handled-by-next-spec =
-    tie.close (tie.spec (search needs) (search needs) returns (search needs) (search needs) returns-2 returns-3)
+    tie.close (tie.spec (λ c. search needs) (λ c. search needs) returns (λ c κs. search needs) (λ c κs. search needs) returns-2 returns-3)

@@ -15,4 +15,4 @@ returns-2 c = simp (← c .corner-line .ensures, c .before .if1 .left, ← c .be
 
 pub right-corner-line-spec : {M : Type 1} → statement M
 right-corner-line-spec =
-    tie.close (tie.spec (search needs) returns (search needs) returns-2)
+    tie.close (tie.spec (λ c κs. search needs) returns (λ c κs. search needs) returns-2)

@@ -10,5 +10,5 @@ returns c = simp (← c .dot2 .ensures, ← c .before .sub5 .ensures, ← c .bef
 
 pub cut-off-spec : {M : Type 1} → statement M
 cut-off-spec =
-    tie.close (tie.spec (search needs) (search needs) (search needs) (search needs) (search needs) (search needs) (search needs) (search needs)
-    (search needs) (search needs) returns)
+    tie.close (tie.spec (λ c κs. search needs) (λ c κs. search needs) (λ c κs. search needs) (λ c κs. search needs) (λ c κs. search needs)
+    (λ c κs. search needs) (λ c κs. search needs) (λ c κs. search needs) (λ c κs. search needs) (λ c κs. search needs) returns)

@@ -16,4 +16,4 @@ returns-2 c = simp (← c .length-squared .ensures, ← c .before .sub .ensures,
 
 pub distance-unless-spec : {M : Type 1} → statement M
 distance-unless-spec =
-    tie.close (tie.spec returns (search needs) (search needs) (search needs) (search needs) returns-2)
+    tie.close (tie.spec returns (λ c κs. search needs) (λ c κs. search needs) (λ c κs. search needs) (λ c κs. search needs) returns-2)

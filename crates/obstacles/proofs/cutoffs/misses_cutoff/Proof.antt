@@ -14,4 +14,4 @@ returns-2 c = simp (c .if1 .left, ← c .before .in-unit .ensures)
 
 pub misses-cutoff-spec : {M : Type 1} → statement M
 misses-cutoff-spec =
-    tie.close (tie.spec (search needs) returns returns-2)
+    tie.close (tie.spec (λ c κs. search needs) returns returns-2)

@@ -18,4 +18,4 @@ returns-3 c = simp (c .if2 .left, c .before .if1 .left, ← c .before .before .a
 
 pub projects-to-left-spec : {M : Type 1} → statement M
 projects-to-left-spec =
-    tie.close (tie.spec (search needs) returns (search needs) returns-2 returns-3)
+    tie.close (tie.spec (λ c κs. search needs) returns (λ c κs. search needs) returns-2 returns-3)

@@ -19,5 +19,5 @@ returns-3 c = simp (← c .new2 .ensures, ← c .before .neg .ensures, ← c .be
 
 pub shadow-line-spec : {M : Type 1} → statement M
 shadow-line-spec =
-    tie.close (tie.spec returns (search needs) (search needs) (search needs) (search needs) (search needs) (search needs) (search needs)
-    (search needs) (search needs) returns-2 returns-3)
+    tie.close (tie.spec returns (λ c κs. search needs) (λ c κs. search needs) (λ c. search needs) (λ c κs. search needs) (λ c κs. search needs)
+    (λ c. search needs) (λ c κs. search needs) (λ c κs. search needs) (λ c κs. search needs) returns-2 returns-3)

@@ -15,4 +15,4 @@ returns-2 c = simp (← c .length-squared .ensures, ← c .before .dot .ensures,
 
 pub t-cutoff-edge-spec : {M : Type 1} → statement M
 t-cutoff-edge-spec =
-    tie.close (tie.spec returns (search needs) (search needs) (search needs) returns-2)
+    tie.close (tie.spec returns (λ c κs. search needs) (λ c κs. search needs) (λ c κs. search needs) returns-2)

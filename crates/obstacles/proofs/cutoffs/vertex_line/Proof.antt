@@ -10,4 +10,5 @@ returns c = simp (← c .new .ensures, ← c .before .neg .ensures, ← c .befor
 
 pub vertex-line-spec : {M : Type 1} → statement M
 vertex-line-spec =
-    tie.close (tie.spec (search needs) (search needs) (search needs) (search needs) (search needs) (search needs) (search needs) returns)
+    tie.close (tie.spec (λ c κs. search needs) (λ c κs. search needs) (λ c κs. search needs) (λ c κs. search needs) (λ c κs. search needs)
+    (λ c κs. search needs) (λ c κs. search needs) returns)

@@ -19,5 +19,5 @@ returns-3 c = simp (← c .line-in-front .ensures, ← c .before .edge-shape .en
 
 pub get-line-for-agent-to-edge-spec : {M : Type 1} → statement M
 get-line-for-agent-to-edge-spec =
-    tie.close (tie.spec (search needs) (search needs) (search needs) (search needs) (search needs) returns (search needs) returns-2 (search needs)
-    (search needs) returns-3)
+    tie.close (tie.spec (λ c κs. search needs) (λ c κs. search needs) (λ c κs. search needs) (λ c κs. search needs) (λ c κs. search needs) returns
+    (λ c κs. search needs) returns-2 (λ c κs. search needs) (λ c κs. search needs) returns-3)

@@ -10,4 +10,4 @@ returns c = simp (← c .eq .ensures)
 
 pub is-degenerate-spec : {M : Type 1} → statement M
 is-degenerate-spec =
-    tie.close (tie.spec (search needs) returns)
+    tie.close (tie.spec (λ c κs. search needs) returns)

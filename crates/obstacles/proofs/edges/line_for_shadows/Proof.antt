@@ -10,4 +10,4 @@ returns c = simp (← c .choose-line .ensures, ← c .before .cut-off .ensures, 
 
 pub line-for-shadows-spec : {M : Type 1} → statement M
 line-for-shadows-spec =
-    tie.close (tie.spec (search needs) (search needs) (search needs) (search needs) returns)
+    tie.close (tie.spec (λ c κs. search needs) (λ c κs. search needs) (λ c κs. search needs) (λ c κs. search needs) returns)

@@ -23,5 +23,5 @@ returns-4 c = simp (← c .line-past .ensures, c .before .if3 .left, ← c .befo
 
 pub line-in-front-spec : {M : Type 1} → statement M
 line-in-front-spec =
-    tie.close (tie.spec (search needs) (search needs) returns (search needs) (search needs) returns-2 (search needs) (search needs) (search needs)
-    (search needs) returns-3 (search needs) returns-4)
+    tie.close (tie.spec (λ c κs. search needs) (λ c κs. search needs) returns (λ c κs. search needs) (λ c κs. search needs) returns-2
+    (λ c κs. search needs) (λ c κs. search needs) (λ c κs. search needs) (λ c κs. search needs) returns-3 (λ c κs. search needs) returns-4)

@@ -10,4 +10,4 @@ returns c = simp (← c .line-for-shadows .ensures, ← c .before .is-degenerate
 
 pub line-of-edge-spec : {M : Type 1} → statement M
 line-of-edge-spec =
-    tie.close (tie.spec (search needs) (search needs) (search needs) (search needs) returns)
+    tie.close (tie.spec (λ c κs. search needs) (λ c κs. search needs) (λ c κs. search needs) (λ c κs. search needs) returns)

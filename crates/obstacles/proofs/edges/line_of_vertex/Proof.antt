@@ -15,4 +15,5 @@ returns-2 c = simp (c .if1 .left, ← c .before .alone .ensures)
 
 pub line-of-vertex-spec : {M : Type 1} → statement M
 line-of-vertex-spec =
-    tie.close (tie.spec (search needs) (search needs) (search needs) (search needs) (search needs) returns returns-2)
+    tie.close (tie.spec (λ c κs. search needs) (λ c κs. search needs) (λ c κs. search needs) (λ c κs. search needs) (λ c κs. search needs) returns
+    returns-2)

@@ -19,4 +19,5 @@ returns-3 c = simp (← c .line-of-edge .ensures, c .before .if2 .left, ← c .b
 
 pub line-past-spec : {M : Type 1} → statement M
 line-past-spec =
-    tie.close (tie.spec (search needs) (search needs) returns (search needs) (search needs) returns-2 (search needs) returns-3)
+    tie.close (tie.spec (λ c κs. search needs) (λ c κs. search needs) returns (λ c κs. search needs) (λ c κs. search needs) returns-2
+    (λ c κs. search needs) returns-3)

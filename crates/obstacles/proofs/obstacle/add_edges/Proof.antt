@@ -102,6 +102,6 @@ returns-2 c =
 
 pub add-edges-spec : {M : Type 1} → statement M
 add-edges-spec =
-    tie.close (tie.spec Inv-loop μ-loop (search needs) loop-holds mul-admitted-line sub-admitted-line (search needs) part-admitted-line-end
-    admitted-line-requires add-i (search needs) (search needs) add-count loop-less loop-again (search needs) loop-less-2 loop-again-2 (search needs)
-    same-length returns same-length-2 returns-2)
+    tie.close (tie.spec Inv-loop μ-loop (λ c κs. search needs) loop-holds mul-admitted-line sub-admitted-line (λ c. search needs)
+    part-admitted-line-end admitted-line-requires add-i (λ c. search needs) (λ c κs. search needs) add-count loop-less loop-again (λ c. search needs)
+    loop-less-2 loop-again-2 (λ c. search needs) same-length returns same-length-2 returns-2)

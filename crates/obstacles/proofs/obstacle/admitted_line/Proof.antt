@@ -18,5 +18,5 @@ returns-3 c = simp (c .enum-told2 .given .1, ← c .before .before .judge-line .
 
 pub admitted-line-spec : {M : Type 1} → statement M
 admitted-line-spec =
-    tie.close (tie.spec (search needs) (search needs) (search needs) (search needs) returns (search needs) (search needs) (search needs) returns-2
-    returns-3)
+    tie.close (tie.spec (λ c κs. search needs) (λ c κs. search needs) (λ c. search needs) (λ c. search needs) returns (λ c κs. search needs)
+    (λ c. search needs) (λ c. search needs) returns-2 returns-3)

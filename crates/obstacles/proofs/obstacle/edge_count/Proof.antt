@@ -21,4 +21,4 @@ returns-3 c = (simp (eq-eqb _ _ (c .before .if1 .left)), omega arith)
 
 pub edge-count-spec : {M : Type 1} → statement M
 edge-count-spec =
-    tie.close (tie.spec returns returns-2 (search needs) returns-3)
+    tie.close (tie.spec returns returns-2 (λ c. search needs) returns-3)

@@ -12,4 +12,5 @@ returns-2 c = c .refused .ensures ∙ rw (c .before .before .number .given .1) a
 
 pub lines-for-edges-spec : {M : Type 1} → statement M
 lines-for-edges-spec =
-    tie.close (tie.spec (search needs) (search needs) (λ c κs. search needs) (search needs) (search needs) (search needs) returns returns-2)
+    tie.close (tie.spec (λ c κs. search needs) (λ c. search needs) (λ c κs. search needs) (λ c. search needs) (λ c. search needs)
+    (λ c κs. search needs) returns returns-2)

@@ -14,4 +14,4 @@ returns-2 c = simp (← c .determinant2 .ensures, c .before .enum-told2 .given .
 
 pub is-beyond-spec : {M : Type 1} → statement M
 is-beyond-spec =
-    tie.close (tie.spec (search needs) (search needs) (search needs) (search needs) returns returns-2)
+    tie.close (tie.spec (λ c. search needs) (λ c κs. search needs) (λ c. search needs) (λ c κs. search needs) returns returns-2)

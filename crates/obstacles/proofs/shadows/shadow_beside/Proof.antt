@@ -23,4 +23,5 @@ returns-4 c = simp (c .if1 .left, ← c .before .sub .ensures, c .before .before
 
 pub shadow-beside-spec : {M : Type 1} → statement M
 shadow-beside-spec =
-    tie.close (tie.spec (search needs) (search needs) returns (search needs) (search needs) (search needs) returns-2 returns-3 returns-4)
+    tie.close (tie.spec (λ c. search needs) (λ c. search needs) returns (λ c κs. search needs) (λ c κs. search needs) (λ c κs. search needs) returns-2
+    returns-3 returns-4)

@@ -14,5 +14,5 @@ returns-2 c = simp (← c .div2 .ensures, ← c .before .sub .ensures, c .before
 
 pub tangent-direction-spec : {M : Type 1} → statement M
 tangent-direction-spec =
-    tie.close (tie.spec (search needs) (search needs) (search needs) (search needs) (search needs) (search needs) (search needs) (search needs)
-    (search needs) (search needs) returns returns-2)
+    tie.close (tie.spec (λ c κs. search needs) (λ c κs. search needs) (λ c κs. search needs) (λ c κs. search needs) (λ c. search needs)
+    (λ c κs. search needs) (λ c κs. search needs) (λ c. search needs) (λ c κs. search needs) (λ c κs. search needs) returns returns-2)

@@ -10,5 +10,5 @@ returns c = simp (← c .outer-vertex2 .ensures, ← c .before .outer-vertex .en
 
 pub edge-at-spec : {M : Type 1} → statement M
 edge-at-spec =
-    tie.close (tie.spec (search needs) (search needs) (search needs) (search needs) (search needs) (search needs) (search needs) (search needs)
-    returns)
+    tie.close (tie.spec (λ c κs. search needs) (λ c κs. search needs) (λ c κs. search needs) (λ c κs. search needs) (λ c κs. search needs)
+    (λ c κs. search needs) (λ c. search needs) (λ c κs. search needs) returns)

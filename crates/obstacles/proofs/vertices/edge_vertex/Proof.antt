@@ -14,4 +14,5 @@ returns-2 c = simp (← c .is-convex .ensures, ← c .before .vertex-at3 .ensure
 
 pub edge-vertex-spec : {M : Type 1} → statement M
 edge-vertex-spec =
-    tie.close (tie.spec (search needs) (search needs) returns (search needs) (search needs) (search needs) (search needs) (search needs) returns-2)
+    tie.close (tie.spec (λ c κs. search needs) (λ c κs. search needs) returns (λ c κs. search needs) (λ c κs. search needs) (λ c κs. search needs)
+    (λ c κs. search needs) (λ c κs. search needs) returns-2)

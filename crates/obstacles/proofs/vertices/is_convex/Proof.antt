@@ -10,4 +10,4 @@ returns c = simp (← c .determinant .ensures, ← c .before .sub2 .ensures, ←
 
 pub is-convex-spec : {M : Type 1} → statement M
 is-convex-spec =
-    tie.close (tie.spec (search needs) (search needs) (search needs) returns)
+    tie.close (tie.spec (λ c κs. search needs) (λ c κs. search needs) (λ c κs. search needs) returns)

@@ -19,4 +19,4 @@ returns-3 c = simp (eq-eqb _ _ (c .before .if1 .left), ne-eqb _ _ (c .if2 .left)
 
 pub is-end-spec : {M : Type 1} → statement M
 is-end-spec =
-    tie.close (tie.spec returns returns-2 (search needs) returns-3)
+    tie.close (tie.spec returns returns-2 (λ c. search needs) returns-3)

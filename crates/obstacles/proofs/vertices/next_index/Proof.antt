@@ -17,4 +17,4 @@ returns-2 c = (simp (ne-eqb _ _ (c .if1 .left)), omega arith)
 
 pub next-index-spec : {M : Type 1} → statement M
 next-index-spec =
-    tie.close (tie.spec (search needs) returns (search needs) returns-2)
+    tie.close (tie.spec (λ c. search needs) returns (λ c. search needs) returns-2)

@@ -20,4 +20,4 @@ returns-3 c = simp (← c .vertex-at2 .ensures, ne-eqb _ _ (c .before .if2 .left
 
 pub outer-vertex-spec : {M : Type 1} → statement M
 outer-vertex-spec =
-    tie.close (tie.spec (search needs) returns returns-2 (search needs) returns-3)
+    tie.close (tie.spec (λ c κs. search needs) returns returns-2 (λ c κs. search needs) returns-3)

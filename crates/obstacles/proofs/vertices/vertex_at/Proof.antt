@@ -12,4 +12,5 @@ returns c = let a = c .before .before .args in sym (vertex-nth (now (a .vertices
 
 pub vertex-at-spec : {M : Type 1} → statement M
 vertex-at-spec =
-    tie.close (tie.spec (search needs) (search needs) (search needs) (search needs) (search needs) (search needs) returns)
+    tie.close (tie.spec (λ c. search needs) (λ c. search needs) (λ c. search needs) (λ c. search needs) (λ c. search needs) (λ c. search needs)
+    returns)

@@ -8,4 +8,4 @@ returns-2 c = simp (c .before .before .failed .given .1)
 
 pub failed-place-spec : {M : Type 1} → statement M
 failed-place-spec =
-    tie.close (tie.spec (search needs) (search needs) (search needs) (λ c. search needs) returns-2)
+    tie.close (tie.spec (λ c. search needs) (λ c. search needs) (λ c. search needs) (λ c. search needs) returns-2)

@@ -11,4 +11,5 @@ returns-2 c = simp (c .before .outcome2 .given .1)
 
 pub write-outcome-spec : {M : Type 1} → statement M
 write-outcome-spec =
-    tie.close (tie.spec (search needs) (search needs) (search needs) (search needs) (search needs) (search needs) (search needs) returns returns-2)
+    tie.close (tie.spec (λ c. search needs) (λ c κs. search needs) (λ c κs. search needs) (λ c κs. search needs) (λ c κs. search needs)
+    (λ c. search needs) (λ c. search needs) returns returns-2)

@@ -28,4 +28,5 @@ returns-5 c = simp (le-ltb 0 _ (c .before .before .before .before .if1 .left), l
 
 pub next-part-spec : {M : Type 1} → statement M
 next-part-spec =
-    tie.close (tie.spec (search needs) returns returns-2 (search needs) (search needs) returns-3 (search needs) returns-4 (search needs) returns-5)
+    tie.close (tie.spec (λ c κs. search needs) returns returns-2 (λ c κs. search needs) (λ c. search needs) returns-3 (λ c. search needs) returns-4
+    (λ c. search needs) returns-5)

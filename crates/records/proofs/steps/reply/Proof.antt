@@ -12,4 +12,5 @@ returns-2 c = replied-refusal _ _ _ (c .before .before .before .before .before .
 
 pub reply-spec : {M : Type 1} → statement M
 reply-spec =
-    tie.close (tie.spec (search needs) (search needs) (search needs) (search needs) (search needs) returns (search needs) returns-2)
+    tie.close (tie.spec (λ c κs. search needs) (λ c. search needs) (λ c. search needs) (λ c κs. search needs) (λ c. search needs) returns
+    (λ c. search needs) returns-2)

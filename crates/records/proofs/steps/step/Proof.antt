@@ -83,7 +83,8 @@ returns-5 c =
 
 pub step-spec : {M : Type 1} → statement M
 step-spec =
-    tie.close (tie.spec (search needs) returns (search needs) (search needs) (search needs) (search needs) (search needs) (search needs) add-t20
-    sub-t21 (search needs) (search needs) (search needs) (search needs) (search needs) (search needs) (search needs) (search needs) add-end
-    (search needs) (search needs) part-reply-end (search needs) (search needs) (search needs) (search needs) add-t31 returns-2 returns-3
-    (search needs) returns-4 (search needs) returns-5)
+    tie.close (tie.spec (λ c. search needs) returns (λ c. search needs) (λ c. search needs) (λ c. search needs) (λ c κs. search needs)
+    (λ c. search needs) (λ c. search needs) add-t20 sub-t21 (λ c. search needs) (λ c. search needs) (λ c. search needs) (λ c. search needs)
+    (λ c κs. search needs) (λ c. search needs) (λ c. search needs) (λ c. search needs) add-end (λ c. search needs) (λ c. search needs) part-reply-end
+    (λ c. search needs) (λ c. search needs) (λ c. search needs) (λ c κs. search needs) add-t31 returns-2 returns-3 (λ c. search needs) returns-4
+    (λ c. search needs) returns-5)

@@ -10,4 +10,4 @@ returns c = simp (← c .number .ensures)
 
 pub agrees-spec : {M : Type 1} → statement M
 agrees-spec =
-    tie.close (tie.spec (search needs) returns)
+    tie.close (tie.spec (λ c κs. search needs) returns)

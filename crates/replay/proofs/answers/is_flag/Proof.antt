@@ -14,4 +14,4 @@ returns-2 c = simp (c .if1 .left, ← c .before .word-at .ensures)
 
 pub is-flag-spec : {M : Type 1} → statement M
 is-flag-spec =
-    tie.close (tie.spec (search needs) returns returns-2)
+    tie.close (tie.spec (λ c κs. search needs) returns returns-2)

@@ -10,4 +10,4 @@ returns c = simp (← c .has-pattern .ensures, ← c .before .word-at .ensures)
 
 pub is-number-spec : {M : Type 1} → statement M
 is-number-spec =
-    tie.close (tie.spec (search needs) (search needs) returns)
+    tie.close (tie.spec (λ c κs. search needs) (λ c κs. search needs) returns)

@@ -10,4 +10,4 @@ returns c = simp (← c .is-number2 .ensures, ← c .before .is-number .ensures)
 
 pub is-vector-spec : {M : Type 1} → statement M
 is-vector-spec =
-    tie.close (tie.spec (search needs) (search needs) (search needs) returns)
+    tie.close (tie.spec (λ c κs. search needs) (λ c. search needs) (λ c κs. search needs) returns)

@@ -10,4 +10,4 @@ returns c = simp (← c .number .ensures, ← c .before .word-at .ensures)
 
 pub number-at-spec : {M : Type 1} → statement M
 number-at-spec =
-    tie.close (tie.spec (search needs) (search needs) returns)
+    tie.close (tie.spec (λ c κs. search needs) (λ c κs. search needs) returns)

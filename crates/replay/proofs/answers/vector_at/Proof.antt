@@ -10,4 +10,4 @@ returns c = simp (← c .number-at2 .ensures, ← c .before .number-at .ensures)
 
 pub vector-at-spec : {M : Type 1} → statement M
 vector-at-spec =
-    tie.close (tie.spec (search needs) (search needs) (search needs) returns)
+    tie.close (tie.spec (λ c κs. search needs) (λ c. search needs) (λ c κs. search needs) returns)

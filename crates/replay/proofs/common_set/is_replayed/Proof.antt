@@ -23,4 +23,5 @@ returns-2 c =
 
 pub is-replayed-spec : {M : Type 1} → statement M
 is-replayed-spec =
-    tie.close (tie.spec returns (search needs) (search needs) (search needs) (search needs) (search needs) returns-2)
+    tie.close (tie.spec returns (λ c κs. search needs) (λ c κs. search needs) (λ c κs. search needs) (λ c κs. search needs) (λ c κs. search needs)
+    returns-2)

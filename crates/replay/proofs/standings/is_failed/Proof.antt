@@ -14,4 +14,4 @@ returns-2 c = simp (c .before .before .failed .given .1, ← c .before .before .
 
 pub is-failed-spec : {M : Type 1} → statement M
 is-failed-spec =
-    tie.close (tie.spec (search needs) (search needs) (search needs) (search needs) returns returns-2)
+    tie.close (tie.spec (λ c κs. search needs) (λ c. search needs) (λ c. search needs) (λ c. search needs) returns returns-2)

@@ -18,5 +18,5 @@ returns-3 c = simp (← c .word-at .ensures, ← c .before .is-told3 .ensures, c
 
 pub is-standing-spec : {M : Type 1} → statement M
 is-standing-spec =
-    tie.close (tie.spec (search needs) (search needs) (search needs) (search needs) (search needs) (search needs) (search needs) (search needs)
-    (search needs) returns returns-2 returns-3)
+    tie.close (tie.spec (λ c. search needs) (λ c κs. search needs) (λ c. search needs) (λ c κs. search needs) (λ c. search needs)
+    (λ c κs. search needs) (λ c. search needs) (λ c κs. search needs) (λ c. search needs) returns returns-2 returns-3)

@@ -9,4 +9,5 @@ returns c = rw (c .new .ensures) (cart-read _ _ _ _ _ _ _ _ _ _ _ _ _ _ (c .befo
 
 pub cart-at-spec : {M : Type 1} → statement M
 cart-at-spec =
-    tie.close (tie.spec (search needs) (search needs) (search needs) (search needs) (search needs) (search needs) (search needs) returns)
+    tie.close (tie.spec (λ c κs. search needs) (λ c κs. search needs) (λ c κs. search needs) (λ c κs. search needs) (λ c κs. search needs)
+    (λ c κs. search needs) (λ c κs. search needs) returns)

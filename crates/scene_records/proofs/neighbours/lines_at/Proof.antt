@@ -8,4 +8,4 @@ returns c = rw (c .before .before .before .blank-lines .ensures) at (c .before .
 
 pub lines-at-spec : {M : Type 1} → statement M
 lines-at-spec =
-    tie.close (tie.spec (search needs) (search needs) (search needs) returns)
+    tie.close (tie.spec (λ c κs. search needs) (λ c. search needs) (λ c κs. search needs) returns)

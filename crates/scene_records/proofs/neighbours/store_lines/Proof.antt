@@ -48,4 +48,5 @@ returns c = let l = c .before .loop in stored-done fourOf 4 (λ v. refl) (neighb
 
 pub store-lines-spec : {M : Type 1} → statement M
 store-lines-spec =
-    tie.close (tie.spec Inv-loop μ-loop loop-holds (search needs) (search needs) (search needs) loop-less loop-again same-length returns)
+    tie.close (tie.spec Inv-loop μ-loop loop-holds (λ c κs. search needs) (λ c κs. search needs) (λ c. search needs) loop-less loop-again same-length
+    returns)

@@ -15,4 +15,4 @@ returns-2 c = rw (c .before .before .cursor .given .1, c .held-to .ensures) (end
 
 pub end-at-spec : {M : Type 1} → statement M
 end-at-spec =
-    tie.close (tie.spec (search needs) (search needs) returns (search needs) returns-2)
+    tie.close (tie.spec (λ c. search needs) (λ c. search needs) returns (λ c κs. search needs) returns-2)

@@ -18,4 +18,4 @@ returns-2 c = let a = c .before .args in left-over (a .at) (a .count) (length (n
 
 pub has-spec : {M : Type 1} → statement M
 has-spec =
-    tie.close (tie.spec returns (search needs) returns-2)
+    tie.close (tie.spec returns (λ c. search needs) returns-2)

@@ -14,4 +14,4 @@ returns-3 c = rw (c .before .enum-told .given .1, c .if1 .left)
 
 pub held-to-spec : {M : Type 1} → statement M
 held-to-spec =
-    tie.close (tie.spec (search needs) returns (search needs) returns-2 returns-3)
+    tie.close (tie.spec (λ c. search needs) returns (λ c. search needs) returns-2 returns-3)

@@ -27,5 +27,5 @@ returns-3 c = rw (c .before .before .before .cursor .given .1) (number-missing _
 
 pub number-at-spec : {M : Type 1} → statement M
 number-at-spec =
-    tie.close (tie.spec (search needs) (search needs) returns (search needs) (search needs) (search needs) (search needs) add-t10 (search needs)
-    returns-2 returns-3)
+    tie.close (tie.spec (λ c. search needs) (λ c. search needs) returns (λ c κs. search needs) (λ c κs. search needs) (λ c κs. search needs)
+    (λ c κs. search needs) add-t10 (λ c κs. search needs) returns-2 returns-3)

@@ -9,4 +9,4 @@ returns c = rw (c .new .ensures) (vector-read _ _ _ _ _ _ _ (c .before .before .
 
 pub vector-at-spec : {M : Type 1} → statement M
 vector-at-spec =
-    tie.close (tie.spec (search needs) (search needs) (search needs) returns)
+    tie.close (tie.spec (λ c κs. search needs) (λ c κs. search needs) (λ c κs. search needs) returns)

@@ -9,4 +9,4 @@ returns c = rw (c .held-to .ensures) (version-read _ _ _ _ (c .before .before .b
 
 pub version-at-spec : {M : Type 1} → statement M
 version-at-spec =
-    tie.close (tie.spec (search needs) (search needs) returns)
+    tie.close (tie.spec (λ c κs. search needs) (λ c κs. search needs) returns)

@@ -14,5 +14,6 @@ returns-2 c = rw (c .enum-told2 .given .1) (made-fault headAs _ _ _ _ (c .enum-t
 
 pub head-at-spec : {M : Type 1} → statement M
 head-at-spec =
-    tie.close (tie.spec (search needs) (search needs) (search needs) (search needs) (search needs) (search needs) (search needs) (search needs)
-    (search needs) (search needs) (search needs) returns returns-2)
+    tie.close (tie.spec (λ c κs. search needs) (λ c κs. search needs) (λ c κs. search needs) (λ c κs. search needs) (λ c κs. search needs)
+    (λ c κs. search needs) (λ c κs. search needs) (λ c κs. search needs) (λ c κs. search needs) (λ c. search needs) (λ c. search needs) returns
+    returns-2)

@@ -66,5 +66,5 @@ returns c = let l = c .before .loop in walls-done _ _ _ _ _ _ (c .loop-test .lef
 
 pub obstacles-at-spec : {M : Type 1} → statement M
 obstacles-at-spec =
-    tie.close (tie.spec Inv-loop μ-loop loop-holds (search needs) (search needs) vertices-at-requires slice-write-kinds slice-write-counts add-total
-    (search needs) loop-less loop-again same-length same-length-2 same-length-3 returns)
+    tie.close (tie.spec Inv-loop μ-loop loop-holds (λ c κs. search needs) (λ c κs. search needs) vertices-at-requires slice-write-kinds
+    slice-write-counts add-total (λ c. search needs) loop-less loop-again same-length same-length-2 same-length-3 returns)

@@ -15,4 +15,5 @@ returns c = rw add-one refl
 
 pub put-spec : {M : Type 1} → statement M
 put-spec =
-    tie.close (tie.spec (search needs) (search needs) (search needs) (search needs) (search needs) slice-write-vertices-2 (search needs) returns)
+    tie.close (tie.spec (λ c. search needs) (λ c. search needs) (λ c. search needs) (λ c. search needs) (λ c. search needs) slice-write-vertices-2
+    (λ c. search needs) returns)

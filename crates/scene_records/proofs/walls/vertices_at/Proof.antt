@@ -55,4 +55,5 @@ returns c = let l = c .before .loop in stored-done coordinates 2 (λ v. refl) (v
 
 pub vertices-at-spec : {M : Type 1} → statement M
 vertices-at-spec =
-    tie.close (tie.spec Inv-loop μ-loop loop-holds (search needs) add-put put-requires (search needs) loop-less loop-again same-length returns)
+    tie.close (tie.spec Inv-loop μ-loop loop-holds (λ c κs. search needs) add-put put-requires (λ c. search needs) loop-less loop-again same-length
+    returns)

@@ -8,4 +8,5 @@ returns c = rw (c .before .before .before .before .before .before .before .befor
 
 pub walls-at-spec : {M : Type 1} → statement M
 walls-at-spec =
-    tie.close (tie.spec (search needs) (search needs) (search needs) (search needs) (search needs) (search needs) (search needs) returns)
+    tie.close (tie.spec (λ c κs. search needs) (λ c κs. search needs) (λ c κs. search needs) (λ c. search needs) (λ c. search needs)
+    (λ c. search needs) (λ c κs. search needs) returns)

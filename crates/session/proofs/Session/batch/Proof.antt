@@ -20,4 +20,4 @@ returns-2 c = continues-by _ _ _ (simp (c .before .enum-told2 .given .1, ← c .
 
 pub batch-spec : {M : Type 1} → statement M
 batch-spec =
-    tie.close (tie.spec (search needs) (search needs) returns (search needs) work-requires returns-2)
+    tie.close (tie.spec (λ c κs. search needs) (λ c. search needs) returns (λ c. search needs) work-requires returns-2)

@@ -16,5 +16,5 @@ returns-2 c = begins-by _ _ _ _ (simp (← c .blank .ensures, c .before .before 
 
 pub start-spec : {M : Type 1} → statement M
 start-spec =
-    tie.close (tie.spec (search needs) (search needs) (search needs) (search needs) (search needs) (search needs) (search needs) (search needs)
-    returns returns-2)
+    tie.close (tie.spec (λ c. search needs) (λ c. search needs) (λ c. search needs) (λ c κs. search needs) (λ c. search needs) (λ c κs. search needs)
+    (λ c. search needs) (λ c κs. search needs) returns returns-2)

@@ -14,4 +14,4 @@ returns-2 c = simp (← c .first-of .ensures, ← c .before .more2 .ensures, c .
 
 pub with-spec : {M : Type 1} → statement M
 with-spec =
-    tie.close (tie.spec (search needs) returns (search needs) (search needs) returns-2)
+    tie.close (tie.spec (λ c κs. search needs) returns (λ c κs. search needs) (λ c κs. search needs) returns-2)
