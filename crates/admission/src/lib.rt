@@ -38,7 +38,7 @@ pub fn first_of(first: Judged, second: Judged) -> Judged
 {
     match first {
         Judged::Fine => second,
-        Judged::Fault(number) => Judged::Fault(number),
+        Judged::Fault(_) => first,
     }
 }
 

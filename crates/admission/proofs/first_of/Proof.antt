@@ -7,7 +7,7 @@ returns : tie.Need-returns
 returns c = simp (c .enum-told .given .1)
 
 returns-2 : tie.Need-returns-2
-returns-2 c = simp (c .before .first .given .1)
+returns-2 c = simp (c .enum-told2 .given .1)
 
 pub first-of-spec : {M : Type 1} → statement M
 first-of-spec =
