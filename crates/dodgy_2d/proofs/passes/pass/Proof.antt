@@ -26,9 +26,6 @@ add-end c =
 
 mul-copy : tie.Need-mul-copy
 mul-copy c =
-    let start = c .before .before .before .before .before .before .before .before .before .before .before .before .before .before in
-    let s = start .args .scene in
-    let near = parts s (start .pre) .neighbours in
     let few = rw (c .before .before .before .before .made2 .given .1) at (c .before .before .before .before .before .before .before .edge-lines .ensures .1) in
     omega (arith, few)
 
@@ -37,7 +34,6 @@ mul-copy-2 c =
     let start = c .before .before .before .before .before .before .before .before .before .before .before .before .before .before .before in
     let s = start .args .scene in
     let near = parts s (start .pre) .neighbours in
-    let few = rw (c .before .before .before .before .before .made2 .given .1) at (c .before .before .before .before .before .before .before .before .edge-lines .ensures .1) in
     omega (arith, near)
 
 copy-requires : tie.Need-copy-requires
@@ -73,7 +69,6 @@ returns-2 : tie.Need-returns-2
 returns-2 c =
     let start = c .before .before .before .before .before .before .before .before .before .before .before .before .before .before .before .before .before .before .before .before in
     let s = start .args .scene in
-    let near = parts s (start .pre) .neighbours in
     let few = rw (c .before .before .before .before .before .before .before .before .before .before .made2 .given .1) at (c .before .before .before .before .before .before .before .before .before .before .before .before .before .edge-lines .ensures .1) in
     let size : length (s .lines) ≡ 256 = length-unmapped _ (s .lines) 256 (start .good .0 .1 .1 .1 .1 .1 .1 .1 .1 .1 .1 .1 .1 .0 .1 .0 .1) in
     let rigid = c .before .before .before .before .before .before .before .before .before .before .made2 .given .0 .0 in
