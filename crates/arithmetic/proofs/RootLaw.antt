@@ -16,7 +16,6 @@ use Rattle.arithmetic.specs.Root.{count, worth, rootBits, sqrtOf, before
 use Rattle.arithmetic.proofs.Patterns.{worth-mono, bits-value, count-bits, count-under, positive-bits}
 use Rattle.arithmetic.proofs.RootBits.{mid, mid-mono, AtRoot, rootBits-at, one-root}
 use Rattle.arithmetic.proofs.Rounded.{mid-above}
-use Rattle.arithmetic.proofs.Steps.{odd-square}
 use Rattle.arithmetic.proofs.Roots.{of-positive, root-range, not-nan}
 
 -- ---- the counts about a pattern
@@ -112,7 +111,6 @@ no-tie b r h e =
     let k = b / 8388608 - 1 in
     let d = b - k * 8388608 in
     let o = (m + (m + 1)) * (m + (m + 1)) in
-    let q : o ≡ 4 * (m * m) + 4 * m + 1 = odd-square m in
     odd-apart o d (g + g) (k + 151) (omega arith) (omega arith)
     (ap (λ (x : ℕ). o * x) (pow-add 2 g g) ∙ sym (mul-mul-mul-comm (m + (m + 1)) (2 ^ g) (m + (m + 1)) (2 ^ g)) ∙ sym (ap (λ (x : ℕ). x * x) t) ∙ sym e ∙ four-units d k)
 

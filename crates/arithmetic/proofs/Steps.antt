@@ -36,13 +36,11 @@ next-square a = simp (add-mul, mul-add) (omega arith)
 pub nearest-down : (w a : ℕ) → RootPart w a → w - a * a ≤ a → RootNearest w a
 nearest-down w a p h =
     let s : a - 1 + a ≤ a + a = omega arith in
-    let l : a * a ≤ w = p .low in
     record { low = omega (arith, mul-le-mul s s, even-square a); high = omega (arith, odd-square a) }
 
 pub nearest-up : (w a : ℕ) → RootPart w a → a < w - a * a → RootNearest w (a + 1)
 nearest-up w a p h =
     let s : a + 1 - 1 + (a + 1) ≡ a + (a + 1) = omega arith in
-    let t : w < (a + 1) * (a + 1) = p .high in
     record { low = rw s (omega (arith, odd-square a)); high = omega (arith, odd-square (a + 1), next-square a) }
 
 -- ---- doubling the digits

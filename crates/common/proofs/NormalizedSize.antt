@@ -41,7 +41,6 @@ binade {x} j (suc d) f a w = go (within-or-apart (j + d) x f) (binade j d f a)
     go : Within (j + d) x ⊎ Apart (j + d) x → (Within (j + d) x → Binade j (j + d) x) → Binade j (j + suc d) x
     go (inl v) ih =
         let b = ih v in
-        let m = b .most in
         record { i = b .i; least = b .least; most = omega arith; from = b .from; to = b .to }
     go (inr b) ih = record { i = j + d; least = omega arith; most = omega arith; from = b; to = wider (omega arith) w }
 
@@ -55,7 +54,6 @@ module _ (x len : Float) (w : Within 151 x) (o : Over 0 len) (u : Within 276 len
       between b =
           let i = b .i in
           let l = b .least in
-          let m = b .most in
           mul-within 150 (b .to) (inverse-within i (298 - i) (reaches i l (b .from)) u (omega arith)) (omega arith)
 
       go : Within 75 x ⊎ Apart 75 x → Within 150 (x ⊗ (1ᶠ ⊘ sqrtOf len))

@@ -8,7 +8,6 @@ use lib.ListN.{length}
 use borrow.Author.Tests.{le-leb, lt-leb}
 use Rattle.arithmetic.specs.Binary32.{if_then_else_}
 use Rattle.arithmetic.proofs.Choice.{if-all}
-use Rattle.admission.specs.declared.Judged.{Judged}
 use Rattle.admission.specs.declared.Judged.the-variants as judged
 use Rattle.admission.specs.Faults.{Fault, fine, fault, faultOf}
 use Rattle.admission.proofs.FaultLaws.{no-fault}
@@ -27,7 +26,6 @@ use Rattle.records.specs.Steps.{put, putAt}
 
 pub read-refused : (g : Got Scene) (r : SceneRead) (n : ℕ) → r ≡ readAs g → r .judged ≡ judged.Fault n → ofReading g ≡ refusal n
 read-refused (refused m) r n e j =
-    let z : _≡_ {A = Judged} (judged.Fault m) (judged.Fault n) = sym (ap (λ (x : SceneRead). x .judged) e) ∙ j in
     cc
 read-refused (got s at) r n e j = absurd (no-fault n (ap faultOf (sym (ap (λ (x : SceneRead). x .judged) e) ∙ j)))
 

@@ -128,11 +128,6 @@ module _ (na da nb db nx dx ny dy u δ : ℕ) (h : ny * db * u ≤ nb * dy * u +
         let e = da * dy * (db * dx) in
         let s₁ : r * (da * dy) * (db * dx) ≤ na * ny * u * (db * dx) + ε * (da * dy) * (db * dx) = le-trans (mul-le-mul-right (db * dx) p) (le-of-eq (add-mul (na * ny * u) (ε * (da * dy)) (db * dx))) in
         let s₂ : nb * nx * u * (da * dy) ≤ k * (db * dx) * (da * dy) + ε * (db * dx) * (da * dy) = le-trans (mul-le-mul-right (da * dy) q) (le-of-eq (add-mul (k * (db * dx)) (ε * (db * dx)) (da * dy))) in
-        let e₁ : r * (da * dy) * (db * dx) ≡ r * e = mul-assoc r (da * dy) (db * dx) in
-        let e₂ : ε * (da * dy) * (db * dx) ≡ ε * e = mul-assoc ε (da * dy) (db * dx) in
-        let e₃ : k * (db * dx) * (da * dy) ≡ k * e = mul-right-comm k (db * dx) (da * dy) ∙ mul-assoc k (da * dy) (db * dx) in
-        let e₄ : ε * (db * dx) * (da * dy) ≡ ε * e = mul-right-comm ε (db * dx) (da * dy) ∙ mul-assoc ε (da * dy) (db * dx) in
-        let e₅ : (k + (2 * ε + 4 * δ)) * e ≡ k * e + (2 * (ε * e) + 4 * (δ * e)) = add-mul k (2 * ε + 4 * δ) e ∙ ap (λ (z : ℕ). k * e + z) (add-mul (2 * ε) (4 * δ) e ∙ rw (mul-assoc 2 ε e, mul-assoc 4 δ e) refl) in
         let c = cross in
         let l : r * e ≤ (k + (2 * ε + 4 * δ)) * e = omega arith in
         le-of-mul-le-mul-right l E

@@ -3,7 +3,7 @@
 use mathlib.Core.Path.{_≡_, refl, sym, _∙_, ap}
 use mathlib.Core.Logic.{_⊎_, inl, inr}
 use Prim.Native.Nat.{ℕ, zero, suc, _+_, _-_, _*_, _/_, _%_, _^_, _≤_, _<_, zero-le, compare}
-use native.Mathlib.Nat.{le-trans, le-of-eq, zero-mul, mul-le-mul-right, mul-pos, le-refl, mul-comm, mul-assoc, mul-right-comm, mul-le-mul-left, add-le-add, le-of-lt, lt-of-le-of-lt, mul-lt-mul-of-pos-right, le-div-iff-mul-le, le-antisymm, div-lt-iff-lt-mul, mul-one, one-mul, div-mul-le-self, suc-mul}
+use native.Mathlib.Nat.{le-trans, le-of-eq, zero-mul, mul-le-mul-right, mul-pos, le-refl, mul-comm, mul-assoc, mul-right-comm, mul-le-mul-left, add-le-add, le-of-lt, lt-of-le-of-lt, mul-lt-mul-of-pos-right, le-div-iff-mul-le, le-antisymm, div-lt-iff-lt-mul, mul-one, one-mul, div-mul-le-self}
 use native.Mathlib.Omega.{arith}
 use mathlib.Core.Bool.{Bool, true, false, cond}
 use lib.Dec.{ltb, lit<}
@@ -62,7 +62,6 @@ closest-near n u U =
     let o = compare (n % u * 2) u in
     let a = mul-le-mul-right u (nearest-le (n / u) o) in
     let b = mul-le-mul-right u (nearest-ge (n / u) o) in
-    let c : suc (n / u) * u ≡ n / u * u + u = suc-mul (n / u) u in
     let d = div-mul-le-self n u in
     let e : n < suc (n / u) * u = div-lt-iff-lt-mul U .0 (le-refl (suc (n / u))) in
     (omega arith, omega arith)

@@ -74,7 +74,6 @@ module _ (n r i : ℕ) (a : AtRoot n r) where
       big k =
           let l : b < r = lt-of-not-le (λ (g : r ≤ b). lt-irrefl _ (lt-of-lt-of-le k (le-trans (worth-mono r b g) (le-of-eq v)))) in
           let s : 2 ^ i ≤ worth (r - 1) = le-trans (le-of-eq (sym v)) (worth-mono b (r - 1) (omega arith)) in
-          let w : 2 ^ i < worth r = k in
           let m : 2 ^ i + 2 ^ i < worth (r - 1) + worth r = omega arith in
           let q : 4 * n * 2 ^ 149 ≤ 4 * (2 ^ i * 2 ^ i) = le-trans (le-of-eq (mul-assoc 4 n (2 ^ 149))) (mul-le-mul-left 4 h) in
           lt-irrefl _ (lt-of-lt-of-le (square-lt _ _ m) (le-trans (a .low) (le-trans q (le-of-eq (sym (even-square (2 ^ i)))))))

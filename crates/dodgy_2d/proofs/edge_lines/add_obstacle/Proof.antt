@@ -20,19 +20,16 @@ returns c =
 
 mul-copy-2 : tie.Need-mul-copy-2
 mul-copy-2 c =
-    let a = c .before .before .before .before .before .before .before .args in
     let few = call-few _ _ _ _ _ _ _ (c .before .before .before .before .get-lines-for-agent-to-obstacle .ensures) in
     omega (arith, few)
 
 copy-requires : tie.Need-copy-requires
 copy-requires c κs =
-    let a = c .before .before .before .before .before .before .before .args in
     let few = call-few _ _ _ _ _ _ _ (c .before .before .before .before .get-lines-for-agent-to-obstacle .ensures) in
     (omega (arith, few), omega (arith, few))
 
 add-t17 : tie.Need-add-t17
 add-t17 c =
-    let a = c .before .before .before .before .before .before .before .before .before .before .args in
     let few = call-few _ _ _ _ _ _ _ (c .before .before .before .before .before .before .before .get-lines-for-agent-to-obstacle .ensures) in
     omega (arith, few)
 
