@@ -1,6 +1,7 @@
 -- 01, "Refusal numbers": "The first fault in this order is told." Definitions only. Assumes nothing.
-use Prim.Native.Nat.{ℕ}
+use Prim.Native.Nat.{ℕ, _+_}
 use mathlib.Core.Bool.{Bool, true, false, _&&_}
+use lib.Dec.{leb}
 use lib.Ieee.{Float}
 use Rattle.arithmetic.specs.Binary32.{_≤ᶠ_}
 use Rattle.arithmetic.specs.Ends.{absOf}
@@ -34,6 +35,10 @@ within bound x = absOf x ≤ᶠ bound
 -- from low to high, both admitted
 unfoldable pub inside : Float → Float → Float → Bool
 inside low high x = low ≤ᶠ x && x ≤ᶠ high
+
+-- as many as `more` behind those before are not over the limit, or not past the end
+abbrev pub fitsBehind : ℕ → ℕ → ℕ → Bool
+fitsBehind most before more = leb (before + more) most
 
 -- what a judgement of the code says, and the judgement that says it
 abbrev pub faultOf : Judged → Fault

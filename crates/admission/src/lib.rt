@@ -1,6 +1,6 @@
 // Judgements of what is admitted (01, "What is admitted", "Refusal numbers"): fine, or the number of the first fault.
 ghost use mathlib.Core.Path.{_≡_};
-ghost use Rattle.admission.specs.Faults.{_⊳_, must, within, inside, faultOf};
+ghost use Rattle.admission.specs.Faults.{_⊳_, must, within, inside, fitsBehind, faultOf};
 ghost use Rattle.admission.specs.Heads.{isKind, roomFor, isEmptyOpen};
 
 pub enum Judged {
@@ -20,6 +20,16 @@ pub fn is_inside(low: f32, high: f32, x: f32) -> bool
     ensures { λ r. ⌜ r ≡ inside low high x ⌝ }
 {
     low <= x && x <= high
+}
+
+// Whether as many as `more` fit behind those `before`, where `most` do. No sum is made that could overflow.
+pub fn fits_behind(most: usize, before: usize, more: usize) -> bool
+    ensures { λ r. ⌜ r ≡ fitsBehind most before more ⌝ }
+{
+    if before > most {
+        return false;
+    }
+    more <= most - before
 }
 
 // The fault with the number, unless the rule passes.
@@ -67,14 +77,14 @@ impl Head {
         kind == Head::CLOSED || kind == Head::OPEN
     }
 
-    // Whether an obstacle may have as many vertices as `count`, behind the `total` vertices of the obstacles before it. No sum is made that could overflow.
+    // Whether an obstacle may have as many vertices as `count`, behind the `total` vertices of the obstacles before it.
     pub fn has_room(total: usize, count: usize) -> bool
         ensures { λ r. ⌜ r ≡ roomFor total count ⌝ }
     {
         if count > Head::MOST {
             return false;
         }
-        total <= Head::MOST_TOGETHER - count
+        fits_behind(Head::MOST_TOGETHER, total, count)
     }
 
     // Whether an obstacle is open and has no vertices, which gets 5. A closed one may have none.

@@ -1,5 +1,5 @@
 -- The lines of one obstacle: all its edges in order, and its faults (01, "Rules of the edges", "Refusal numbers"). Definitions only. Assumes nothing.
-use Prim.Native.Nat.{ℕ, zero, suc, _+_, _-_, _*_, _/_}
+use Prim.Native.Nat.{ℕ, zero, suc, _-_, _*_, _/_}
 use mathlib.Core.Bool.{not}
 use mathlib.Core.List.{List, [], _∷_, _++_}
 use lib.Dec.{eqb, leb}
@@ -9,7 +9,7 @@ use Rattle.arithmetic.specs.Binary32.{if_then_else_}
 use Rattle.common.specs.declared.Vec2.{Vec2}
 use Rattle.lines.specs.declared.Line.{Line}
 use Rattle.lines.specs.LineFaults.{lineFault}
-use Rattle.admission.specs.Faults.{Fault, must, _⊳_, unlessFault}
+use Rattle.admission.specs.Faults.{Fault, must, _⊳_, unlessFault, fitsBehind}
 use Rattle.admission.specs.Heads.{openKind, mostVertices, isKind, isEmptyOpen}
 use Rattle.obstacles.specs.declared.Agent.{Agent}
 use Rattle.obstacles.specs.Edges.{EdgeLine, nothing, made}
@@ -64,7 +64,7 @@ obstacleFault kind have offset count =
     must (isKind kind) 3
     ⊳ must (leb count mostVertices) 4
     ⊳ must (not (isEmptyOpen kind count)) 5
-    ⊳ must (leb (offset + count) have) 2
+    ⊳ must (fitsBehind have offset count) 2
 
 -- the obstacle whose vertices are the count from the vertex offset on, two numbers each
 unfoldable pub obstacleCall : Agent → ℕ → List Float → ℕ → ℕ → Float → Float → Answer

@@ -10,9 +10,9 @@ use admission::Head;
 use admission::Judged;
 use admission::fault_unless;
 use admission::first_of;
+use admission::fits_behind;
 ghost use mathlib.Core.Path.{_≡_};
 ghost use Prim.Native.Nat.{_+_, _/_, _≤_, _<_};
-ghost use lib.Dec.{leb};
 ghost use lib.ListN.{length};
 ghost use Rattle.lines.specs.Lines.{linesOf};
 ghost use Rattle.admission.specs.Faults.{faultOf};
@@ -21,16 +21,6 @@ ghost use Rattle.obstacles.specs.EdgeLines.{lineForEdge};
 ghost use Rattle.obstacles.specs.Obstacles.{obstacleFault, edgeCount, admitted, obstacleLines, refused as refusedWith};
 ghost use Rattle.obstacles.specs.Read.{admittedOf, blankNumbers, addedOf, answerAs};
 
-// Whether as many vertices as `count` are there from the vertex `offset` on, of the `have` vertices that there are.
-fn are_there(have: usize, offset: usize, count: usize) -> bool
-    ensures { λ r. ⌜ r ≡ leb (offset + count) have ⌝ }
-{
-    if offset > have {
-        return false;
-    }
-    count <= have - offset
-}
-
 // The first fault of an obstacle among `have` vertices: its kind (3), too many vertices (4), open with none (5), vertices missing (2).
 pub(crate) fn judge_obstacle(kind: u8, have: usize, offset: usize, count: usize) -> Judged
     ensures { λ r. ⌜ faultOf r ≡ obstacleFault kind have offset count ⌝ }
@@ -38,7 +28,7 @@ pub(crate) fn judge_obstacle(kind: u8, have: usize, offset: usize, count: usize)
     let known = fault_unless(Head::is_kind(kind), 3);
     let few = fault_unless(count <= Head::MOST, 4);
     let some = fault_unless(!Head::is_empty_open(kind, count), 5);
-    let there = fault_unless(are_there(have, offset, count), 2);
+    let there = fault_unless(fits_behind(have, offset, count), 2);
     first_of(known, first_of(few, first_of(some, there)))
 }
 

@@ -9,8 +9,6 @@ use crate::VectorRead;
 use common::Vec2;
 ghost use mathlib.Core.Path.{_≡_};
 ghost use Prim.Native.Nat.{_+_, _<_};
-ghost use lib.Dec.{leb};
-ghost use lib.ListN.{length};
 ghost use Rattle.fields.specs.Got.{word};
 ghost use Rattle.scene_records.specs.Steps.{from, told, held, ruleOf, number, vector, version, count, countAs, ended};
 
@@ -19,16 +17,6 @@ pub(crate) fn wide(byte: u8) -> usize
     ensures { λ r. ⌜ (r ≡ byte) × (r < 256) ⌝ }
 {
     byte as usize
-}
-
-// Whether as many bytes as `count` are left from `at` on.
-fn has(bytes: &[u8], at: usize, count: usize) -> bool
-    ensures { λ r. ⌜ r ≡ leb (at + count) (length (now (bytes .entry))) ⌝ }
-{
-    if at > bytes.len() {
-        return false;
-    }
-    count <= bytes.len() - at
 }
 
 // The cursor, if the rule passes; else the fault. An earlier fault stays.
@@ -118,7 +106,7 @@ pub(crate) fn number_at(bytes: &[u8], cursor: Cursor, rule: Rule) -> NumberRead
             next: cursor,
         };
     };
-    if has(bytes, at, 4) {
+    if admission::fits_behind(bytes.len(), at, 4) {
         let value = words::number(words::word_at(bytes, at));
         return NumberRead {
             value,

@@ -9,7 +9,7 @@ use Rattle.lines.specs.declared.Line.{Line}
 use Rattle.lines.specs.Lines.{linesOf}
 use Rattle.lines.specs.LineFaults.{linesFault}
 use Rattle.linear_programming.specs.Whole.{Outcome, stands, refusal}
-use Rattle.admission.specs.Faults.{Fault, fine, fault, must, _⊳_, judgedAs}
+use Rattle.admission.specs.Faults.{Fault, fine, fault, must, _⊳_, fitsBehind, judgedAs}
 use Rattle.linear_programming.specs.Admit.{_⟫_, mostLines, fours}
 use Rattle.linear_programming.specs.Resume.{resumed}
 use Rattle.linear_programming.specs.Read.{phaseOf, phaseAs, failedOf, failedAs}
@@ -19,7 +19,7 @@ use Rattle.session.specs.Sessions.{linesIn}
 
 -- "any other value gets 4 if its count is over 256"; then "four numbers a line, else 2; 4; lines in order (6, 7)"
 unfoldable pub batchFault : ℕ → List Float → Fault
-batchFault count xs = must (leb count mostLines) 4 ⊳ fours xs ⊳ must (leb (count + length (linesOf xs)) mostLines) 4 ⊳ linesFault (linesOf xs)
+batchFault count xs = must (leb count mostLines) 4 ⊳ fours xs ⊳ must (fitsBehind mostLines count (length (linesOf xs))) 4 ⊳ linesFault (linesOf xs)
 
 -- the lines behind those that stand, as the solve leaves them; or the session as it was. Probes are added modulo 2 ^ 32: only a session that was not
 -- handed out can come there

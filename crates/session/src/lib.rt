@@ -70,7 +70,7 @@ fn judge_batch(count: usize, numbers: &[f32]) -> Judged
     if numbers.len() % 4 != 0 {
         return Judged::Fault(2);
     }
-    if numbers.len() / 4 > Line::MOST - count {
+    if !admission::fits_behind(Line::MOST, count, numbers.len() / 4) {
         return Judged::Fault(4);
     }
     lines::judge_lines(numbers)

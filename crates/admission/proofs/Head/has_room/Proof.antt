@@ -2,7 +2,6 @@
 use borrow.Author.Tests.{lt-leb, le-leb}
 use borrow.Author.Needs.{needs}
 use Rattle.admission.specs.Heads.{roomFor}
-use Rattle.admission.proofs.HeadLaws.{room-left}
 use Rattle.admission.proofs.Head.has_room.Statement.{statement}
 use Rattle.admission.proofs.Head.has_room.Tie as tie
 
@@ -12,8 +11,8 @@ returns c = simp (lt-leb _ _ (c .if1 .taken))
 
 returns-2 : tie.Need-returns-2
 unfolding roomFor
-returns-2 c = rw (le-leb _ _ (c .if1 .left)) (room-left _ _ (c .if1 .left))
+returns-2 c = rw (le-leb _ _ (c .before .if1 .left)) (c .fits-behind .ensures)
 
 pub has-room-spec : {M : Type 1} → statement M
 has-room-spec =
-    tie.close (tie.spec returns (λ c. search needs) returns-2)
+    tie.close (tie.spec returns (λ c κs. search needs) returns-2)

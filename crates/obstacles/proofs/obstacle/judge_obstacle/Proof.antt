@@ -6,7 +6,7 @@ use Rattle.obstacles.proofs.obstacle.judge_obstacle.Tie as tie
 
 returns : tie.Need-returns
 unfolding obstacleFault
-returns c = simp (← c .first-of3 .ensures, ← c .before .first-of2 .ensures, ← c .before .before .first-of .ensures, ← c .before .before .before .fault-unless4 .ensures, ← c .before .before .before .before .are-there .ensures, ← c .before .before .before .before .before .fault-unless3 .ensures, ← c .before .before .before .before .before .before .is-empty-open .ensures, ← c .before .before .before .before .before .before .before .fault-unless2 .ensures, ← c .before .before .before .before .before .before .before .before .fault-unless .ensures, ← c .before .before .before .before .before .before .before .before .before .is-kind .ensures)
+returns c = simp (← c .first-of3 .ensures, ← c .before .first-of2 .ensures, ← c .before .before .first-of .ensures, ← c .before .before .before .fault-unless4 .ensures, ← c .before .before .before .before .fits-behind .ensures, ← c .before .before .before .before .before .fault-unless3 .ensures, ← c .before .before .before .before .before .before .is-empty-open .ensures, ← c .before .before .before .before .before .before .before .fault-unless2 .ensures, ← c .before .before .before .before .before .before .before .before .fault-unless .ensures, ← c .before .before .before .before .before .before .before .before .before .is-kind .ensures)
 
 pub judge-obstacle-spec : {M : Type 1} → statement M
 judge-obstacle-spec =
