@@ -7,6 +7,7 @@ pub mod Patterns
 pub mod RootBits
 pub mod Rounded
 pub mod Steps
+pub mod Rows
 pub mod Roots
 pub mod RootLaw
 pub mod Choice

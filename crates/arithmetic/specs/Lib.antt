@@ -3,3 +3,4 @@ pub mod Binary32
 pub mod Ends
 pub mod Root
 pub mod Whole
+pub mod Guesses
