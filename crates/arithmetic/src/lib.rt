@@ -27,14 +27,16 @@ pub fn sqrt(x: f32) -> f32
 }
 
 // x without its sign, a zero's and an infinity's too. A NaN stays one.
+// -x is taken before any test, and a zero is tested first: so compiled code clears the sign, and no jump hangs on what no processor can guess.
 pub fn abs(x: f32) -> f32
     ensures { λ r. ⌜ r ≡ absOf x ⌝ }
 {
-    if x < 0.0 {
-        return -x;
-    }
+    let turned = -x;
     if x == 0.0 {
         return 0.0;
+    }
+    if x < 0.0 {
+        return turned;
     }
     x
 }
