@@ -8,11 +8,11 @@ pub enum Judged {
     Fault(u8),
 }
 
-// Whether a number's magnitude is at most the bound. A NaN's is not.
+// Whether a number's magnitude is at most the bound. A NaN's is not. It is asked of both ends, which takes no magnitude.
 pub fn is_within(bound: f32, x: f32) -> bool
     ensures { λ r. ⌜ r ≡ within bound x ⌝ }
 {
-    arithmetic::abs(x) <= bound
+    is_inside(-bound, bound, x)
 }
 
 // Whether a number lies between two ends, which are admitted. A NaN does not.

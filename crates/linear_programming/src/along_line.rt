@@ -57,7 +57,7 @@ fn narrow_by(line: Line, left: f32, right: f32, looked: u32, constraint: Line) -
 {
     let direction_determinant = common::determinant(line.direction, constraint.direction);
     let numerator = common::determinant(constraint.direction, line.point.sub(constraint.point));
-    if arithmetic::abs(direction_determinant) <= Line::EPSILON {
+    if admission::is_within(Line::EPSILON, direction_determinant) {
         return unless_fails(numerator < 0.0, left, right, looked);
     }
     cut_at(

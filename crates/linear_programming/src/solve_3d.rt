@@ -51,7 +51,7 @@ fn tighten(constraint: Line, previous: Line) -> Tightened
     ensures { λ r. ⌜ tightOf r ≡ tightenedBy constraint previous ⌝ }
 {
     let intersection_determinant = common::determinant(constraint.direction, previous.direction);
-    if arithmetic::abs(intersection_determinant) <= Line::EPSILON {
+    if admission::is_within(Line::EPSILON, intersection_determinant) {
         if constraint.direction.dot(previous.direction) > 0.0 {
             return Tightened::Skipped;
         }
