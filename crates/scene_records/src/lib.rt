@@ -7,8 +7,8 @@ use obstacles::Agent;
 ghost use mathlib.Core.Path.{_≡_};
 ghost use Rattle.fields.specs.Got.{refused as refusedWith};
 ghost use Rattle.scene_records.specs.Steps.{from, told};
-ghost use Rattle.scene_records.specs.Parts.{cartOf, walls as wallsOf};
-ghost use Rattle.scene_records.specs.Records.{announced, fieldsIn, sceneIn, sceneWith, readAs};
+ghost use Rattle.scene_records.specs.Parts.{cartOf};
+ghost use Rattle.scene_records.specs.Records.{announced, fieldsIn, sceneIn, readAs};
 
 mod cart_fields;
 mod neighbours;
@@ -110,20 +110,6 @@ pub(crate) struct HeadRead {
     pub(crate) next: Cursor,
 }
 
-// The obstacles' kinds, vertex counts and vertices, zeros behind them.
-pub(crate) struct WallsRead {
-    pub(crate) kinds: [u8; 16],
-    pub(crate) counts: [u8; 16],
-    pub(crate) vertices: [f32; 384],
-    pub(crate) next: Cursor,
-}
-
-// The neighbours' lines, four numbers each, zeros behind them.
-pub(crate) struct LinesRead {
-    pub(crate) lines: [f32; 256],
-    pub(crate) next: Cursor,
-}
-
 // Reads the one scene record that the bytes are. Refused, in this order: fewer than two bytes (2), a length over 2,631 (4), a length that is not that of
 // the rest (2); then the fields from left to right, each first for missing bytes (2) and then by its rule: another version than 1 (1), a number not finite
 // or out of range (6), too many obstacles (4), an obstacle's kind (3), too many vertices, its own or with those before it (4), an open obstacle with none
@@ -160,49 +146,42 @@ fn fields_at(bytes: &[u8], cursor: Cursor) -> SceneRead
     let next = cart.next;
     let obstacles = steps::count_at(bytes, next, Scene::MOST_OBSTACLES);
     let next = obstacles.next;
-    let walls = walls::walls_at(bytes, next, obstacles.value);
-    let next = walls.next;
+    let mut kinds = walls::blank_bytes();
+    let mut counts = walls::blank_bytes();
+    let mut vertices = walls::blank_vertices();
+    let next = walls::obstacles_at(
+        bytes,
+        next,
+        obstacles.value,
+        &mut kinds,
+        &mut counts,
+        &mut vertices,
+    );
     let neighbours = steps::count_at(bytes, next, Scene::MOST_NEIGHBOURS);
     let next = neighbours.next;
-    let lines = neighbours::lines_at(bytes, next, neighbours.value);
-    let next = lines.next;
+    let mut lines = neighbours::blank_lines();
+    let next = neighbours::store_lines(bytes, next, neighbours.value, &mut lines);
     if let Cursor::Fault(number) = steps::end_at(bytes, next) {
         return refused(number);
     }
-    SceneRead {
-        judged: Judged::Fine,
-        scene: scene_of(cart.value, obstacles.value, walls, neighbours.value, lines),
-    }
-}
-
-// The scene of what was read.
-fn scene_of(
-    cart: Cart,
-    obstacles: usize,
-    walls: WallsRead,
-    neighbours: usize,
-    lines: LinesRead,
-) -> Scene
-    ensures { λ r. ⌜ r ≡ sceneWith cart obstacles (wallsOf (walls .kinds) (walls .counts) (walls .vertices)) neighbours (lines .lines) ⌝ }
-{
+    let cart = cart.value;
     let agent = cart.agent;
     let wish = cart.wish;
-    let kinds = walls.kinds;
-    let counts = walls.counts;
-    let vertices = walls.vertices;
-    let lines = lines.lines;
-    Scene {
-        agent,
-        margin: cart.margin,
-        horizon: cart.horizon,
-        wish,
-        limit: cart.limit,
-        obstacles,
-        kinds,
-        counts,
-        vertices,
-        neighbours,
-        lines,
+    SceneRead {
+        judged: Judged::Fine,
+        scene: Scene {
+            agent,
+            margin: cart.margin,
+            horizon: cart.horizon,
+            wish,
+            limit: cart.limit,
+            obstacles: obstacles.value,
+            kinds,
+            counts,
+            vertices,
+            neighbours: neighbours.value,
+            lines,
+        },
     }
 }
 

@@ -1,7 +1,6 @@
 // The neighbours' lines, as point and direction.
 use crate::Cursor;
 use crate::LineRead;
-use crate::LinesRead;
 use crate::Rule;
 use crate::steps;
 use lines::Line;
@@ -30,7 +29,7 @@ fn line_at(bytes: &[u8], cursor: Cursor) -> LineRead
 }
 
 // Stores as many lines as `count`.
-fn store_lines(bytes: &[u8], cursor: Cursor, count: usize, lines: &mut [f32]) -> Cursor
+pub(crate) fn store_lines(bytes: &[u8], cursor: Cursor, count: usize, lines: &mut [f32]) -> Cursor
     requires { ⌜ 4 * count ≤ length (now lines) ⌝ }
     ensures { λ r. ⌜ told r (now (lines .exit)) ≡ stored fourOf (now (lines .entry)) 0 (from cursor (neighbours (now (bytes .entry)) count)) ⌝ }
 {
@@ -49,14 +48,4 @@ pub(crate) fn blank_lines() -> [f32; 256]
     ensures { λ r. ⌜ r ≡ blankNumbers ⌝ }
 {
     [0.0f32; 256]
-}
-
-// The neighbours' lines of a scene, `count` of them.
-pub(crate) fn lines_at(bytes: &[u8], cursor: Cursor, count: usize) -> LinesRead
-    requires { ⌜ count ≤ 64 ⌝ }
-    ensures { λ r. ⌜ told (r .next) (r .lines) ≡ stored fourOf blankNumbers 0 (from cursor (neighbours (now (bytes .entry)) count)) ⌝ }
-{
-    let mut lines = blank_lines();
-    let next = store_lines(bytes, cursor, count, &mut lines);
-    LinesRead { lines, next }
 }

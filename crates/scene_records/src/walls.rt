@@ -2,7 +2,6 @@
 use crate::Cursor;
 use crate::HeadRead;
 use crate::Rule;
-use crate::WallsRead;
 use crate::steps;
 use admission::Head;
 use common::Vec2;
@@ -72,7 +71,7 @@ fn vertices_at(
 }
 
 // Stores as many obstacles as `count`, one behind the other.
-fn obstacles_at(
+pub(crate) fn obstacles_at(
     bytes: &[u8],
     cursor: Cursor,
     count: usize,
@@ -109,21 +108,4 @@ pub(crate) fn blank_vertices() -> [f32; 384]
     ensures { λ r. ⌜ r ≡ blankVertices ⌝ }
 {
     [0.0f32; 384]
-}
-
-// The obstacles of a scene, `count` of them.
-pub(crate) fn walls_at(bytes: &[u8], cursor: Cursor, count: usize) -> WallsRead
-    requires { ⌜ count ≤ 16 ⌝ }
-    ensures { λ r. ⌜ told (r .next) (walls (r .kinds) (r .counts) (r .vertices)) ≡ storedWalls (walls blankBytes blankBytes blankVertices) 0 0 (from cursor (obstacles (now (bytes .entry)) count 0)) ⌝ }
-{
-    let mut kinds = blank_bytes();
-    let mut counts = blank_bytes();
-    let mut vertices = blank_vertices();
-    let next = obstacles_at(bytes, cursor, count, &mut kinds, &mut counts, &mut vertices);
-    WallsRead {
-        kinds,
-        counts,
-        vertices,
-        next,
-    }
 }
