@@ -4,6 +4,10 @@ use mathlib.Core.Bool.{Bool, true, false, cond, _&&_}
 use lib.Dec.{eqb, ltb}
 use Rattle.verdict.specs.declared.Tally.{Tally}
 
+-- of no vectors
+abbrev pub noVectors : Tally
+noVectors = record { good = 0; bad = 0; first = 0 }
+
 -- one more than n, or n at the last u64
 unfoldable pub moreOf : ℕ → ℕ
 moreOf n = min (n + 1) 0xffff_ffff_ffff_ffff

@@ -1,7 +1,6 @@
 // How many vectors of a set were good, and the line that tells it.
 use libc::STDOUT_FILENO;
 ghost use mathlib.Core.Path.{_≡_};
-ghost use mathlib.Core.Bool.{false};
 ghost use Rattle.verdict.specs.Tallies.{moreOf, firstOf, withOf, isGood};
 
 // How many vectors were good and how many bad, and the name of the first bad one, which says nothing while none is bad.
@@ -60,15 +59,6 @@ impl Tally {
         io::write_all(STDOUT_FILENO, b"\n");
         good
     }
-}
-
-// Writes the line `SET: bad, no file` to standard output, and answers that the set is not good.
-pub fn tell_no_file(set: &[u8]) -> bool
-    ensures { λ r. ⌜ r ≡ false ⌝ }
-{
-    io::write_all(STDOUT_FILENO, set);
-    io::write_all(STDOUT_FILENO, b": bad, no file\n");
-    false
 }
 
 // What follows the set's name in the line of a tally that is not good.

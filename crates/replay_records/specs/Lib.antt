@@ -1,0 +1,3 @@
+-- The definitions that the contracts of `replay_records` cite.
+pub mod Answers
+pub mod Records

@@ -1,0 +1,34 @@
+-- How lines stand against the answer at a place, by the definitions of the crate `linear_programming`. Definitions only. Assumes nothing.
+use Prim.Native.Nat.{ℕ, _+_}
+use mathlib.Core.Bool.{Bool, _&&_}
+use mathlib.Core.List.{List}
+use lib.Dec.{eqb}
+use lib.Ieee.{Float, binary32, ofBits}
+use Rattle.words.specs.Words.{wordOf}
+use Rattle.common.specs.declared.Vec2.{Vec2}
+use Rattle.linear_programming.specs.Whole.{Phase, solving, relaxing, rigidFailure, Failed, noLine, failedLine}
+use Rattle.replay_records.specs.Answers.{agreesWith}
+
+abbrev pub nought : Float
+nought = ofBits binary32 0
+
+-- whether the failed line is the one at a place
+unfoldable pub isFailed : List ℕ → ℕ → Failed → Bool
+isFailed s at noLine = eqb (wordOf s at) 0xffff_ffff
+isFailed s at (failedLine f) = eqb (wordOf s at) (f .index)
+
+-- whether kind, point, penetration, failed line and probes are those of the answer at a place
+unfoldable pub isTold : List ℕ → ℕ → ℕ → Vec2 → Float → Failed → ℕ → Bool
+isTold s at kind p penetration f n =
+    eqb (wordOf s at) kind
+    && agreesWith (p .x) (wordOf s (at + 4))
+    && agreesWith (p .y) (wordOf s (at + 8))
+    && agreesWith penetration (wordOf s (at + 12))
+    && isFailed s (at + 16) f
+    && eqb (wordOf s (at + 20)) n
+
+-- whether phase, failed line and probes are; a rigid failure's own index is the failed line, too
+unfoldable pub isStanding : List ℕ → ℕ → Phase → Failed → ℕ → Bool
+isStanding s at (solving p) f n = isTold s at 0 p nought f n
+isStanding s at (relaxing p penetration) f n = isTold s at 1 p penetration f n
+isStanding s at (rigidFailure k p) f n = isTold s at 2 p nought f n && eqb (wordOf s (at + 16)) k
