@@ -29,8 +29,8 @@ use Rattle.dodgy_2d.proofs.SceneTold.{Told, answered, at-fault, by-edge, scene-
 use Rattle.fields.specs.Got.{Got, refused, got, then, guard, word, many}
 use Rattle.scene_records.specs.Steps.{version, count, number, vector, ended}
 use Rattle.scene_records.specs.Parts.{cart, head, verticesAt, obstacle, obstacles, neighbour, neighbours}
-use Rattle.scene_records.specs.Records.{longestRest, announced, fieldsIn, sceneIn}
-use Rattle.scene_records.proofs.ReadAdmitted.{read-admitted}
+use Rattle.scene_records.specs.Records.{longestRest, announced, fieldsIn, sceneInVersion1}
+use Rattle.scene_records.proofs.ReadAdmitted.{read-admitted-version-1}
 use Rattle.answer_records.specs.declared.Reply.the-variants as reply
 use Rattle.answer_records.specs.Replies.{answerIn}
 use Rattle.answer_records.proofs.RoundTrips.{refusal-read-back}
@@ -117,8 +117,8 @@ module _ (s : List ℕ) where
       then-numbered _ _ (vector-numbered _ d) λ w e.
       then-numbered _ _ (number-numbered _ e) λ l f. read
 
-  scene-numbered : NumberedReading (sceneIn s)
-  unfolding sceneIn announced fieldsIn version ended
+  scene-numbered : NumberedReading (sceneInVersion1 s)
+  unfolding sceneInVersion1 announced fieldsIn version ended
   scene-numbered =
       then-numbered (announced s) _
       (then-numbered (word 2 s 0) _ (word-numbered 2 0) λ n a. guard-numbered (leb n longestRest) 4 _ refl (guard-numbered (eqb n (length s - 2)) 2 _ refl read))
@@ -201,15 +201,15 @@ solve-numbered c f (outcome code p l n) (answered h) r e = absurd (let z : _≡_
 solve-numbered c f (refusedScene m) (at-fault g) r e = absurd (no-fault m (sym f ∙ g))
 solve-numbered c f (refusedScene m) (by-edge v g h) r e = rw (← same-number m r e) (lines-numbered (rw h at (scene-lines c v)))
 
-reading-numbered : (s : List ℕ) (g : Got Scene) → sceneIn s ≡ g → NumberedReading g → (r : ℕ) → one.ofReading g ≡ one.refusal r → Numbered r
+reading-numbered : (s : List ℕ) (g : Got Scene) → sceneInVersion1 s ≡ g → NumberedReading g → (r : ℕ) → one.ofReading g ≡ one.refusal r → Numbered r
 reading-numbered s (refused m) z h r e = rw (← same-number m r e) (refused-numbered h)
-reading-numbered s (got c m) z h r e = solve-numbered c (read-admitted s c m z) (sceneOutcome c) (scene-told c) r e
+reading-numbered s (got c m) z h r e = solve-numbered c (read-admitted-version-1 s c m z) (sceneOutcome c) (scene-told c) r e
 
 -- A record's refusal has a number from 1 to 10 ..
 pub refusal-numbered : (s : List ℕ) (r : ℕ) → one.answered s ≡ one.refusal r → (1 ≤ r) × (r ≤ 10)
 unfolding one.answered
 refusal-numbered s r e =
-    let h = reading-numbered s (sceneIn s) refl (scene-numbered s) r e in
+    let h = reading-numbered s (sceneInVersion1 s) refl (scene-numbered s) r e in
     (leb-true 1 r (and-left (leb 1 r) (leb r 10) h), leb-true r 10 (and-right (leb 1 r) (leb r 10) h))
 
 -- .. and the answer reader takes the reply.

@@ -12,8 +12,8 @@ use Rattle.dodgy_2d.specs.Outcomes.{sceneOutcome}
 use Rattle.fields.specs.Bytes.{bigEndian}
 use Rattle.fields.specs.Got.{Got, refused, got}
 use Rattle.fields.proofs.Spans.{word-fits}
-use Rattle.scene_records.specs.Records.{sceneIn}
-use Rattle.scene_records.proofs.Taken.{number-taken, vector-taken, cart-taken, fields-taken, scene-taken}
+use Rattle.scene_records.specs.Records.{sceneInVersion1}
+use Rattle.scene_records.proofs.Taken.{number-taken, vector-taken, cart-taken, fields-taken, scene-taken-version-1}
 use Rattle.answer_records.specs.Answers.{longestAnswer, refusalBytes}
 use Rattle.records.specs.Answered.{ofOutcome, ofReading, answered, replyBytes, replyTo}
 use Rattle.records.specs.Parts.{Part, skipped, overlong, whole, cutShort, partIn}
@@ -25,9 +25,9 @@ use Rattle.records.proofs.StepLaws.{reply-bytes}
 -- ---- a record that is read has many bytes
 
 -- the length, the version and the position alone
-accepted-long : (s : List ℕ) (c : Scene) (m : ℕ) → sceneIn s ≡ got c m → 9 ≤ length s
+accepted-long : (s : List ℕ) (c : Scene) (m : ℕ) → sceneInVersion1 s ≡ got c m → 9 ≤ length s
 accepted-long s c m e =
-    scene-taken s c m e λ n named near match fields.
+    scene-taken-version-1 s c m e λ n named near match fields.
     fields-taken s 2 c m fields λ a b d f g x os ls version cart _ _ _ _ _ _ _ _.
     cart-taken s a x b cart λ a′ _ _ _ _ p _ _ _ _ _ position _ _ _ _ _ _.
     vector-taken s _ a p a′ position λ k first second.
@@ -37,14 +37,14 @@ accepted-long s c m e =
 
 -- ---- an answer has at most two bytes for each of its record
 
-reading-sparing : (b : List ℕ) (g : Got Scene) → sceneIn b ≡ g → 2 ≤ length b → length (replyBytes (ofReading g)) ≤ 2 * length b
+reading-sparing : (b : List ℕ) (g : Got Scene) → sceneInVersion1 b ≡ g → 2 ≤ length b → length (replyBytes (ofReading g)) ≤ 2 * length b
 unfolding refusalBytes bigEndian
 reading-sparing b (refused r) e h = omega arith
 reading-sparing b (got c m) e h = omega (arith, accepted-long b c m e, reply-bytes (ofOutcome (sceneOutcome c)))
 
 reply-sparing : (b : List ℕ) → 2 ≤ length b → length (replyTo b) ≤ 2 * length b
 unfolding replyTo answered
-reply-sparing b h = reading-sparing b (sceneIn b) refl h
+reply-sparing b h = reading-sparing b (sceneInVersion1 b) refl h
 
 -- ---- room enough
 

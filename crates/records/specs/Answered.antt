@@ -11,7 +11,7 @@ use Rattle.linear_programming.specs.Whole.{Failed, noLine, failedLine}
 use Rattle.dodgy_2d.specs.declared.Scene.{Scene}
 use Rattle.dodgy_2d.specs.Outcomes.{SceneOutcome, outcome, refusedScene, sceneOutcome}
 use Rattle.fields.specs.Got.{Got, refused, got}
-use Rattle.scene_records.specs.Records.{sceneIn}
+use Rattle.scene_records.specs.Records.{sceneInVersion1}
 use Rattle.answer_records.specs.declared.Answer.{Answer}
 use Rattle.answer_records.specs.Answers.{longestAnswer, answerBytes, refusalBytes, Written, written, laid}
 
@@ -42,7 +42,7 @@ ofReading (got s at) = ofOutcome (sceneOutcome s)
 
 -- the record is read, then the scene solved
 unfoldable pub answered : List ℕ → Answered
-answered bytes = ofReading (sceneIn bytes)
+answered bytes = ofReading (sceneInVersion1 bytes)
 
 -- the outcome's record at the buffer's start; a refusal leaves the buffer alone
 abbrev pub laidAnswer : Answered → List ℕ → Written

@@ -43,7 +43,7 @@ pub fn answer_record(bytes: &[u8], buffer: &mut [u8]) -> Judged
     if buffer.len() < Answer::BYTES {
         return Judged::Fault(10);
     }
-    let read = scene_records::read_scene(bytes);
+    let read = scene_records::read_scene_version_1(bytes);
     let judged = read.judged;
     if let Judged::Fault(number) = judged {
         return Judged::Fault(number);

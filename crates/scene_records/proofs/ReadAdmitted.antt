@@ -20,8 +20,8 @@ use Rattle.fields.proofs.ChainLaws.{then-got, cons-got, got-same}
 use Rattle.scene_records.specs.declared.Cart.{Cart}
 use Rattle.scene_records.specs.Steps.{number, vector}
 use Rattle.scene_records.specs.Parts.{cart, coordinates, verticesAt, Obstacle, sizeOf, kindOf, numbersIn, obstacle, obstacles, neighbour, neighbours}
-use Rattle.scene_records.specs.Records.{sceneOf, sceneIn}
-use Rattle.scene_records.proofs.Taken.{number-taken, vector-taken, cart-taken, obstacle-taken, line-taken, fields-taken, scene-taken}
+use Rattle.scene_records.specs.Records.{sceneOf, sceneInVersion1}
+use Rattle.scene_records.proofs.Taken.{number-taken, vector-taken, cart-taken, obstacle-taken, line-taken, fields-taken, scene-taken-version-1}
 use Rattle.scene_records.proofs.SceneParts.{own-vertices, later-vertices, vertices-front, heads-back, neighbours-back}
 use Rattle.scene_records.proofs.ReadBytes.{obstacles-total}
 
@@ -78,10 +78,10 @@ module _ (s : List ℕ) where
       cons-got l (neighbours s n a) r λ rest q u.
       rw (u, line-fine at l a p) (lines-fine n a rest m q)
 
-  pub read-admitted : (c : Scene) (m : ℕ) → sceneIn s ≡ got c m → sceneFault c ≡ fine
+  pub read-admitted-version-1 : (c : Scene) (m : ℕ) → sceneInVersion1 s ≡ got c m → sceneFault c ≡ fine
   unfolding sceneFault
-  read-admitted c m z =
-      scene-taken s c m z λ n read-n few-n right z'.
+  read-admitted-version-1 c m z =
+      scene-taken-version-1 s c m z λ n read-n few-n right z'.
       fields-taken s 2 c m z' λ a b d e f x os ls read-version read-cart read-os few-os list-os read-ls few-ls list-ls end same.
       let fits : length (each numbersIn os) ≤ 384 = (let most = obstacles-total s (length os) 0 d os e (omega arith) list-os in omega arith) in
       rw (

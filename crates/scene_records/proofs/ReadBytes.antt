@@ -25,9 +25,9 @@ use Rattle.fields.proofs.Spans.{Span, join, word-span, many-span}
 use Rattle.scene_records.specs.declared.Cart.{Cart}
 use Rattle.scene_records.specs.Steps.{number, vector}
 use Rattle.scene_records.specs.Parts.{cart, verticesAt, Obstacle, sizeOf, numbersIn, obstacle, obstacles, neighbour, neighbours}
-use Rattle.scene_records.specs.Records.{sceneIn}
+use Rattle.scene_records.specs.Records.{sceneInVersion1}
 use Rattle.scene_records.specs.SceneBytes.{numberBytes, vectorBytes, cartBytes, obstacleBytes, lineBytes, bodyBytes, recordBytes, sceneBytes}
-use Rattle.scene_records.proofs.Taken.{number-taken, vector-taken, cart-taken, obstacle-taken, line-taken, fields-taken, scene-taken}
+use Rattle.scene_records.proofs.Taken.{number-taken, vector-taken, cart-taken, obstacle-taken, line-taken, fields-taken, scene-taken-version-1}
 use Rattle.scene_records.proofs.WallLaws.{length-coordinates}
 use Rattle.scene_records.proofs.SceneParts.{obstacles-back, neighbours-back}
 
@@ -108,10 +108,10 @@ module _ (s : List ℕ) (h : AllBytes s) where
   unfolding lineBytes
   line-span at l m e = line-taken s at l m e λ a read-p read-d band. join (vector-span (within lineReach) (within-nan lineReach) at (l .point) a read-p) (vector-span finite finite-nan a (l .direction) m read-d)
 
-  pub accepted-is-bytes : (c : Scene) (m : ℕ) → sceneIn s ≡ got c m → s ≡ sceneBytes c
+  pub accepted-is-bytes-version-1 : (c : Scene) (m : ℕ) → sceneInVersion1 s ≡ got c m → s ≡ sceneBytes c
   unfolding recordBytes bodyBytes obstacles neighbours
-  accepted-is-bytes c m z =
-      scene-taken s c m z λ n read-n few-n right z'.
+  accepted-is-bytes-version-1 c m z =
+      scene-taken-version-1 s c m z λ n read-n few-n right z'.
       fields-taken s 2 c m z' λ a b d e f x os ls read-version read-cart read-os few-os list-os read-ls few-ls list-ls end same.
       let start : Span s 2 (bigEndian 1 1 ++ cartBytes x) b = join (word-span s h 1 2 1 a read-version .1) (cart-span a x b read-cart) in
       let walls : Span s 2 _ e = join (join start (word-span s h 1 b (length os) d read-os .1)) (many-span s (obstacle s) (λ t o. t + sizeOf o) obstacleBytes obstacle-span (length os) 0 d os e list-os) in

@@ -20,7 +20,7 @@ use Rattle.scene_records.specs.declared.Cart.{Cart}
 use Rattle.scene_records.specs.declared.CountRead.{CountRead}
 use Rattle.scene_records.specs.Steps.{from, told, version, count, countAs, ended}
 use Rattle.scene_records.specs.Parts.{cart, Obstacle, obstacles, neighbours, stored, Walls, wallsWith, storedWalls}
-use Rattle.scene_records.specs.Records.{noWalls, sceneWith, fieldsIn, longestRest, announced, sceneIn, readAs}
+use Rattle.scene_records.specs.Records.{noWalls, sceneWith, fieldsIn, longestRest, announced, sceneInVersion1, readAs}
 use Rattle.scene_records.proofs.Taken.{count-taken}
 use Rattle.scene_records.proofs.Cursors.{then-told, then-from, linked, told-from}
 
@@ -47,9 +47,9 @@ module _ (s : List ℕ) where
     unfolding announced told
     length-right h k = rw (← field, le-leb _ _ h, eq-eqb _ _ k)
 
-  pub scene-read : (c : Cursor) → told c (tt {0}) ≡ announced s → readAs (from c (fieldsIn s)) ≡ readAs (sceneIn s)
-  unfolding sceneIn
-  scene-read c e = ap readAs (sym (then-told c (tt {0}) (λ u. fieldsIn s)) ∙ ap (λ (g : Got (Unit {0})). then g (λ u. fieldsIn s)) e)
+  pub scene-read-version-1 : (c : Cursor) → told c (tt {0}) ≡ announced s → readAs (from c (fieldsIn s)) ≡ readAs (sceneInVersion1 s)
+  unfolding sceneInVersion1
+  scene-read-version-1 c e = ap readAs (sym (then-told c (tt {0}) (λ u. fieldsIn s)) ∙ ap (λ (g : Got (Unit {0})). then g (λ u. fieldsIn s)) e)
 
 -- ---- counts, as the code hands them over
 

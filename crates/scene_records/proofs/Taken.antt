@@ -24,7 +24,7 @@ use Rattle.fields.proofs.Spans.{word-fits}
 use Rattle.scene_records.specs.declared.Cart.{Cart}
 use Rattle.scene_records.specs.Steps.{number, vector, version, count, ended}
 use Rattle.scene_records.specs.Parts.{cartOf, cart, head, verticesAt, Obstacle, obstacle, obstacles, neighbour, neighbours}
-use Rattle.scene_records.specs.Records.{sceneOf, fieldsIn, longestRest, announced, sceneIn}
+use Rattle.scene_records.specs.Records.{sceneOf, fieldsIn, longestRest, announced, sceneInVersion1}
 
 module _ {C : Type 0} (s : List ℕ) where
   pub number-taken : (passes : Float → Bool) (at : ℕ) (x : Float) (m : ℕ) → number passes s at ≡ got x m
@@ -128,9 +128,9 @@ module _ {C : Type 0} (s : List ℕ) where
       next a b d e f x os ls (read-v ∙ rw (version-one, got-same last-v .1)) read-cart (rw size at word-n) (rw size at few) (rw size at read-os)
       (rw count at word-k) (rw count at fewer) (rw (count, place) at read-ls) (sym place ∙ eqb-true g (length s) is-end) (sym (got-same last .0) ∙ rw (size, count))
 
-  pub scene-taken : (c : Scene) (m : ℕ) → sceneIn s ≡ got c m → ((n : ℕ) → word 2 s 0 ≡ got n 2 → n ≤ longestRest → n ≡ length s - 2 → fieldsIn s 2 ≡ got c m → C) → C
-  unfolding sceneIn announced
-  scene-taken c m e next =
+  pub scene-taken-version-1 : (c : Scene) (m : ℕ) → sceneInVersion1 s ≡ got c m → ((n : ℕ) → word 2 s 0 ≡ got n 2 → n ≤ longestRest → n ≡ length s - 2 → fieldsIn s 2 ≡ got c m → C) → C
+  unfolding sceneInVersion1 announced
+  scene-taken-version-1 c m e next =
       then-got (announced s) _ e λ u a p r.
       then-got (word 2 s 0) _ p λ n b read-n t.
       guard-got (leb n longestRest) 4 _ t λ few w.

@@ -29,7 +29,7 @@ use Rattle.fields.proofs.Backs.{Back, taking, word-back, Every, many-back}
 use Rattle.scene_records.specs.declared.Cart.{Cart}
 use Rattle.scene_records.specs.Steps.{number, vector, version, count, ended}
 use Rattle.scene_records.specs.Parts.{cart, head, verticesAt, Obstacle, sizeOf, obstacle, obstacles, neighbour, neighbours}
-use Rattle.scene_records.specs.Records.{sceneOf, fieldsIn, longestRest, announced, sceneIn}
+use Rattle.scene_records.specs.Records.{sceneOf, fieldsIn, longestRest, announced, sceneInVersion1}
 use Rattle.scene_records.specs.SceneBytes.{numberBytes, vectorBytes, cartBytes, obstacleBytes, lineBytes, bodyBytes, recordBytes}
 
 -- ---- what is admitted
@@ -182,9 +182,9 @@ module _ (x : Cart) (os : List Obstacle) (ls : List Line) (ok : GoodParts x os l
       let r = length-obstacles 0 os (omega arith) (ok .obstacles) in
       simp (length-append, length-big-endian, length-cart, length-each lineBytes 16 length-line) (omega (arith, ok .few, ok .fewer))
 
-  pub parts-read : sceneIn (recordBytes x os ls) ≡ got (sceneOf x (length os) os (length ls) ls) (length (recordBytes x os ls))
-  unfolding sceneIn announced recordBytes
-  parts-read =
+  pub parts-read-version-1 : sceneInVersion1 (recordBytes x os ls) ≡ got (sceneOf x (length os) os (length ls) ls) (length (recordBytes x os ls))
+  unfolding sceneInVersion1 announced recordBytes
+  parts-read-version-1 =
       let n : length (bodyBytes x os ls) ≤ longestRest = length-body in
       let s : List ℕ = bigEndian 2 (length (bodyBytes x os ls)) ++ bodyBytes x os ls in
       let e : length (bodyBytes x os ls) ≡ length s - 2 = (let k = length-append (bigEndian 2 (length (bodyBytes x os ls))) (bodyBytes x os ls) in let j = length-big-endian 2 (length (bodyBytes x os ls)) in omega arith) in

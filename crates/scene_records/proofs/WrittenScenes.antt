@@ -28,9 +28,9 @@ use Rattle.dodgy_2d.proofs.HeadsInOrder.{head-passed}
 use Rattle.dodgy_2d.proofs.ScenePasses.{parts}
 use Rattle.fields.specs.Got.{got}
 use Rattle.fields.proofs.Backs.{Every}
-use Rattle.scene_records.specs.Records.{sceneOf, sceneIn}
+use Rattle.scene_records.specs.Records.{sceneOf, sceneInVersion1}
 use Rattle.scene_records.specs.SceneBytes.{cartIn, withVertices, obstaclesIn, sceneBytes}
-use Rattle.scene_records.proofs.WrittenParts.{Good, GoodVector, GoodCart, GoodObstacle, GoodLine, GoodParts, onTotal, parts-read}
+use Rattle.scene_records.proofs.WrittenParts.{Good, GoodVector, GoodCart, GoodObstacle, GoodLine, GoodParts, onTotal, parts-read-version-1}
 
 -- ---- what every value of the code's type has: its numbers are f32, and its arrays have their lengths
 
@@ -170,8 +170,8 @@ module _ (c : Scene) (t : Typed c) where
   abbrev pub tidied : Scene
   tidied = sceneOf (cartIn c) (c .obstacles) (obstaclesIn c) (c .neighbours) (neighboursIn c)
 
-  pub bytes-are-read : sceneFault c ≡ fine → sceneIn (sceneBytes c) ≡ got tidied (length (sceneBytes c))
-  bytes-are-read e =
+  pub bytes-are-read-version-1 : sceneFault c ≡ fine → sceneInVersion1 (sceneBytes c) ≡ got tidied (length (sceneBytes c))
+  bytes-are-read-version-1 e =
       let p = parts c e in
       let os-long = obstacles-long (p .obstacles) in
       let ls-long = neighbours-long (p .neighbours) in
@@ -182,4 +182,4 @@ module _ (c : Scene) (t : Typed c) where
         fewer = rw ls-long (p .neighbours);
         lines = good-lines (neighboursIn c) (all-take (c .neighbours) (fit-lines (c .lines) (t .lineNumbers))) (p .lines);
       } in
-      rw (os-long, ls-long) at (parts-read (cartIn c) (obstaclesIn c) (neighboursIn c) ok)
+      rw (os-long, ls-long) at (parts-read-version-1 (cartIn c) (obstaclesIn c) (neighboursIn c) ok)

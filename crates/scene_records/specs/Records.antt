@@ -71,8 +71,9 @@ longestRest = 2631
 unfoldable pub announced : List ℕ → Got (Unit {0})
 announced s = then (word 2 s 0) λ n a. guard (leb n longestRest) 4 (guard (eqb n (length s - 2)) 2 (got tt a))
 
-unfoldable pub sceneIn : List ℕ → Got Scene
-sceneIn s = then (announced s) λ u a. fieldsIn s a
+-- 01's record, which has version 1
+unfoldable pub sceneInVersion1 : List ℕ → Got Scene
+sceneInVersion1 s = then (announced s) λ u a. fieldsIn s a
 
 -- what the code hands over: the scene; or the fault, with a blank scene beside it
 abbrev pub readAs : Got Scene → SceneRead

@@ -8,7 +8,7 @@ ghost use mathlib.Core.Path.{_≡_};
 ghost use Rattle.fields.specs.Got.{refused as refusedWith};
 ghost use Rattle.scene_records.specs.Steps.{from, told};
 ghost use Rattle.scene_records.specs.Parts.{cartOf};
-ghost use Rattle.scene_records.specs.Records.{announced, fieldsIn, sceneIn, readAs};
+ghost use Rattle.scene_records.specs.Records.{announced, fieldsIn, sceneInVersion1, readAs};
 
 mod cart_fields;
 mod neighbours;
@@ -110,12 +110,13 @@ pub(crate) struct HeadRead {
     pub(crate) next: Cursor,
 }
 
-// Reads the one scene record that the bytes are. Refused, in this order: fewer than two bytes (2), a length over 2,631 (4), a length that is not that of
-// the rest (2); then the fields from left to right, each first for missing bytes (2) and then by its rule: another version than 1 (1), a number not finite
-// or out of range (6), too many obstacles (4), an obstacle's kind (3), too many vertices, its own or with those before it (4), an open obstacle with none
-// (5), too many neighbour lines (4), a line's direction out of its band (7); last, bytes left over (2).
-pub fn read_scene(bytes: &[u8]) -> SceneRead
-    ensures { λ r. ⌜ r ≡ readAs (sceneIn (now (bytes .entry))) ⌝ }
+// Reads the one scene record of version 1 that the bytes are. Refused, in this order: fewer than two bytes (2), a length over 2,631 (4), a
+// length that is not that of the rest (2); then the fields from left to right, each first for missing bytes (2) and then by its rule: another
+// version than 1 (1), a number not finite or out of range (6), too many obstacles (4), an obstacle's kind (3), too many vertices, its own or
+// with those before it (4), an open obstacle with none (5), too many neighbour lines (4), a line's direction out of its band (7); last, bytes
+// left over (2).
+pub fn read_scene_version_1(bytes: &[u8]) -> SceneRead
+    ensures { λ r. ⌜ r ≡ readAs (sceneInVersion1 (now (bytes .entry))) ⌝ }
 {
     fields_at(bytes, length_of(bytes))
 }
