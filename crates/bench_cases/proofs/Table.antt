@@ -17,8 +17,8 @@ use Rattle.lines.specs.LineFaults.{linesFault}
 use Rattle.linear_programming.specs.Whole.{Outcome, stands, refusal, solving, relaxing, rigidFailure, Failed, noLine, failedLine}
 use Rattle.linear_programming.specs.Admit.{longest, wishFault, judgedList, listCall}
 use Rattle.linear_programming.proofs.Computed.{computed as solved, +, −}
-use Rattle.obstacles.specs.declared.Agent.{Agent}
-use Rattle.obstacles.specs.Cutoffs.{halfᶠ}
+use Rattle.edges.specs.declared.Agent.{Agent}
+use Rattle.edges.specs.Cutoffs.{halfᶠ}
 use Rattle.obstacles.specs.Obstacles.{Answer, lines, refused, obstacleCall}
 use Rattle.obstacles.proofs.Computed.{computed}
 

@@ -1,11 +1,11 @@
 // Runs 01's bench cases, P1 to P12 and the limits of its last row, through the code: the cases that proofs/Table.antt claims of the definitions. A case that is wrong is told by its number.
 use admission::Judged;
 use common::Vec2;
+use edges::Agent;
 use linear_programming::Answer;
 use linear_programming::FailedLine;
 use linear_programming::Phase;
 use lines::Line;
-use obstacles::Agent;
 use obstacles::ObstacleLines;
 use verdict::Tally;
 

@@ -11,7 +11,7 @@ use Rattle.admission.proofs.FaultLaws.{no-fault}
 use Rattle.lines.specs.declared.Line.{Line}
 use Rattle.lines.specs.Lines.{linesOf}
 use Rattle.lines.proofs.Rows.{lines-append}
-use Rattle.obstacles.specs.declared.Agent.{Agent}
+use Rattle.edges.specs.declared.Agent.{Agent}
 use Rattle.obstacles.specs.declared.ObstacleLines.{ObstacleLines}
 use Rattle.obstacles.specs.Obstacles.{Answer, lines, refused, obstacleCall}
 use Rattle.obstacles.specs.Read.{answerAs}

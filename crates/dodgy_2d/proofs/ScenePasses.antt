@@ -21,7 +21,7 @@ use Rattle.linear_programming.specs.Whole.{Phase, Failed, stands, wholeList}
 use Rattle.lines.proofs.JudgeLaws.{faults-append}
 use Rattle.lines.proofs.Rows.{lines-long, lines-take}
 use Rattle.linear_programming.proofs.WholeProbes.{whole-fits}
-use Rattle.obstacles.specs.declared.Agent.{Agent}
+use Rattle.edges.specs.declared.Agent.{Agent}
 use Rattle.obstacles.specs.Obstacles.{Answer, lines, refused}
 use Rattle.obstacles.proofs.EdgesInOrder.{FewAdmitted, refuses, few-admitted}
 use Rattle.obstacles.proofs.HandedOver.{call-few-admitted}

@@ -9,7 +9,7 @@ use Rattle.common.specs.declared.Vec2.{Vec2}
 use Rattle.common.specs.Vectors.{zeroVector}
 use Rattle.lines.specs.declared.Line.{Line}
 use Rattle.linear_programming.specs.Whole.{Failed, Outcome, stands, refusal, solving, relaxing, rigidFailure, wholeList}
-use Rattle.obstacles.specs.declared.Agent.{Agent}
+use Rattle.edges.specs.declared.Agent.{Agent}
 use Rattle.obstacles.specs.Obstacles.{Answer, lines, refused, obstacleCall}
 use Rattle.dodgy_2d.specs.declared.Scene.{Scene}
 use Rattle.dodgy_2d.specs.Scenes.{headsIn, neighboursIn, sceneFault}

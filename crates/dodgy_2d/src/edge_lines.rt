@@ -3,7 +3,7 @@ use crate::EdgeLines;
 use crate::judge::wide;
 use admission::Head;
 use admission::Judged;
-use obstacles::Agent;
+use edges::Agent;
 ghost use mathlib.Core.Path.{_≡_};
 ghost use Prim.Native.Nat.{_+_, _*_, _≤_};
 ghost use lib.ListN.{length, take};

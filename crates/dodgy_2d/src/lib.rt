@@ -1,8 +1,8 @@
 // A cart's velocity from its scene (the Rust's lib.rs, cut): the obstacles' lines, then the neighbours', solved in at most two passes.
 use admission::Judged;
 use common::Vec2;
+use edges::Agent;
 use linear_programming::FailedLine;
-use obstacles::Agent;
 ghost use mathlib.Core.Path.{_≡_};
 ghost use Rattle.dodgy_2d.specs.Outcomes.{sceneOutcome};
 ghost use Rattle.dodgy_2d.specs.Read.{outcomeOf};

@@ -15,10 +15,10 @@ use Rattle.lines.specs.LineFaults.{lineFault, linesFault}
 use Rattle.lines.proofs.JudgeLaws.{faults-append}
 use Rattle.admission.specs.Faults.{fine}
 use Rattle.admission.proofs.FaultLaws.{unless-case}
-use Rattle.obstacles.specs.declared.Agent.{Agent}
-use Rattle.obstacles.specs.Edges.{EdgeLine, nothing, made}
+use Rattle.edges.specs.declared.Agent.{Agent}
+use Rattle.edges.specs.Edges.{EdgeLine, nothing, made}
 use Rattle.obstacles.specs.Vertices.{edgeAt}
-use Rattle.obstacles.specs.EdgeLines.{lineForEdge}
+use Rattle.edges.specs.EdgeLines.{lineForEdge}
 use Rattle.obstacles.specs.Obstacles.{Answer, lines, refused, Admitted, kept, nothingKept, notAdmitted, admitted, behind, addEdge, linesUpTo, edgeCount, obstacleLines}
 
 -- the answer refuses, or its lines are at most n and pass the admission of a list

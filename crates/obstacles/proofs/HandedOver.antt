@@ -10,7 +10,7 @@ use Rattle.arithmetic.specs.Binary32.{0ᶠ}
 use Rattle.lines.specs.declared.Line.{Line}
 use Rattle.lines.specs.Lines.{linesOf, numbersOf}
 use Rattle.admission.proofs.FaultLaws.{unless-case}
-use Rattle.obstacles.specs.declared.Agent.{Agent}
+use Rattle.edges.specs.declared.Agent.{Agent}
 use Rattle.obstacles.specs.declared.ObstacleLines.{ObstacleLines}
 use Rattle.obstacles.specs.Obstacles.{Answer, lines, refused, obstacleFault, obstacleCall}
 use Rattle.obstacles.specs.Read.{answerAs}

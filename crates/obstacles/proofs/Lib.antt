@@ -1,6 +1,5 @@
--- The laws of `obstacles`: of vertices as numbers, of the cover test, of an obstacle's faults, of the edges in order, of what is handed over, and of the constants.
+-- The laws of `obstacles`: of vertices as numbers, of an obstacle's faults, of the edges in order, and of what is handed over.
 pub mod VertexNumbers
-pub mod Covered
 pub mod ObstacleFaults
 pub mod EdgesInOrder
 pub mod Filled

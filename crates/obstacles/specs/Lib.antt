@@ -1,10 +1,4 @@
 -- The definitions that the contracts of `obstacles` cite, in the order of the Rust's obstacles.rs.
-pub mod Edges
 pub mod Vertices
-pub mod Cover
-pub mod Collision
-pub mod Shadows
-pub mod Cutoffs
-pub mod EdgeLines
 pub mod Obstacles
 pub mod Read

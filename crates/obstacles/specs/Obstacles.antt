@@ -11,10 +11,10 @@ use Rattle.lines.specs.declared.Line.{Line}
 use Rattle.lines.specs.LineFaults.{lineFault}
 use Rattle.admission.specs.Faults.{Fault, must, _⊳_, unlessFault, fitsBehind}
 use Rattle.admission.specs.Heads.{openKind, mostVertices, isKind, isEmptyOpen}
-use Rattle.obstacles.specs.declared.Agent.{Agent}
-use Rattle.obstacles.specs.Edges.{EdgeLine, nothing, made}
+use Rattle.edges.specs.declared.Agent.{Agent}
+use Rattle.edges.specs.Edges.{EdgeLine, nothing, made}
 use Rattle.obstacles.specs.Vertices.{verticesOf, edgeAt}
-use Rattle.obstacles.specs.EdgeLines.{lineForEdge}
+use Rattle.edges.specs.EdgeLines.{lineForEdge}
 
 -- an obstacle's lines in order, or the number of its refusal
 pub data Answer : Type 0 where

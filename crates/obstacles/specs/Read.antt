@@ -1,4 +1,4 @@
--- What each enum of the code says, in the Rust's and in 01's values and numbers, and the struct that an answer is handed over in. Definitions only. Assumes nothing.
+-- What each enum of the code says, in 01's values and numbers, and the struct that an answer is handed over in. Definitions only. Assumes nothing.
 use Prim.Native.Nat.{_-_, _*_}
 use mathlib.Core.List.{List, _++_}
 use lib.ListN.{length, replicate}
@@ -6,40 +6,12 @@ use lib.Ieee.{Float}
 use Rattle.arithmetic.specs.Binary32.{0ᶠ}
 use Rattle.lines.specs.Lines.{numbersOf}
 use Rattle.admission.specs.Faults.{fine, fault, judgedAs}
-use Rattle.obstacles.specs.declared.Outer.{Outer}
-use Rattle.obstacles.specs.declared.Outer.the-variants as outer
-use Rattle.obstacles.specs.declared.Edge.{Edge as EdgeCode}
-use Rattle.obstacles.specs.declared.Side.{Side as SideCode}
-use Rattle.obstacles.specs.declared.Side.the-variants as side-code
-use Rattle.obstacles.specs.declared.EdgeLine.{EdgeLine as EdgeLineCode}
-use Rattle.obstacles.specs.declared.EdgeLine.the-variants as edge-line
 use Rattle.obstacles.specs.declared.AdmittedLine.{AdmittedLine}
 use Rattle.obstacles.specs.declared.AdmittedLine.the-variants as admitted-line
 use Rattle.obstacles.specs.declared.AddedLines.{AddedLines}
 use Rattle.obstacles.specs.declared.AddedLines.the-variants as added-lines
 use Rattle.obstacles.specs.declared.ObstacleLines.{ObstacleLines}
-use Rattle.obstacles.specs.Edges.{OuterVertex, none, at, Edge, Side, onLeft, onRight, EdgeLine, nothing, made}
 use Rattle.obstacles.specs.Obstacles.{Answer, lines, refused, Admitted, kept, nothingKept, notAdmitted}
-
-abbrev pub outerOf : Outer → OuterVertex
-outerOf (outer.At v) = at v
-outerOf outer.Absent = none
-
-abbrev pub edgeOf : EdgeCode → Edge
-edgeOf e = record {
-  left = e .«left_vertex»;
-  right = e .«right_vertex»;
-  leftLeft = outerOf (e .«left_left_vertex»);
-  rightRight = outerOf (e .«right_right_vertex»);
-}
-
-abbrev pub sideOf : SideCode → Side
-sideOf side-code.Left = onLeft
-sideOf side-code.Right = onRight
-
-abbrev pub edgeLineOf : EdgeLineCode → EdgeLine
-edgeLineOf (edge-line.Made l) = made l
-edgeLineOf edge-line.Nothing = nothing
 
 abbrev pub admittedOf : AdmittedLine → Admitted
 admittedOf (admitted-line.Kept l) = kept l

@@ -10,8 +10,8 @@ use Rattle.arithmetic.specs.Binary32.{_≤ᶠ_, 0ᶠ, if_then_else_}
 use Rattle.admission.specs.Heads.{openKind}
 use Rattle.common.specs.declared.Vec2.{Vec2}
 use Rattle.common.specs.Vectors.{vec, subOf, determinantOf}
-use Rattle.obstacles.specs.declared.EdgeVertex.{EdgeVertex}
-use Rattle.obstacles.specs.Edges.{OuterVertex, none, at, Edge}
+use Rattle.edges.specs.declared.EdgeVertex.{EdgeVertex}
+use Rattle.edges.specs.Edges.{OuterVertex, none, at, Edge}
 
 -- two numbers a vertex
 unfoldable pub verticesOf : List Float → List Vec2

@@ -1,23 +1,22 @@
 // All edges of an obstacle in order, each line behind those made earlier; and the faults of an obstacle.
 use crate::AddedLines;
 use crate::AdmittedLine;
-use crate::Agent;
-use crate::EdgeLine;
 use crate::ObstacleLines;
-use crate::edges;
 use crate::vertices;
 use admission::Head;
 use admission::Judged;
 use admission::fault_unless;
 use admission::first_of;
 use admission::fits_behind;
+use edges::Agent;
+use edges::EdgeLine;
 ghost use mathlib.Core.Path.{_≡_};
 ghost use Prim.Native.Nat.{_+_, _/_, _≤_, _<_};
 ghost use lib.ListN.{length};
 ghost use Rattle.lines.specs.Lines.{linesOf};
 ghost use Rattle.admission.specs.Faults.{faultOf};
 ghost use Rattle.obstacles.specs.Vertices.{verticesOf, edgeAt};
-ghost use Rattle.obstacles.specs.EdgeLines.{lineForEdge};
+ghost use Rattle.edges.specs.EdgeLines.{lineForEdge};
 ghost use Rattle.obstacles.specs.Obstacles.{obstacleFault, edgeCount, admitted, obstacleLines, refused as refusedWith};
 ghost use Rattle.obstacles.specs.Read.{admittedOf, blankNumbers, addedOf, answerAs};
 

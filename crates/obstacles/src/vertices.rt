@@ -1,14 +1,14 @@
 // An obstacle's vertices, lent as numbers, two a vertex: which are convex, and the edge from each to the next.
-use crate::Edge;
-use crate::EdgeVertex;
-use crate::Outer;
 use admission::Head;
 use common::Vec2;
+use edges::Edge;
+use edges::EdgeVertex;
+use edges::Outer;
 ghost use mathlib.Core.Path.{_≡_};
 ghost use Prim.Native.Nat.{_/_, _<_};
 ghost use lib.ListN.{length};
+ghost use Rattle.edges.specs.Read.{outerOf, edgeOf};
 ghost use Rattle.obstacles.specs.Vertices.{verticesOf, vertexAt, nextOf, previousOf, isEnd, convexAt, edgeVertexAt, outerAt, edgeAt};
-ghost use Rattle.obstacles.specs.Read.{outerOf, edgeOf};
 
 fn vertex_at(vertices: &[f32], i: usize) -> Vec2
     requires { ⌜ i < length (now vertices) / 2 ⌝ }

@@ -18,8 +18,8 @@ use Rattle.common.specs.declared.Vec2.{Vec2}
 use Rattle.lines.specs.declared.Line.{Line}
 use Rattle.lines.specs.LineFaults.{bandLow, bandHigh, lineFault}
 use Rattle.common.specs.Vectors.{lengthSquaredOf}
-use Rattle.obstacles.specs.declared.Agent.{Agent}
-use Rattle.obstacles.specs.Edges.{EdgeLine, nothing, made}
+use Rattle.edges.specs.declared.Agent.{Agent}
+use Rattle.edges.specs.Edges.{EdgeLine, nothing, made}
 use Rattle.obstacles.specs.Obstacles as walls
 use Rattle.obstacles.specs.Obstacles.{Answer, lines, Admitted, notAdmitted, admitted, behind, addEdge, linesUpTo, obstacleLines, obstacleFault, obstacleCall}
 use Rattle.dodgy_2d.specs.declared.Scene.{Scene}

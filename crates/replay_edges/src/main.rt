@@ -2,7 +2,7 @@
 // A record is, in words: kind, how many numbers, answer (how many lines, or 100 + the number of a refusal), offset and count of the vertices (2 each), position (2), velocity (2), margin, horizon; the numbers, two a vertex; then the lines, four numbers each.
 use admission::Head;
 use admission::Judged;
-use obstacles::Agent;
+use edges::Agent;
 use obstacles::ObstacleLines;
 use replay_records::Walk;
 use replay_records::agrees;

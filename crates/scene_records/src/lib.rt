@@ -2,8 +2,8 @@
 use admission::Judged;
 use common::Vec2;
 use dodgy_2d::Scene;
+use edges::Agent;
 use lines::Line;
-use obstacles::Agent;
 ghost use mathlib.Core.Path.{_≡_};
 ghost use Rattle.fields.specs.Got.{refused as refusedWith};
 ghost use Rattle.scene_records.specs.Steps.{from, told};
