@@ -4,10 +4,11 @@ pub mod PartLaws
 pub mod StepLaws
 pub mod WorkLaws
 pub mod CutLaws
-pub mod TurnLaws
+pub mod LoopLaws
 pub mod KeptLaws
 pub mod RunLaws
 pub mod RoomLaws
+pub mod TurnLaws
 pub mod Agreement
 pub mod RefusalLaws
 pub mod OutcomeLaws

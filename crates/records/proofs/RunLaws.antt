@@ -11,14 +11,15 @@ use Rattle.answer_records.specs.Answers.{refusalBytes}
 use Rattle.records.specs.Answered.{replyTo}
 use Rattle.scene_records.specs.Records.{longestRest}
 use Rattle.records.specs.Parts.{Part, skipped, overlong, whole, cutShort, partIn}
-use Rattle.records.specs.Streams.{Room, unlimited, hasRoom, less, Worked, stopped, after, onward, parts, worked, lastAnswer, ended, answersFrom, answersTo, run, joined}
+use Rattle.records.specs.Streams.{Room, unlimited, hasRoom, less, Worked, stopped, after, onward, parts, worked, lastAnswer, ended, answersFrom, answersTo}
+use Rattle.records.specs.Turns.{run, joined}
 use Rattle.records.proofs.PartLaws.{Lies, skips, names, holds, none, lies}
 use Rattle.records.proofs.WorkLaws.{work-on, work-freely, by-parts}
 use Rattle.records.proofs.CutLaws.{cut}
 
 -- ---- no more bytes are used than there are
 
-record Within (l : List ℕ) (w : Worked) : Type 0 where
+pub record Within (l : List ℕ) (w : Worked) : Type 0 where
   pub fits : w .used ≤ length l
 
 behind-within : (k : ℕ) (x l : List ℕ) (w : Worked) → k ≤ length l → Within (drop k l) w → Within l (after k x w)
@@ -31,7 +32,7 @@ part-within room skip l (overlong n) (names z two far e) next = behind-within 2 
 part-within room skip l (whole k) (holds z two near there e) next = behind-within k (replyTo (take k l)) l _ there (next k (omega arith) there (less room (length (replyTo (take k l)))) 0)
 part-within room skip l cutShort (none few) next = record { fits = omega arith }
 
-used-within : (l : List ℕ) (room : Room) (skip : ℕ) → Within l (worked room skip l)
+pub used-within : (l : List ℕ) (room : Room) (skip : ℕ) → Within l (worked room skip l)
 used-within =
     by-parts (λ (l : List ℕ). (room : Room) (skip : ℕ) → Within l (worked room skip l)) λ l next room skip.
     rw (work-on room skip l) (if-all (Within l) (hasRoom room) (part-within room skip l (partIn skip l) (lies skip l) next) (record { fits = omega arith }))
@@ -90,13 +91,15 @@ cut-answers skip a b =
     ∙ ap (ended (a ++ b)) (sym (cut unlimited skip a b .same))
 
 run-from : (reads : List (List ℕ)) (kept : List ℕ) (skip : ℕ) → worked unlimited skip kept ≡ stopped skip → run kept skip reads ≡ answersFrom skip (kept ++ joined reads)
-unfolding run joined answersFrom
+unfolding run joined answersFrom if_then_else_
 run-from [] kept skip e = rw (append-nil, e)
-run-from (read ∷ reads) kept skip e =
-    let w = worked unlimited skip (kept ++ read) in
-    ap (λ (l : List ℕ). w .answers ++ l) (run-from reads (drop (w .used) (kept ++ read)) (w .skip) (worked-out skip (kept ++ read)))
-    ∙ cut-answers skip (kept ++ read) (joined reads)
-    ∙ ap (answersFrom skip) (append-assoc kept read (joined reads))
+run-from ([] ∷ reads) kept skip e = rw (append-nil, append-nil, e)
+run-from ((b ∷ read) ∷ reads) kept skip e =
+    let s = kept ++ (b ∷ read) in
+    let w = worked unlimited skip s in
+    ap (λ (l : List ℕ). w .answers ++ l) (run-from reads (drop (w .used) s) (w .skip) (worked-out skip s))
+    ∙ cut-answers skip s (joined reads)
+    ∙ ap (answersFrom skip) (append-assoc kept (b ∷ read) (joined reads))
 
 -- no bytes, no part
 nothing-read : worked unlimited 0 [] ≡ stopped 0

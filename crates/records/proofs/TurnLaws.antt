@@ -1,190 +1,195 @@
--- What one part worked does for the work on all: the loop's turn. Assumes nothing.
-use Prim.Native.Nat.{ℕ, _+_, _-_, _≤_, _<_}
+-- Laws of a turn over lent memory: the work with the output's room is that with unlimited room, and what is kept is what the work leaves. Assumes nothing.
+use Prim.Native.Nat.{ℕ, _+_, _-_, _*_, _≤_}
 use native.Mathlib.Omega.{arith}
-use native.Mathlib.Nat.{add-zero, sub-zero}
+use native.Mathlib.Nat.{zero-add, sub-zero}
 use mathlib.Core.Path.{_≡_, refl, sym, ap, _∙_}
-use mathlib.Core.List.{List, [], _++_, append-nil}
+use mathlib.Core.Bool.{true, false, false≢true}
+use mathlib.Core.List.{List, [], _∷_, _++_}
 use lib.Dec.{leb}
-use lib.ListN.{length, take, drop, length-drop, length-append, take-append-drop}
-use lib.Seq.{drop-drop, take-at, drop-at, length-take-le}
+use lib.ListN.{length, take, drop, length-drop, length-append}
+use lib.Seq.{take-add, take-at, take-all, take-append-le, drop-at, length-take-le}
+use borrow.Rule.Slice.PartMut.{midOf, postOf, putMid, same-len-mid}
 use borrow.Author.Tests.{leb-true, le-leb}
 use Rattle.arithmetic.specs.Binary32.{if_then_else_}
-use Rattle.arithmetic.proofs.Choice.{if-case}
-use Rattle.fields.specs.Bytes.{bigEndian}
-use Rattle.answer_records.specs.Answers.{longestAnswer, refusalBytes}
+use Rattle.arithmetic.proofs.Choice.{if-all, and-left, and-right}
+use Rattle.admission.specs.Faults.{fitsBehind}
+use Rattle.answer_records.specs.Answers.{longestAnswer}
 use Rattle.records.specs.declared.Place.{Place}
-use Rattle.records.specs.Answered.{replyTo}
-use Rattle.records.specs.Parts.{Part, skipped, overlong, whole, cutShort, partIn}
-use Rattle.records.specs.Steps.{put, putAt, Stepped, goesOn, stops, placeAt, stepBy, stepOver}
-use Rattle.records.specs.Streams.{bytes, Worked, stopped, after, onward, worked, Standing, standing, standingBy, workedOver}
-use Rattle.records.proofs.PartLaws.{Lies, skips, names, holds, none, lies}
-use Rattle.records.proofs.StepLaws.{reply-length}
-use Rattle.records.proofs.WorkLaws.{after-nothing, after-after, work-on}
+use Rattle.records.specs.declared.Stream.{Stream}
+use Rattle.records.specs.Steps.{Put, put, putAt}
+use Rattle.records.specs.Streams.{unlimited, Worked, worked, Standing, standing, standingBy, workedOver, lastAnswer, shifted}
+use Rattle.records.specs.Turns.{Turned, goingOn, turned, Lent, lent, lentBy, hasRoomFor, closed, turnOver, Ready, Follows}
+use Rattle.scene_records.specs.Records.{longestRest}
+use Rattle.records.proofs.RunLaws.{used-within, kept-short}
+use Rattle.records.proofs.RoomLaws.{room-enough}
 
--- the work that is left at a place
-abbrev pub leftAt : List ℕ → List ℕ → Place → Worked
-leftAt s out p = worked (bytes (length out - p .put)) (p .skip) (drop (p .used) s)
+-- ---- the room
 
--- what is done at a place, and the work that is left there
-abbrev pub doneAt : List ℕ → List ℕ → Place → Worked
-doneAt s out p = after (p .used) (take (p .put) out) (leftAt s out p)
+pub has-room : (input output kept read : ℕ) → hasRoomFor input output kept read ≡ true → (2 * input + longestAnswer ≤ output) × (kept + read ≤ input)
+unfolding hasRoomFor
+has-room input output kept read e = (
+  leb-true _ _ (and-left (leb (2 * input + longestAnswer) output) (fitsBehind input kept read) e),
+  leb-true _ _ (and-right (leb (2 * input + longestAnswer) output) (fitsBehind input kept read) e),
+)
 
--- a part was worked: the place moves on, bytes behind the answers stay, and with the work that is left it comes to the same
-pub record Turned (s out : List ℕ) (p next : Place) (held : List ℕ) : Type 0 where
-  pub moves : p .used < next .used
-  pub inside : next .used ≤ length s
-  pub grows : p .put ≤ next .put
-  pub fits : next .put ≤ length held
-  pub sized : length held ≡ length out
-  pub behind : drop (next .put) held ≡ drop (next .put) out
-  pub same : doneAt s out p ≡ doneAt s held next
+-- ---- what was read
 
-pub data Does (s out : List ℕ) (p : Place) : Stepped → Type 0 where
-  turns : {next : Place} {held : List ℕ} → Turned s out p next held → Does s out p (goesOn next held)
-  halts : leftAt s out p ≡ stopped (p .skip) → Does s out p (stops out)
+-- bytes that were read are worked
+turned-on : (kept : List ℕ) (skip : ℕ) (read : List ℕ) → 1 ≤ length read → turned kept skip read ≡ goingOn (kept ++ read) (worked unlimited skip (kept ++ read))
+turned-on kept skip [] h = absurd (omega arith)
+turned-on kept skip (b ∷ read) h = refl
 
--- bytes put behind the n that stand
-module _ (n : ℕ) (r out : List ℕ) (h : n + length r ≤ length out) where
-  front : length (take n out ++ r) ≡ n + length r
-  front = rw (length-append, length-take-le n out (omega arith))
+-- what lies from a place on up to another
+part-left : (m n : ℕ) (l : List ℕ) → m + n ≤ length l → drop m (take (m + n) l) ≡ take n (drop m l)
+part-left m n l h = rw (take-add m n l) (drop-at (take m l) (take n (drop m l)) m (length-take-le m l (omega arith)))
 
-  put-sized : length (putAt n r out .contents) ≡ length out
-  put-sized = rw (length-append, front, length-drop) (omega arith)
+-- ---- the turn
 
-  put-front : take (n + length r) (putAt n r out .contents) ≡ take n out ++ r
-  put-front = take-at (take n out ++ r) (drop (n + length r) out) (n + length r) front
-
-  put-behind : drop (n + length r) (putAt n r out .contents) ≡ drop (n + length r) out
-  put-behind = drop-at (take n out ++ r) (drop (n + length r) out) (n + length r) front
-
-module _ (s out : List ℕ) (p : Place) (room : longestAnswer ≤ length out - p .put) (ahead : p .used ≤ length s) where
-  -- an answer of at most 18 bytes to k bytes
-  answered-turn : (k skip : ℕ) (r : List ℕ) → 1 ≤ k → k ≤ length (drop (p .used) s) → length r ≤ longestAnswer →
-      leftAt s out p ≡ after k r (worked (bytes (length out - p .put - length r)) skip (drop k (drop (p .used) s))) →
-      Turned s out p (placeAt (p .used + k) (putAt (p .put) r out) skip) (putAt (p .put) r out .contents)
-  answered-turn k skip r one there short e =
-      let inner : k ≤ length s - p .used = rw length-drop at there in
-      let fit : p .put + length r ≤ length out = omega arith in
-      let size = put-sized (p .put) r out fit in
-      let left : length out - p .put - length r ≡ length (putAt (p .put) r out .contents) - (p .put + length r) = omega arith in
-      record {
-        moves = omega arith;
-        inside = omega arith;
-        grows = omega arith;
-        fits = rw size fit;
-        sized = size;
-        behind = put-behind (p .put) r out fit;
-        same =
-            ap (after (p .used) (take (p .put) out)) e
-            ∙ after-after (p .used) k (take (p .put) out) r _
-            ∙ ap (λ (l : List ℕ). after (p .used + k) (take (p .put) out ++ r) (worked (bytes (length out - p .put - length r)) skip l)) (drop-drop k (p .used) s)
-            ∙ ap (λ (n : ℕ). after (p .used + k) (take (p .put) out ++ r) (worked (bytes n) skip (drop (p .used + k) s))) left
-            ∙ ap (λ (x : List ℕ). after (p .used + k) x (worked (bytes (length (putAt (p .put) r out .contents) - (p .put + length r))) skip (drop (p .used + k) s))) (sym (put-front (p .put) r out fit));
-      }
-
-  -- bytes skipped
-  skipped-turn : (k : ℕ) → 1 ≤ k → k ≤ length (drop (p .used) s) →
-      leftAt s out p ≡ after k [] (worked (bytes (length out - p .put)) (p .skip - k) (drop k (drop (p .used) s))) →
-      Turned s out p (placeAt (p .used + k) (put (p .put) out) (p .skip - k)) out
-  skipped-turn k one there e =
-      let inner : k ≤ length s - p .used = rw length-drop at there in
-      record {
-        moves = omega arith;
-        inside = omega arith;
-        grows = omega arith;
-        fits = omega arith;
-        sized = refl;
-        behind = refl;
-        same = ap (after (p .used) (take (p .put) out)) e ∙ after-after (p .used) k (take (p .put) out) [] _ ∙ rw (append-nil, drop-drop);
-      }
-
-  module _ (q : Part) (e : partIn (p .skip) (drop (p .used) s) ≡ q) where
-    with-part : leftAt s out p ≡ onward worked (bytes (length out - p .put)) (p .skip) (drop (p .used) s) q
-    unfolding if_then_else_
-    with-part = work-on (bytes (length out - p .put)) (p .skip) (drop (p .used) s) ∙ rw (le-leb longestAnswer (length out - p .put) room, e)
-
-  by-part : (q : Part) → Lies (p .skip) (drop (p .used) s) q → partIn (p .skip) (drop (p .used) s) ≡ q → Does s out p (stepBy s out p q)
-  unfolding refusalBytes bigEndian
-  by-part cutShort (none few) e = halts (with-part cutShort e)
-  by-part (skipped k) (skips one fits there) e = turns (skipped-turn k one there (with-part (skipped k) e))
-  by-part (overlong n) (names z two far f) e = turns (answered-turn 2 n (refusalBytes 4) (omega arith) two (omega arith) (with-part (overlong n) e))
-  by-part (whole k) (holds z two near there f) e = turns (answered-turn k 0 (replyTo (take k (drop (p .used) s))) (omega arith) there (reply-length (take k (drop (p .used) s))) (with-part (whole k) e))
-
-pub does : (s out : List ℕ) (p : Place) → p .used ≤ length s → Does s out p (stepOver s out p)
-unfolding stepOver if_then_else_
-does s out p h =
-    if-case (Does s out p) (leb longestAnswer (length out - p .put))
-    (λ room. by-part s out p (leb-true longestAnswer (length out - p .put) room) h (partIn (p .skip) (drop (p .used) s)) (lies (p .skip) (drop (p .used) s)) refl)
-    (λ full. halts (work-on (bytes (length out - p .put)) (p .skip) (drop (p .used) s) ∙ rw full))
-
--- ---- the end of the loop
-
-drop-more : (m n : ℕ) (a b : List ℕ) → m ≤ n → drop m a ≡ drop m b → drop n a ≡ drop n b
-drop-more m n a b h e =
-    let all : m + (n - m) ≡ n = omega arith in
-    rw all at (sym (drop-drop (n - m) m a) ∙ ap (drop (n - m)) e ∙ drop-drop (n - m) m b)
-
--- where nothing is left to work, what was done is what the whole work comes to
-finished : (s out held : List ℕ) (skip : ℕ) (p : Place) → p .put ≤ length held → drop (p .put) held ≡ drop (p .put) out → worked (bytes (length out)) skip s ≡ doneAt s held p →
-    leftAt s held p ≡ stopped (p .skip) → standing p held ≡ workedOver s out skip
+-- the work with the output's room, on what was kept and what was read behind it
+freely : (input output : List ℕ) (kept skip read : ℕ) → 2 * length input + longestAnswer ≤ length output → kept + read ≤ length input →
+    workedOver (take (kept + read) input) output skip ≡ standingBy (worked unlimited skip (take kept input ++ take read (drop kept input))) output
 unfolding workedOver
-finished s out held skip p fits behind same nothing =
-    let all : worked (bytes (length out)) skip s ≡ record { used = p .used; answers = take (p .put) held; skip = p .skip } =
-    same ∙ ap (after (p .used) (take (p .put) held)) nothing ∙ rw (add-zero, append-nil) in
-    sym (ap (λ (w : Worked). standingBy w out) all ∙ rw (length-take-le (p .put) held fits, ← behind, take-append-drop))
+freely input output kept skip read room there =
+    let size : length (take (kept + read) input) ≡ kept + read = length-take-le (kept + read) input there in
+    rw (room-enough (length output) skip (take (kept + read) input) (rw size (omega arith)), take-add kept read input)
 
--- ---- the loop's invariant
+module _ (input output : List ℕ) (before : Stream) (read : ℕ) where
+  pub no-turn : hasRoomFor (length input) (length output) (before .kept) read ≡ false → lent closed input output ≡ turnOver input output before read
+  unfolding turnOver if_then_else_
+  no-turn e = rw e
 
-pub record Going (s out : List ℕ) (skip : ℕ) (held : List ℕ) (p : Place) : Type 0 where
-  pub inside : p .used ≤ length s
-  pub fits : p .put ≤ length held
-  pub sized : length held ≡ length out
-  pub behind : drop (p .put) held ≡ drop (p .put) out
-  pub same : worked (bytes (length out)) skip s ≡ doneAt s held p
+  module _ (room : hasRoomFor (length input) (length output) (before .kept) read ≡ true) where
+    fits : (2 * length input + longestAnswer ≤ length output) × (before .kept + read ≤ length input)
+    fits = has-room (length input) (length output) (before .kept) read room
 
-pub begins : (s out : List ℕ) (skip : ℕ) → Going s out skip out (record { used = 0; put = 0; skip = skip })
-begins s out skip = record {
-  inside = omega arith;
-  fits = omega arith;
-  sized = refl;
-  behind = refl;
-  same = sym (rw sub-zero (after-nothing (worked (bytes (length out)) skip s)));
-}
+    stepped : turnOver input output before read ≡ lentBy (turned (take (before .kept) input) (before .skip) (take read (drop (before .kept) input))) input output
+    unfolding turnOver if_then_else_
+    stepped = rw room
 
-module _ (s out : List ℕ) (skip : ℕ) (held : List ℕ) (p : Place) (g : Going s out skip held p) where
-  took : (x : Stepped) → x ≡ stepOver s held p → Does s held p x
-  took x e = rw e (does s held p (g .inside))
+    pub last-turn : read ≡ 0 → (n : ℕ) (out : List ℕ) → put n out ≡ putAt 0 (lastAnswer (before .kept)) output →
+        lent (record { put = n; kept = 0; skip = 0; more = false }) input out ≡ turnOver input output before read
+    last-turn e n out p =
+        let long : length (take (before .kept) input) ≡ before .kept = length-take-le (before .kept) input (omega (arith, fits .1)) in
+        let count : n ≡ length (lastAnswer (before .kept)) = rw zero-add at (ap (λ (q : Put). q .count) p) in
+        let held : out ≡ lastAnswer (before .kept) ++ drop (length (lastAnswer (before .kept))) output = rw zero-add at (ap (λ (q : Put). q .contents) p) in
+        sym (stepped ∙ rw (e, long, count, held) refl)
 
-  turned-by : {next : Place} {l : List ℕ} → Does s held p (goesOn next l) → Turned s held p next l
-  turned-by (turns t) = t
+    -- what was kept, and behind it what was read
+    s : List ℕ
+    s = take (before .kept) input ++ take read (drop (before .kept) input)
 
-  halted-by : {l : List ℕ} → Does s held p (stops l) → (l ≡ held) × (leftAt s held p ≡ stopped (p .skip))
-  halted-by (halts e) = (refl, e)
+    all : take (before .kept + read) input ≡ s
+    unfolding s
+    all = take-add (before .kept) read input
 
-  pub turn : (next : Place) (l : List ℕ) → goesOn next l ≡ stepOver s held p → Turned s held p next l
-  turn next l e = turned-by (took (goesOn next l) e)
+    size : length s ≡ before .kept + read
+    size = rw (← all) (length-take-le (before .kept + read) input (fits .1))
 
-  pub goes-on : (next : Place) (l : List ℕ) → goesOn next l ≡ stepOver s held p → Going s out skip l next
-  goes-on next l e =
-      let t = turn next l e in
+    w : Worked
+    w = worked unlimited (before .skip) s
+
+    module _ (some : read ≡ 0 → ⊥) (p : Place) (out : List ℕ) (e : standing p out ≡ workedOver (take (before .kept + read - 0) input) output (before .skip)) where
+      placed : standing p out ≡ standingBy w output
+      unfolding s w
+      placed = rw sub-zero at e ∙ freely input output (before .kept) (before .skip) read (fits .0) (fits .1)
+
+      used : p .used ≡ w .used
+      used = ap (λ (x : Standing). x .place .used) placed
+
+      pub used-there : p .used ≤ before .kept + read
+      unfolding w
+      used-there = omega (arith, used, size, used-within s unlimited (before .skip) .fits)
+
+      -- what is moved to the input's start is what the work leaves
+      left : take (before .kept + read - p .used) (drop (p .used) input) ≡ drop (w .used) s
+      left =
+          let sum : p .used + (before .kept + read - p .used) ≡ before .kept + read = omega (arith, used-there) in
+          sym (part-left (p .used) (before .kept + read - p .used) input (omega (arith, used-there, fits .1)))
+          ∙ ap (λ (n : ℕ). drop (p .used) (take n input)) sum ∙ ap (drop (p .used)) all ∙ ap (λ (n : ℕ). drop n s) used
+
+      pub whole-turn : lent (record { put = p .put; kept = before .kept + read - p .used; skip = p .skip; more = true }) (shifted (p .used) (before .kept + read - p .used) input) out ≡ turnOver input output before read
+      unfolding s w
+      whole-turn =
+          let brought : 1 ≤ length (take read (drop (before .kept) input)) = rw (length-take-le read (drop (before .kept) input) (rw length-drop (omega (arith, fits .1)))) (omega arith) in
+          let count : before .kept + read - p .used ≡ length (drop (w .used) s) = rw (length-drop, size, used) refl in
+          let put-same : p .put ≡ length (w .answers) = ap (λ (x : Standing). x .place .put) placed in
+          let skip-same : p .skip ≡ w .skip = ap (λ (x : Standing). x .place .skip) placed in
+          let held : out ≡ w .answers ++ drop (length (w .answers)) output = ap (λ (x : Standing). x .contents) placed in
+          sym (stepped ∙ ap (λ (t : Turned). lentBy t input output) (turned-on (take (before .kept) input) (before .skip) (take read (drop (before .kept) input)) brought)
+          ∙ rw (left, count, put-same, skip-same, held) refl)
+
+-- ---- what a turn tells
+
+-- the answers fit the output, and fewer bytes are kept than the longest record has
+record Told (l : Lent) : Type 0 where
+  pub fits : l .turn .put ≤ length (l .output)
+  pub short : l .turn .kept ≤ 1 + longestRest
+
+turned-short : (kept : List ℕ) (skip : ℕ) (read : List ℕ) → length (turned kept skip read .kept) ≤ 1 + longestRest
+turned-short kept skip [] = omega arith
+turned-short kept skip (b ∷ read) = kept-short skip (kept ++ (b ∷ read))
+
+told : (input output : List ℕ) (before : Stream) (read : ℕ) → Told (turnOver input output before read)
+unfolding turnOver
+told input output before read =
+    let t = turned (take (before .kept) input) (before .skip) (take read (drop (before .kept) input)) in
+    if-all Told (hasRoomFor (length input) (length output) (before .kept) read)
+    (record { fits = rw length-append (omega arith); short = turned-short (take (before .kept) input) (before .skip) (take read (drop (before .kept) input)) })
+    (record { fits = omega arith; short = omega arith })
+
+module _ (input output held out : List ℕ) (before t : Stream) (read : ℕ) (e : lent t held out ≡ turnOver input output before read) where
+  pub put-fits : t .put ≤ length out
+  put-fits = rw (← e) at (told input output before read) .fits
+
+  pub keeps-few : t .kept ≤ 1 + longestRest
+  keeps-few = rw (← e) at (told input output before read) .short
+
+-- ---- a turn of a program
+
+mid-length : (n : ℕ) (l : List ℕ) → length (midOf n (length l - n) l) ≡ length l - n
+mid-length n l = length-take-le (length l - n) (drop n l) (rw length-drop (omega arith))
+
+-- a read behind what is kept leaves it as it is
+kept-stays : (n : ℕ) (l part : List ℕ) → n ≤ length l → take n (putMid n (length l - n) l part) ≡ take n l
+kept-stays n l part h = take-append-le n (take n l) (part ++ postOf n (length l - n) l) (rw (length-take-le n l h) (omega arith)) ∙ take-all n (take n l) (rw (length-take-le n l h) (omega arith))
+
+lent-parts : (l : Turned) (input output held out : List ℕ) (t : Stream) → lent t held out ≡ lentBy l input output →
+    (take (t .put) out ≡ l .answers) × (take (t .kept) held ≡ l .kept) × (t .skip ≡ l .skip) × (t .more ≡ l .more)
+lent-parts l input output held out t e = (
+  rw (ap (λ (x : Lent). x .output) e) (take-at (l .answers) _ (t .put) (sym (ap (λ (x : Lent). x .turn .put) e))),
+  rw (ap (λ (x : Lent). x .input) e) (take-at (l .kept) _ (t .kept) (sym (ap (λ (x : Lent). x .turn .kept) e))),
+  ap (λ (x : Lent). x .turn .skip) e,
+  ap (λ (x : Lent). x .turn .more) e,
+)
+
+module _ (input output held out part : List ℕ) (before t : Stream) (read : ℕ) (ready : Ready (length input) (length output) (before .kept)) where
+  -- what the input holds when something was read behind what is kept
+  abbrev pub filled : List ℕ
+  filled = putMid (before .kept) (length input - before .kept) input part
+
+  -- The stream goes on by `run`'s step.
+  pub follows : lent t held out ≡ turnOver filled output before read → length part ≡ length (midOf (before .kept) (length input - before .kept) input) → read ≤ length part
+      → Follows before input t held out
+  unfolding hasRoomFor
+  follows e sized brought-few =
+      let same : length filled ≡ length input = same-len-mid (before .kept) (length input - before .kept) input part sized in
+      let there : before .kept + read ≤ length input = omega (arith, ready .few, ready .long, sized ∙ mid-length (before .kept) input) in
+      let room : hasRoomFor (length filled) (length output) (before .kept) read ≡ true = rw (same, le-leb (2 * length input + longestAnswer) (length output) (ready .room), le-leb (before .kept + read) (length input) there) refl in
+      let brought = turned (take (before .kept) filled) (before .skip) (take read (drop (before .kept) filled)) in
+      let p = lent-parts brought filled output held out t (e ∙ stepped filled output before read room) in
+      let stays : take (before .kept) filled ≡ take (before .kept) input = kept-stays (before .kept) input part (omega (arith, ready .few, ready .long)) in
       record {
-        inside = t .inside;
-        fits = t .fits;
-        sized = t .sized ∙ g .sized;
-        behind = t .behind ∙ drop-more (p .put) (next .put) held out (t .grows) (g .behind);
-        same = g .same ∙ t .same;
+        read = take read (drop (before .kept) filled);
+        answers = rw stays at (p .0);
+        kept = rw stays at (p .1);
+        skip = rw stays at (p .2);
+        more = λ on. rw stays at (sym (p .3)) ∙ on;
       }
 
-  pub ends : (l : List ℕ) → stops l ≡ stepOver s held p → standing p l ≡ workedOver s out skip
-  ends l e =
-      let h = halted-by (took (stops l) e) in
-      rw (h .0) (finished s out held skip p (g .fits) (g .behind) (g .same) (h .1))
+  -- so it does where the output failed, but that there is no more
+  pub follows-closed : Follows before input t held out → Follows before input (record { put = t .put; kept = t .kept; skip = t .skip; more = false }) held out
+  follows-closed f = record { read = f .read; answers = f .answers; kept = f .kept; skip = f .skip; more = λ on. absurd (false≢true on) }
 
--- the answers that stand fit the output
-pub answers-fit : (p : Place) (l s out : List ℕ) (skip : ℕ) → standing p l ≡ workedOver s out skip → length l ≡ length out → p .put ≤ length l
-unfolding workedOver
-answers-fit p l s out skip e size =
-    let w = worked (bytes (length out)) skip s in
-    let count : p .put ≡ length (w .answers) = ap (λ (x : Standing). x .place .put) e in
-    let held : length l ≡ length (w .answers ++ drop (length (w .answers)) out) = ap (λ (x : Standing). length (x .contents)) e in
-    omega (arith, length-append (w .answers) (drop (length (w .answers)) out), length-drop (length (w .answers)) out)
+  -- The buffers stay ready.
+  pub stays-ready : lent t held out ≡ turnOver filled output before read → length held ≡ length input → length out ≡ length output → Ready (length held) (length out) (t .kept)
+  stays-ready e a b = record { long = omega (arith, ready .long); room = omega (arith, ready .room); few = keeps-few _ _ _ _ _ _ _ e }

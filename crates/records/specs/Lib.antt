@@ -3,3 +3,4 @@ pub mod Answered
 pub mod Parts
 pub mod Steps
 pub mod Streams
+pub mod Turns

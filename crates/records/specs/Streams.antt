@@ -1,14 +1,13 @@
 -- A stream of scene records worked part by part, and what stands at its end (01, "Records (ours)"). Definitions only. Assumes nothing.
 use Prim.Native.Nat.{ℕ, zero, suc, _+_, _-_}
 use mathlib.Core.Bool.{Bool, true}
-use mathlib.Core.List.{List, [], _∷_, _++_}
-use lib.Dec.{eqb, leb, ltb}
+use mathlib.Core.List.{List, [], _++_}
+use lib.Dec.{eqb, leb}
 use lib.ListN.{length, take, drop}
 use Rattle.arithmetic.specs.Binary32.{if_then_else_}
 use Rattle.answer_records.specs.Answers.{longestAnswer, refusalBytes}
 use Rattle.records.specs.declared.Place.{Place}
 use Rattle.records.specs.Answered.{replyTo}
-use Rattle.records.specs.Steps.{Put, put, putAt}
 use Rattle.records.specs.Parts.{Part, skipped, overlong, whole, cutShort, partIn}
 
 -- ---- the work on what is there
@@ -79,10 +78,6 @@ workedOver s out skip = standingBy (worked (bytes (length out)) skip s) out
 unfoldable pub lastAnswer : ℕ → List ℕ
 lastAnswer left = if eqb left 0 then [] else refusalBytes 2
 
--- at the output's start, where it fits
-unfoldable pub finishedOver : ℕ → List ℕ → Put
-finishedOver left out = if leb (length (lastAnswer left)) (length out) then putAt 0 (lastAnswer left) out else put 0 out
-
 -- all answers to a stream, with so many bytes still to be skipped
 abbrev pub ended : List ℕ → Worked → List ℕ
 ended s w = w .answers ++ lastAnswer (length (drop (w .used) s))
@@ -94,25 +89,8 @@ answersFrom skip s = ended s (worked unlimited skip s)
 abbrev pub answersTo : List ℕ → List ℕ
 answersTo = answersFrom 0
 
--- ---- the program: what each read brings goes behind what was kept; what the work leaves is kept for the next
-
-unfoldable pub run : List ℕ → ℕ → List (List ℕ) → List ℕ
-run kept skip [] = lastAnswer (length kept)
-run kept skip (read ∷ reads) =
-    let w = worked unlimited skip (kept ++ read) in
-    w .answers ++ run (drop (w .used) (kept ++ read)) (w .skip) reads
-
--- the reads, one behind the other
-unfoldable pub joined : List (List ℕ) → List ℕ
-joined [] = []
-joined (read ∷ reads) = read ++ joined reads
-
 -- ---- what is kept for the next read
 
 -- n bytes from a place on, moved to the start
 abbrev pub shifted : ℕ → ℕ → List ℕ → List ℕ
 shifted from n l = take n (drop from l) ++ drop n l
-
--- those between two places of the buffer
-unfoldable pub keptOver : ℕ → ℕ → List ℕ → Put
-keptOver from end l = if ltb end from then put 0 l else (if ltb (length l) end then put 0 l else put (end - from) (shifted from (end - from) l))

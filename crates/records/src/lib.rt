@@ -1,23 +1,57 @@
 // Records answered (01, "Records (ours)"): one scene record to its answer, and the program's work on a stream of records.
 use admission::Judged;
 use answer_records::Answer;
+use scene_records::SceneRead;
 ghost use mathlib.Core.Path.{_≡_};
 ghost use Rattle.answer_records.specs.Answers.{writtenOf};
 ghost use Rattle.records.specs.Answered.{answerTo};
-ghost use Rattle.records.specs.Steps.{put};
-ghost use Rattle.records.specs.Streams.{standing, workedOver, finishedOver, keptOver};
+ghost use Rattle.records.specs.Turns.{lent, turnOver};
 
+mod flow;
 mod kept;
 mod outcome;
 mod parts;
 mod steps;
 
+// Where a stream of records stands after a turn: how many bytes of answers are at the output's start, to be written; how many bytes wait at the input's
+// start for the next read; how many bytes of an overlong record are still to be skipped; and whether there may be more to read.
+pub struct Stream {
+    pub put: usize,
+    pub kept: usize,
+    pub skip: usize,
+    pub more: bool,
+}
+
+impl Stream {
+    // Before the first read.
+    pub const START: Stream = Stream {
+        put: 0,
+        kept: 0,
+        skip: 0,
+        more: true,
+    };
+
+    // Nothing to write, and no more to read.
+    pub const CLOSED: Stream = Stream {
+        put: 0,
+        kept: 0,
+        skip: 0,
+        more: false,
+    };
+
+    // A buffer for the input: each read may bring 64 KiB behind a record cut short.
+    pub const INPUT: usize = 65536 + 1 + SceneRead::LONGEST_REST;
+
+    // A buffer for the answers: two bytes for each of the input and the longest answer are room enough.
+    pub const OUTPUT: usize = 2 * Stream::INPUT + Answer::BYTES;
+}
+
 // How far the work on a stream got: the bytes of the input that are used, the bytes of answers that stand at the output's start, and how many bytes of an
 // overlong record are still to be skipped.
-pub struct Place {
-    pub used: usize,
-    pub put: usize,
-    pub skip: usize,
+pub(crate) struct Place {
+    pub(crate) used: usize,
+    pub(crate) put: usize,
+    pub(crate) skip: usize,
 }
 
 // What stands next in a stream: bytes of an overlong record to be skipped; the length that an overlong record names; a whole record, by the count of its bytes;
@@ -53,50 +87,32 @@ pub fn answer_record(bytes: &[u8], buffer: &mut [u8]) -> Judged
     outcome::write_outcome(answer, buffer)
 }
 
-// Works the parts of a stream that the input holds from its start on: what is still to be skipped, then record behind record, each answered behind the other
-// at the output's start. It stops where the input holds no whole part more, or where the output has room for fewer than 18 bytes.
-pub fn work(input: &[u8], output: &mut [u8], skip: usize) -> Place
-    ensures { λ r. ⌜ standing r (now (output .exit)) ≡ workedOver (now (input .entry)) (now (output .entry)) skip ⌝ }
+// One turn of a program that reads scene records and writes answers. At the input's start wait the bytes that the turn before kept, and behind them stand
+// those that were read now: then the answers to all that is whole stand at the output's start, what is left is kept at the input's start, and bytes behind
+// both keep their contents. A read that brought nothing has met the end: bytes that were kept are a record cut short. Where the input does not hold so many
+// bytes, or the output has not two for each of the input's and 18 more, nothing is done and the stream is closed.
+pub fn turn(input: &mut [u8], output: &mut [u8], before: Stream, read: usize) -> Stream
+    ensures { λ r. ⌜ lent r (now (input .exit)) (now (output .exit)) ≡ turnOver (now (input .entry)) (now (output .entry)) before read ⌝ }
 {
-    let mut place = Place {
-        used: 0,
-        put: 0,
-        skip,
-    };
-    loop {
-        let Step::More(next) = steps::step(input, output, place) else {
-            return place;
+    let kept = before.kept;
+    if !flow::is_room(input.len(), output.len(), kept, read) {
+        return Stream::CLOSED;
+    }
+    if read == 0 {
+        let put = flow::finish(kept, output);
+        return Stream {
+            put,
+            ..Stream::CLOSED
         };
-        place = next;
     }
-}
-
-// The end of the input, with so many bytes left over: they are a record cut short, which gets 2 at the output's start. How many bytes were written: 4; or none,
-// where nothing is left over or the output is shorter.
-pub fn finish(left: usize, output: &mut [u8]) -> usize
-    ensures { λ r. ⌜ put r (now (output .exit)) ≡ finishedOver left (now (output .entry)) ⌝ }
-{
-    if left == 0 {
-        return 0;
+    let there = kept + read;
+    let place = flow::work(&input[0..there], output, before.skip);
+    let left = there - place.used;
+    kept::shift(input, place.used, left);
+    Stream {
+        put: place.put,
+        kept: left,
+        skip: place.skip,
+        more: true,
     }
-    let judged = answer_records::write_refusal(output, 2);
-    match judged {
-        Judged::Fine => Answer::REFUSAL_BYTES,
-        Judged::Fault(_) => 0,
-    }
-}
-
-// Moves the bytes from `from` up to `end` to the buffer's start, and answers how many they are. Where these are no places of the buffer, nothing is moved.
-pub fn keep(buffer: &mut [u8], from: usize, end: usize) -> usize
-    ensures { λ r. ⌜ put r (now (buffer .exit)) ≡ keptOver from end (now (buffer .entry)) ⌝ }
-{
-    if end < from {
-        return 0;
-    }
-    if buffer.len() < end {
-        return 0;
-    }
-    let count = end - from;
-    kept::shift(buffer, from, count);
-    count
 }

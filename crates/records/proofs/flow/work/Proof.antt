@@ -1,11 +1,11 @@
--- `records::work` meets its contract. Assumes nothing.
+-- `records::flow::work` meets its contract. Assumes nothing.
 use borrow.Author.Needs.{needs}
 use native.Mathlib.Omega.{arith}
 use Prim.Native.Nat.{_-_}
 use lib.ListN.{length}
-use Rattle.records.proofs.TurnLaws.{Going, begins, turn, goes-on, ends}
-use Rattle.records.proofs.work.Statement.{statement}
-use Rattle.records.proofs.work.Tie as tie
+use Rattle.records.proofs.LoopLaws.{Going, begins, advance, goes-on, ends}
+use Rattle.records.proofs.flow.work.Statement.{statement}
+use Rattle.records.proofs.flow.work.Tie as tie
 
 abbrev Inv-loop : tie.InvT-loop
 Inv-loop input output₀ skip place₀ output place = Going input output₀ skip output place
@@ -30,7 +30,7 @@ returns c =
 loop-less : tie.Need-loop-less Inv-loop μ-loop
 loop-less c =
     let l = c .before .before .before .before .before .before .before in
-    let t = turn _ _ _ _ _ (l .loop .inv) _ _ (rw (c .before .next .given .1) at (c .before .before .before .before .before .step .ensures)) in
+    let t = advance _ _ _ _ _ (l .loop .inv) _ _ (rw (c .before .next .given .1) at (c .before .before .before .before .before .step .ensures)) in
     omega (arith, t .moves, t .inside)
 
 loop-again : tie.Need-loop-again Inv-loop μ-loop
