@@ -3,3 +3,4 @@ pub mod WrittenLaws
 pub mod ReplyLaws
 pub mod RoundTrips
 pub mod Agreement
+pub mod Constants

@@ -1,21 +1,21 @@
 -- Laws of reading a record: what a record without a fault is. Assumes nothing.
 use Prim.Native.Nat.{ℕ, _+_, _≤_}
 use native.Mathlib.Omega.{arith}
-use mathlib.Core.Path.{_≡_}
-use mathlib.Core.Bool.{true}
+use mathlib.Core.Path.{_≡_, _∙_}
+use mathlib.Core.Bool.{true, _&&_}
 use mathlib.Core.List.{List}
 use mathlib.Core.Logic.{_⊎_, inl, inr, ⊎-elim}
 use lib.Dec.{eqb, leb}
 use lib.ListN.{length, getD}
-use borrow.Author.Tests.{eqb-true}
-use Rattle.arithmetic.proofs.Choice.{or-cases}
+use borrow.Author.Tests.{eqb-true, leb-true}
+use Rattle.arithmetic.proofs.Choice.{if-all, if-case, and-left, and-right, or-cases}
 use Rattle.words.specs.Words.{pairOf}
 use Rattle.admission.specs.Faults.{fine, must}
 use Rattle.admission.proofs.FaultLaws.{⊳-fine, must-fine}
-use Rattle.answer_records.specs.Answers.{outcomeLength, refusalLength, answerVersion}
+use Rattle.answer_records.specs.Answers.{outcomeLength, refusalLength, answerVersion, refusedCode}
 use Rattle.answer_records.specs.Replies.{isLength, lengthOfCode, answerFault}
 
-two-lengths : (n : ℕ) → isLength n ≡ true → (n ≡ outcomeLength) ⊎ (n ≡ refusalLength)
+pub two-lengths : (n : ℕ) → isLength n ≡ true → (n ≡ outcomeLength) ⊎ (n ≡ refusalLength)
 unfolding isLength
 two-lengths n h = ⊎-elim (λ e. inl (eqb-true _ _ e)) (λ e. inr (eqb-true _ _ e)) (or-cases (eqb n outcomeLength) (eqb n refusalLength) h)
 
@@ -45,3 +45,28 @@ faultless s e =
 
 pub code-there : (s : List ℕ) → answerFault s ≡ fine → 4 ≤ length s
 code-there s e = let w = faultless s e in omega (arith, has-code _ (w .named), w .matched)
+
+-- ---- what a code is by its length
+
+pub outcome-code : (k : ℕ) → lengthOfCode k ≡ outcomeLength → (1 ≤ k) × (k ≤ 5)
+unfolding lengthOfCode
+outcome-code k =
+    if-case (λ (n : ℕ). n ≡ outcomeLength → (1 ≤ k) × (k ≤ 5)) (leb 1 k && leb k 5)
+    (λ b e. (leb-true 1 k (and-left (leb 1 k) (leb k 5) b), leb-true k 5 (and-right (leb 1 k) (leb k 5) b)))
+    (λ b. if-all (λ (n : ℕ). n ≡ outcomeLength → (1 ≤ k) × (k ≤ 5)) (leb 129 k && leb k 138) (λ e. absurd (omega arith)) (λ e. absurd (omega arith)))
+
+pub refusal-code : (k : ℕ) → lengthOfCode k ≡ refusalLength → (129 ≤ k) × (k ≤ 138)
+unfolding lengthOfCode
+refusal-code k =
+    if-case (λ (n : ℕ). n ≡ refusalLength → (129 ≤ k) × (k ≤ 138)) (leb 1 k && leb k 5) (λ b e. absurd (omega arith))
+    (λ b. if-case (λ (n : ℕ). n ≡ refusalLength → (129 ≤ k) × (k ≤ 138)) (leb 129 k && leb k 138)
+    (λ d e. (leb-true 129 k (and-left (leb 129 k) (leb k 138) d), leb-true k 138 (and-right (leb 129 k) (leb k 138) d)))
+    (λ d e. absurd (omega arith)))
+
+-- a record without a fault that is no outcome's is a refusal's
+module _ (s : List ℕ) (e : answerFault s ≡ fine) (other : pairOf s 0 ≡ outcomeLength → ⊥) where
+  pub refusal-named : pairOf s 0 ≡ refusalLength
+  refusal-named = ⊎-elim (λ n. absurd (other n)) (λ n. n) (two-lengths (pairOf s 0) (faultless s e .named))
+
+  pub refusal-coded : refusedCode ≤ getD s 3 0
+  refusal-coded = omega (arith, refusal-code (getD s 3 0) (faultless s e .coded ∙ refusal-named) .0)

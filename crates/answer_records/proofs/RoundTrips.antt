@@ -3,21 +3,21 @@ use Prim.Native.Nat.{ℕ, zero, suc, _+_, _-_, _/_, _%_, _^_, _≤_, _<_}
 use native.Mathlib.Omega.{arith}
 use native.Mathlib.Nat.{div-one}
 use mathlib.Core.Path.{_≡_, refl, sym, ap, _∙_}
-use mathlib.Core.Bool.{Bool, true, false, _&&_}
+use mathlib.Core.Bool.{Bool, true, false}
 use mathlib.Core.List.{List, [], _∷_}
-use lib.Dec.{leb, ltb}
+use lib.Dec.{eqb}
 use lib.ListN.{length, getD}
-use borrow.Author.Tests.{le-leb, lt-leb, lt-ltb, le-ltb, ltb-true, ltb-false}
+use borrow.Author.Tests.{le-leb, lt-leb, eq-eqb, eqb-true, eqb-false}
 use Rattle.arithmetic.specs.Binary32.{if_then_else_}
 use Rattle.words.specs.Words.{pairOf, wordOf}
 use Rattle.fields.specs.Bytes.{bigEndianNumber, bigEndianFrom, bigEndian, AllBytes}
 use Rattle.fields.proofs.ByteLaws.{number-of-bytes}
 use Rattle.admission.specs.Faults.{Fault, fine, fault, unlessFault}
 use Rattle.answer_records.specs.declared.Answer.{Answer}
-use Rattle.answer_records.specs.declared.Reply.the-variants as reply
+use Rattle.answer_records.specs.Replies as said
 use Rattle.answer_records.specs.Answers.{outcomeLength, refusalLength, answerBytes, refusalBytes}
 use Rattle.answer_records.specs.Replies.{isLength, lengthOfCode, answerFault, outcomeIn, answerIn}
-use Rattle.answer_records.proofs.ReplyLaws.{Faultless, faultless, has-code}
+use Rattle.answer_records.proofs.ReplyLaws.{Faultless, faultless, refusal-named, refusal-coded}
 
 -- ---- numbers and their bytes
 
@@ -65,6 +65,10 @@ pub record Fits (a : Answer) : Type 0 where
   pub failed : a .failed < 2 ^ 16
   pub probes : a .probes < 2 ^ 32
 
+its-length : (a : Answer) → pairOf (answerBytes a) 0 ≡ outcomeLength
+unfolding pairOf answerBytes bigEndian
+its-length a = refl
+
 module _ (a : Answer) (fits : Fits a) where
   same-outcome : outcomeIn (answerBytes a) ≡ a
   unfolding outcomeIn answerBytes bigEndian bigEndianNumber bigEndianFrom wordOf pairOf
@@ -79,13 +83,12 @@ module _ (a : Answer) (fits : Fits a) where
   unfolding answerFault answerBytes bigEndian pairOf isLength lengthOfCode if_then_else_
   outcome-fine = rw (le-leb 1 (a .code) (fits .least), le-leb (a .code) 5 (fits .most))
 
-  outcome-code : ltb (getD (answerBytes a) 3 0) 128 ≡ true
-  unfolding answerBytes bigEndian
-  outcome-code = lt-ltb (a .code) 128 (omega (arith, fits .most))
-
-  pub outcome-read-back : answerIn (answerBytes a) ≡ reply.Outcome a
+  pub outcome-read-back : answerIn (answerBytes a) ≡ said.outcome a
   unfolding answerIn if_then_else_
-  outcome-read-back = rw (outcome-fine, outcome-code, same-outcome)
+  outcome-read-back = rw (outcome-fine, outcome-named, same-outcome)
+    where
+      outcome-named : eqb (pairOf (answerBytes a) 0) outcomeLength ≡ true
+      outcome-named = eq-eqb _ _ (its-length a)
 
 module _ (n : ℕ) (least : 1 ≤ n) (most : n ≤ 10) where
   code-of : (128 + n) % 256 ≡ 128 + n
@@ -95,48 +98,28 @@ module _ (n : ℕ) (least : 1 ≤ n) (most : n ≤ 10) where
   unfolding answerFault refusalBytes bigEndian pairOf isLength lengthOfCode if_then_else_
   refusal-fine = rw (code-of, le-leb 1 (128 + n) (omega arith), lt-leb (128 + n) 5 (omega arith), le-leb 129 (128 + n) (omega arith), le-leb (128 + n) 138 (omega arith))
 
-  pub refusal-read-back : answerIn (refusalBytes n) ≡ reply.Refusal n
-  unfolding answerIn refusalBytes bigEndian if_then_else_
+  pub refusal-read-back : answerIn (refusalBytes n) ≡ said.refusal n
+  unfolding answerIn refusalBytes bigEndian pairOf if_then_else_
   refusal-read-back =
       let number : 128 + n - 128 ≡ n = omega arith in
-      rw (refusal-fine, code-of, le-ltb (128 + n) 128 (omega arith), number)
+      rw (refusal-fine, code-of, number)
 
 -- ---- what is read is written again
 
--- where an outcome is read there is no fault, the code lies below 128, and it is the record's outcome; a refusal alike
-read-outcome : {C : Type 0} (f : Fault) (below : Bool) (o : Answer) (n : ℕ) (a : Answer) → unlessFault reply.Fault f (if below then reply.Outcome o else reply.Refusal n) ≡ reply.Outcome a →
-    (f ≡ fine → below ≡ true → o ≡ a → C) → C
+-- where an outcome is read there is no fault, the length is an outcome's, and it is the record's outcome; a refusal alike
+read-outcome : {C : Type 0} (f : Fault) (named : Bool) (o : Answer) (n : ℕ) (a : Answer) → unlessFault said.unreadable f (if named then said.outcome o else said.refusal n) ≡ said.outcome a →
+    (f ≡ fine → named ≡ true → o ≡ a → C) → C
 unfolding if_then_else_
 read-outcome fine true o n a e go = go refl refl cc
 read-outcome fine false o n a e go = absurd (let z : _≡_ {A = ℕ} 0 1 = cc in omega arith)
-read-outcome (fault r) below o n a e go = absurd (let z : _≡_ {A = ℕ} 0 1 = cc in omega arith)
+read-outcome (fault r) named o n a e go = absurd (let z : _≡_ {A = ℕ} 0 1 = cc in omega arith)
 
-read-refusal : {C : Type 0} (f : Fault) (below : Bool) (o : Answer) (n m : ℕ) → unlessFault reply.Fault f (if below then reply.Outcome o else reply.Refusal n) ≡ reply.Refusal m →
-    (f ≡ fine → below ≡ false → n ≡ m → C) → C
+read-refusal : {C : Type 0} (f : Fault) (named : Bool) (o : Answer) (n m : ℕ) → unlessFault said.unreadable f (if named then said.outcome o else said.refusal n) ≡ said.refusal m →
+    (f ≡ fine → named ≡ false → n ≡ m → C) → C
 unfolding if_then_else_
 read-refusal fine true o n m e go = absurd (let z : _≡_ {A = ℕ} 0 1 = cc in omega arith)
 read-refusal fine false o n m e go = go refl refl cc
-read-refusal (fault r) below o n m e go = absurd (let z : _≡_ {A = ℕ} 0 1 = cc in omega arith)
-
--- a length that goes with one kind of code alone, where it is one
-only : (w : ℕ) (b : Bool) → 2 ≤ (if b then w else 0) → (if b then w else 0) ≡ w
-unfolding if_then_else_
-only w true h = refl
-only w false h = absurd (omega arith)
-
-code-below : (k : ℕ) → k < 128 → lengthOfCode k ≡ (if leb 1 k && leb k 5 then outcomeLength else 0)
-unfolding lengthOfCode if_then_else_
-code-below k h = rw (lt-leb 129 k (omega arith))
-
-code-above : (k : ℕ) → 128 ≤ k → lengthOfCode k ≡ (if leb 129 k && leb k 138 then refusalLength else 0)
-unfolding lengthOfCode if_then_else_
-code-above k h = rw (le-leb 1 k (omega arith), lt-leb k 5 (omega arith))
-
--- the record's length where its code's is known
-named-length : (s : List ℕ) (w : ℕ) (b : Bool) → Faultless s → lengthOfCode (getD s 3 0) ≡ (if b then w else 0) → pairOf s 0 ≡ w
-named-length s w b whole e =
-    let same : pairOf s 0 ≡ (if b then w else 0) = sym (whole .coded) ∙ e in
-    same ∙ only w b (rw same at (has-code (pairOf s 0) (whole .named)))
+read-refusal (fault r) named o n m e go = absurd (let z : _≡_ {A = ℕ} 0 1 = cc in omega arith)
 
 -- the record by its bytes, and its length field's two
 its-bytes : (s : List ℕ) (w : ℕ) → Faultless s → pairOf s 0 ≡ w → s ≡ upTo (2 + w) (λ i. getD s i 0)
@@ -146,20 +129,21 @@ module _ (s : List ℕ) (bytes : AllBytes s) where
   length-bytes : (w : ℕ) → pairOf s 0 ≡ w → bigEndian 2 w ≡ getD s 0 0 ∷ getD s 1 0 ∷ []
   length-bytes w e = ap (bigEndian 2) (sym e) ∙ pair-bytes s 0 bytes
 
-  pub outcome-written-again : (a : Answer) → answerIn s ≡ reply.Outcome a → s ≡ answerBytes a
+  pub outcome-written-again : (a : Answer) → answerIn s ≡ said.outcome a → s ≡ answerBytes a
   unfolding answerIn answerBytes outcomeIn upTo
   outcome-written-again a e =
-      read-outcome (answerFault s) (ltb (getD s 3 0) 128) (outcomeIn s) _ a e λ f b o.
+      read-outcome (answerFault s) (eqb (pairOf s 0) outcomeLength) (outcomeIn s) _ a e λ f b o.
       let whole = faultless s f in
-      let n : pairOf s 0 ≡ outcomeLength = named-length s outcomeLength _ whole (code-below (getD s 3 0) (ltb-true _ _ b)) in
+      let n : pairOf s 0 ≡ outcomeLength = eqb-true _ _ b in
       its-bytes s outcomeLength whole n ∙ rw (← o, length-bytes outcomeLength n, word-bytes s 4 bytes, word-bytes s 8 bytes, pair-bytes s 12 bytes, word-bytes s 14 bytes, whole .version)
 
-  pub refusal-written-again : (n : ℕ) → answerIn s ≡ reply.Refusal n → s ≡ refusalBytes n
+  pub refusal-written-again : (n : ℕ) → answerIn s ≡ said.refusal n → s ≡ refusalBytes n
   unfolding answerIn refusalBytes upTo
   refusal-written-again m e =
-      read-refusal (answerFault s) (ltb (getD s 3 0) 128) (outcomeIn s) _ m e λ f b o.
+      read-refusal (answerFault s) (eqb (pairOf s 0) outcomeLength) (outcomeIn s) _ m e λ f b o.
       let whole = faultless s f in
-      let high : 128 ≤ getD s 3 0 = ltb-false _ _ b in
-      let n : pairOf s 0 ≡ refusalLength = named-length s refusalLength _ whole (code-above (getD s 3 0) high) in
+      let other : pairOf s 0 ≡ outcomeLength → ⊥ = eqb-false _ _ b in
+      let n : pairOf s 0 ≡ refusalLength = refusal-named s f other in
+      let high : 128 ≤ getD s 3 0 = refusal-coded s f other in
       let code : (128 + m) % 256 ≡ getD s 3 0 = omega (arith, bytes 3) in
       its-bytes s refusalLength whole n ∙ rw (length-bytes refusalLength n, code, whole .version)

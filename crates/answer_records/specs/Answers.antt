@@ -23,13 +23,21 @@ answerVersion = 1
 abbrev pub longestAnswer : ℕ
 longestAnswer = 18
 
+-- "FFFF for none"
+abbrev pub noFailedLine : ℕ
+noFailedLine = 0xFFFF
+
+-- "128 + number" is a refusal's code
+abbrev pub refusedCode : ℕ
+refusedCode = 128
+
 -- "Answer: length 16, version 1, outcome, x, y, failed line (2 bytes, FFFF for none), probes (4 bytes)"
 unfoldable pub answerBytes : Answer → List ℕ
 answerBytes a = bigEndian 2 outcomeLength ++ answerVersion ∷ a .code ∷ bigEndian 4 (a .x) ++ bigEndian 4 (a .y) ++ bigEndian 2 (a .failed) ++ bigEndian 4 (a .probes)
 
 -- "a refused scene as 00 02 01 and 128 + number". A code is a byte: numbers go up to 10, and one over 127 is never read as a refusal's
 unfoldable pub refusalBytes : ℕ → List ℕ
-refusalBytes n = bigEndian 2 refusalLength ++ answerVersion ∷ (128 + n) % 256 ∷ []
+refusalBytes n = bigEndian 2 refusalLength ++ answerVersion ∷ (refusedCode + n) % 256 ∷ []
 
 -- what a writer tells, and what the buffer holds then
 pub record Written : Type 0 where

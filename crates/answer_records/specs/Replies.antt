@@ -2,7 +2,7 @@
 use Prim.Native.Nat.{ℕ, _+_, _-_}
 use mathlib.Core.Bool.{Bool, _&&_, _||_}
 use mathlib.Core.List.{List}
-use lib.Dec.{eqb, leb, ltb}
+use lib.Dec.{eqb, leb}
 use lib.ListN.{length, getD}
 use Rattle.arithmetic.specs.Binary32.{if_then_else_}
 use Rattle.words.specs.Words.{pairOf, wordOf}
@@ -10,12 +10,23 @@ use Rattle.admission.specs.Faults.{Fault, must, _⊳_, unlessFault}
 use Rattle.answer_records.specs.declared.Answer.{Answer}
 use Rattle.answer_records.specs.declared.Reply.{Reply}
 use Rattle.answer_records.specs.declared.Reply.the-variants as reply
-use Rattle.answer_records.specs.Answers.{outcomeLength, refusalLength, answerVersion}
+use Rattle.answer_records.specs.Answers.{outcomeLength, refusalLength, answerVersion, refusedCode}
+
+-- what a record says: an outcome with its number and values, a refused scene by its number, or the number of the record's own fault
+pub data Said : Type 0 where
+  outcome : Answer → Said
+  refusal : ℕ → Said
+  unreadable : ℕ → Said
+
+abbrev pub saidOf : Reply → Said
+saidOf (reply.Outcome a) = outcome a
+saidOf (reply.Refusal n) = refusal n
+saidOf (reply.Fault n) = unreadable n
 
 unfoldable pub isLength : ℕ → Bool
 isLength n = eqb n outcomeLength || eqb n refusalLength
 
--- "codes 1 to 5 and 129 to 138 only, the first with length 16, the second with length 2"; 0 is the length of no record
+-- "codes 1 to 5 and 129 to 138 only, the first with length 16, the second with length 2"; 0 is the length of no record. No other place knows the codes
 unfoldable pub lengthOfCode : ℕ → ℕ
 lengthOfCode code = if leb 1 code && leb code 5 then outcomeLength else (if leb 129 code && leb code 138 then refusalLength else 0)
 
@@ -32,6 +43,6 @@ answerFault s =
 unfoldable pub outcomeIn : List ℕ → Answer
 outcomeIn s = record { code = getD s 3 0; x = wordOf s 4; y = wordOf s 8; failed = pairOf s 12; probes = wordOf s 14 }
 
--- an outcome's code lies below 128, a refusal's is 128 and its number
-unfoldable pub answerIn : List ℕ → Reply
-answerIn s = unlessFault reply.Fault (answerFault s) (if ltb (getD s 3 0) 128 then reply.Outcome (outcomeIn s) else reply.Refusal (getD s 3 0 - 128))
+-- a record is an outcome's or a refusal's by its length
+unfoldable pub answerIn : List ℕ → Said
+answerIn s = unlessFault unreadable (answerFault s) (if eqb (pairOf s 0) outcomeLength then outcome (outcomeIn s) else refusal (getD s 3 0 - refusedCode))

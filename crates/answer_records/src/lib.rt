@@ -7,7 +7,7 @@ ghost use lib.Seq.{sets};
 ghost use Rattle.fields.specs.Bytes.{bigEndian};
 ghost use Rattle.admission.specs.Faults.{faultOf};
 ghost use Rattle.answer_records.specs.Answers.{answerBytes, refusalBytes, laid, writtenOf};
-ghost use Rattle.answer_records.specs.Replies.{isLength, lengthOfCode, answerFault, outcomeIn, answerIn};
+ghost use Rattle.answer_records.specs.Replies.{isLength, lengthOfCode, answerFault, outcomeIn, saidOf, answerIn};
 
 // An outcome as its record has it: the point by its bits, FFFF where no line failed.
 pub struct Answer {
@@ -32,6 +32,9 @@ impl Answer {
     pub const VERSION: u8 = 1;
 
     pub const NO_LINE: u16 = 0xffff;
+
+    // A refusal's code is this and its number.
+    pub const REFUSED: u8 = 128;
 }
 
 // What a record says: an outcome, a scene's refusal by its number, or the number of the record's own fault.
@@ -68,24 +71,23 @@ pub fn write_refusal(buffer: &mut [u8], number: u8) -> Judged
     }
     put_pair(buffer, 0, Answer::REFUSAL_LENGTH);
     buffer[2] = Answer::VERSION;
-    buffer[3] = std::num::wrapping_add_u8(128, number);
+    buffer[3] = std::num::wrapping_add_u8(Answer::REFUSED, number);
     Judged::Fine
 }
 
 // What one whole record says. Fewer than two bytes, a length that is neither 16 nor 2, or bytes that do not match it, are the fault 2; another version 1;
 // a code not of its length 2. Point, failed line and probes are taken as they stand.
 pub fn read_answer(bytes: &[u8]) -> Reply
-    ensures { λ r. ⌜ r ≡ answerIn (now (bytes .entry)) ⌝ }
+    ensures { λ r. ⌜ saidOf r ≡ answerIn (now (bytes .entry)) ⌝ }
 {
     let judged = judge_answer(bytes);
     if let Judged::Fault(number) = judged {
         return Reply::Fault(number);
     }
-    let code = bytes[3];
-    if code < 128 {
+    if words::pair_at(bytes, 0) == Answer::LENGTH {
         return Reply::Outcome(outcome_in(bytes));
     }
-    Reply::Refusal(code - 128)
+    Reply::Refusal(bytes[3] - Answer::REFUSED)
 }
 
 // The first fault of a record.
@@ -114,7 +116,7 @@ fn is_length(length: u16) -> bool
     length == Answer::LENGTH || length == Answer::REFUSAL_LENGTH
 }
 
-// The length that goes with a code. No record names 0, so every other code is refused.
+// The length that goes with a code: the one place that knows the codes. No record names 0, so every other code is refused.
 fn length_of_code(code: u8) -> u16
     ensures { λ r. ⌜ r ≡ lengthOfCode code ⌝ }
 {

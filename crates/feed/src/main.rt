@@ -27,7 +27,8 @@ fn write(answers: &[u8]) -> bool {
     false
 }
 
-// One read, behind what is kept, a turn of the stream, and one write. An output that fails ends it, and so does an input that fails, as its end does.
+// One read, behind what is kept, a turn of the stream, and one write. An output that fails ends it, and so does an input that
+// fails, as its end does.
 fn turn(input: &mut [u8], output: &mut [u8], before: Stream) -> Stream
     requires { ⌜ Ready (length (now input)) (length (now output)) (before .kept) ⌝ }
     ensures { λ r. ⌜ Follows before (now (input .entry)) r (now (input .exit)) (now (output .exit)) ⌝ }

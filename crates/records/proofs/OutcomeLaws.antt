@@ -1,11 +1,13 @@
 -- The answer reader takes the reply to every record that is solved, and reads the outcome back. Assumes nothing.
-use Prim.Native.Nat.{ℕ, _+_, _^_, _≤_, _<_}
+use Prim.Native.Nat.{ℕ, _+_, _%_, _^_, _≤_, _<_}
 use native.Mathlib.Omega.{arith}
+use native.Mathlib.Nat.{mod-eq-of-lt}
 use mathlib.Core.Path.{_≡_, refl}
-use mathlib.Core.Bool.{true}
+use mathlib.Core.Bool.{true, false}
 use mathlib.Core.List.{List}
 use lib.Ieee.{Float, binary32, fits, isNan, toBits}
 use lib.Ieee.Bits.{toBits-lt}
+use Rattle.arithmetic.specs.Binary32.{if_then_else_}
 use Rattle.arithmetic.proofs.Choice.{if-all}
 use Rattle.admission.specs.Faults.{fine}
 use Rattle.common.specs.declared.Vec2.{Vec2}
@@ -18,7 +20,7 @@ use Rattle.dodgy_2d.proofs.SceneTold.{Told, answered, scene-told}
 use Rattle.fields.specs.Got.{got}
 use Rattle.scene_records.specs.Records.{sceneInVersion1}
 use Rattle.scene_records.proofs.ReadAdmitted.{read-admitted-version-1}
-use Rattle.answer_records.specs.declared.Reply.the-variants as reply
+use Rattle.answer_records.specs.Replies as said
 use Rattle.answer_records.specs.Replies.{answerIn}
 use Rattle.answer_records.proofs.RoundTrips.{Fits, outcome-read-back}
 use Rattle.records.specs.Answered as one
@@ -28,12 +30,21 @@ use Rattle.records.specs.Answered as one
 record Below (n x : ℕ) : Type 0 where
   pub low : x < n
 
-pattern-fits : (x : Float) → fits binary32 x ≡ true → one.patternOf x < 2 ^ 32
+pattern-fits : (x : Float) → one.patternOf x < 2 ^ 32
 unfolding one.patternOf
-pattern-fits x h =
-    let bits : Below (2 ^ 32) (toBits binary32 x) = record { low = toBits-lt binary32 x (rw h tt) } in
+pattern-fits x =
+    let bits : Below (2 ^ 32) (toBits binary32 x % 2 ^ 32) = record { low = omega arith } in
     let quiet : Below (2 ^ 32) 0x7FC0_0000 = record { low = omega arith } in
     if-all (Below (2 ^ 32)) (isNan x) quiet bits .low
+
+-- an f32's bits are four bytes
+pub pattern-whole : (x : Float) → fits binary32 x ≡ true → toBits binary32 x % 2 ^ 32 ≡ toBits binary32 x
+pattern-whole x h = mod-eq-of-lt (toBits-lt binary32 x (rw h tt))
+
+-- so its pattern is its bits
+pub pattern-bits : (x : Float) → fits binary32 x ≡ true → isNan x ≡ false → one.patternOf x ≡ toBits binary32 x
+unfolding one.patternOf if_then_else_
+pattern-bits x h n = rw n (pattern-whole x h)
 
 place-fits : (f : Failed) → one.placeIn f < 2 ^ 16
 place-fits noLine = omega arith
@@ -66,18 +77,18 @@ module _ (c : Scene) (fair : sceneFault c ≡ fine) (code : ℕ) (p : Vec2) (f :
 told-code : {c : Scene} {code : ℕ} {p : Vec2} {f : Failed} {n : ℕ} → Told c (outcome code p f n) → (1 ≤ code) × (code ≤ 5)
 told-code (answered h) = h
 
--- Where a record is read and its scene solved, to a point of two f32, the answer reader reads that outcome.
-pub outcome-taken : (s : List ℕ) (c : Scene) (m code : ℕ) (p : Vec2) (f : Failed) (n : ℕ) → sceneInVersion1 s ≡ got c m → sceneOutcome c ≡ outcome code p f n → fits binary32 (p .x) ≡ true →
-    fits binary32 (p .y) ≡ true → answerIn (one.replyTo s) ≡ reply.Outcome (one.answerOf code p f n)
+-- Where a record is read and its scene solved, the answer reader reads that outcome.
+pub outcome-taken : (s : List ℕ) (c : Scene) (m code : ℕ) (p : Vec2) (f : Failed) (n : ℕ) → sceneInVersion1 s ≡ got c m → sceneOutcome c ≡ outcome code p f n
+    → answerIn (one.replyTo s) ≡ said.outcome (one.answerOf code p f n)
 unfolding one.replyTo one.answered
-outcome-taken s c m code p f n z e x y =
+outcome-taken s c m code p f n z e =
     let number = told-code (rw e at (scene-told c)) in
     let few = probes-few c (read-admitted-version-1 s c m z) code p f n e in
     let numbers : Fits (one.answerOf code p f n) = record {
       least = number .0;
       most = number .1;
-      x = pattern-fits (p .x) x;
-      y = pattern-fits (p .y) y;
+      x = pattern-fits (p .x);
+      y = pattern-fits (p .y);
       failed = place-fits f;
       probes = omega arith;
     } in

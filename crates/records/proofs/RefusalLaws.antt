@@ -31,7 +31,7 @@ use Rattle.scene_records.specs.Steps.{version, count, number, vector, ended}
 use Rattle.scene_records.specs.Parts.{cart, head, verticesAt, obstacle, obstacles, neighbour, neighbours}
 use Rattle.scene_records.specs.Records.{longestRest, announced, fieldsIn, sceneInVersion1}
 use Rattle.scene_records.proofs.ReadAdmitted.{read-admitted-version-1}
-use Rattle.answer_records.specs.declared.Reply.the-variants as reply
+use Rattle.answer_records.specs.Replies as said
 use Rattle.answer_records.specs.Replies.{answerIn}
 use Rattle.answer_records.proofs.RoundTrips.{refusal-read-back}
 use Rattle.records.specs.Answered as one
@@ -213,6 +213,6 @@ refusal-numbered s r e =
     (leb-true 1 r (and-left (leb 1 r) (leb r 10) h), leb-true r 10 (and-right (leb 1 r) (leb r 10) h))
 
 -- .. and the answer reader takes the reply.
-pub refusal-taken : (s : List ℕ) (r : ℕ) → one.answered s ≡ one.refusal r → answerIn (one.replyTo s) ≡ reply.Refusal r
+pub refusal-taken : (s : List ℕ) (r : ℕ) → one.answered s ≡ one.refusal r → answerIn (one.replyTo s) ≡ said.refusal r
 unfolding one.replyTo
 refusal-taken s r e = let h = refusal-numbered s r e in rw e (refusal-read-back r (h .0) (h .1))

@@ -1,4 +1,5 @@
--- Laws of a turn over lent memory: the work with the output's room is that with unlimited room, and what is kept is what the work leaves. Assumes nothing.
+-- Laws of a turn over lent memory: the work with the output's room is that with unlimited room, and what is kept is what the work
+-- leaves. Assumes nothing.
 use Prim.Native.Nat.{ℕ, _+_, _-_, _*_, _≤_}
 use native.Mathlib.Omega.{arith}
 use native.Mathlib.Nat.{zero-add, sub-zero}

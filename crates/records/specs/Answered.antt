@@ -1,5 +1,5 @@
 -- One scene record answered, from bytes to bytes (01, "Records (ours)"). Definitions only. Assumes nothing.
-use Prim.Native.Nat.{ℕ, _%_}
+use Prim.Native.Nat.{ℕ, _%_, _^_}
 use mathlib.Core.List.{List}
 use lib.Dec.{leb}
 use lib.ListN.{length}
@@ -13,20 +13,20 @@ use Rattle.dodgy_2d.specs.Outcomes.{SceneOutcome, outcome, refusedScene, sceneO
 use Rattle.fields.specs.Got.{Got, refused, got}
 use Rattle.scene_records.specs.Records.{sceneInVersion1}
 use Rattle.answer_records.specs.declared.Answer.{Answer}
-use Rattle.answer_records.specs.Answers.{longestAnswer, answerBytes, refusalBytes, Written, written, laid}
+use Rattle.answer_records.specs.Answers.{longestAnswer, noFailedLine, answerBytes, refusalBytes, Written, written, laid}
 
 -- what is answered to one record: an outcome, or the number of a refusal
 pub data Answered : Type 0 where
   answer : Answer → Answered
   refusal : ℕ → Answered
 
--- a number's bits; a NaN, which no solve hands out, has those of the quiet one
+-- a number's bits, four bytes of them, which an f32 has; a NaN, which no solve hands out, has those of the quiet one
 unfoldable pub patternOf : Float → ℕ
-patternOf x = if isNan x then 0x7FC0_0000 else toBits binary32 x
+patternOf x = if isNan x then 0x7FC0_0000 else toBits binary32 x % 2 ^ 32
 
 -- "failed line (2 bytes, FFFF for none)"; an index of a list of at most 256 lines is itself
 abbrev pub placeIn : Failed → ℕ
-placeIn noLine = 0xFFFF
+placeIn noLine = noFailedLine
 placeIn (failedLine f) = f .index % 0x1_0000
 
 abbrev pub answerOf : ℕ → Vec2 → Failed → ℕ → Answer

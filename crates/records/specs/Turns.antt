@@ -1,4 +1,5 @@
--- The program (01, "Records (ours)"): turn behind turn, each on what a read brings; and a turn over lent memory. Definitions only. Assumes nothing.
+-- The program (01, "Records (ours)"): turn behind turn, each on what a read brings; and a turn over lent memory. Definitions only.
+-- Assumes nothing.
 use Prim.Native.Nat.{ℕ, _+_, _*_, _≤_}
 use mathlib.Core.Path.{_≡_}
 use mathlib.Core.Bool.{Bool, true, false, _&&_}
@@ -75,7 +76,8 @@ turnOver input output before read =
 
 -- ---- what a program keeps to
 
--- buffers of which each read may fill 64 KiB and more behind a record cut short, with room for all answers; fewer bytes are kept than the longest record has
+-- buffers of which each read may fill 64 KiB and more behind a record cut short, with room for all answers; fewer bytes are kept
+-- than the longest record has
 pub record Ready (input output kept : ℕ) : Type 0 where
   pub long : 65536 + (1 + longestRest) ≤ input
   pub room : 2 * input + longestAnswer ≤ output

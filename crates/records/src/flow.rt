@@ -11,7 +11,8 @@ ghost use Rattle.records.specs.Steps.{put, putAt};
 ghost use Rattle.records.specs.Streams.{standing, workedOver, lastAnswer};
 ghost use Rattle.records.specs.Turns.{hasRoomFor};
 
-// Whether the bytes kept and read lie in the input, and the output has two bytes for each of the input's and 18 more. No sum is made that could overflow.
+// Whether the bytes kept and read lie in the input, and the output has two bytes for each of the input's and 18 more. No sum is
+// made that could overflow.
 pub(crate) fn is_room(input: usize, output: usize, kept: usize, read: usize) -> bool
     ensures { λ r. ⌜ r ≡ hasRoomFor input output kept read ⌝ }
 {
@@ -24,8 +25,9 @@ pub(crate) fn is_room(input: usize, output: usize, kept: usize, read: usize) -> 
     admission::fits_behind(input, kept, read)
 }
 
-// Works the parts of a stream that the input holds from its start on: what is still to be skipped, then record behind record, each answered behind the other
-// at the output's start. It stops where the input holds no whole part more, or where the output has room for fewer than 18 bytes.
+// Works the parts of a stream that the input holds from its start on: what is still to be skipped, then record behind record, each
+// answered behind the other at the output's start. It stops where the input holds no whole part more, or where the output has room
+// for fewer than 18 bytes.
 pub(crate) fn work(input: &[u8], output: &mut [u8], skip: usize) -> Place
     ensures { λ r. ⌜ standing r (now (output .exit)) ≡ workedOver (now (input .entry)) (now (output .entry)) skip ⌝ }
 {
@@ -42,7 +44,8 @@ pub(crate) fn work(input: &[u8], output: &mut [u8], skip: usize) -> Place
     }
 }
 
-// The end of the input, with so many bytes left over: they are a record cut short, which gets 2 at the output's start. How many bytes were written.
+// The end of the input, with so many bytes left over: they are a record cut short, which gets 2 at the output's start. How many
+// bytes were written.
 pub(crate) fn finish(left: usize, output: &mut [u8]) -> usize
     requires { ⌜ longestAnswer ≤ length (now output) ⌝ }
     ensures { λ r. ⌜ put r (now (output .exit)) ≡ putAt 0 (lastAnswer left) (now (output .entry)) ⌝ }

@@ -13,8 +13,9 @@ mod outcome;
 mod parts;
 mod steps;
 
-// Where a stream of records stands after a turn: how many bytes of answers are at the output's start, to be written; how many bytes wait at the input's
-// start for the next read; how many bytes of an overlong record are still to be skipped; and whether there may be more to read.
+// Where a stream of records stands after a turn: how many bytes of answers are at the output's start, to be written; how many bytes
+// wait at the input's start for the next read; how many bytes of an overlong record are still to be skipped; and whether there may
+// be more to read.
 pub struct Stream {
     pub put: usize,
     pub kept: usize,
@@ -46,16 +47,16 @@ impl Stream {
     pub const OUTPUT: usize = 2 * Stream::INPUT + Answer::BYTES;
 }
 
-// How far the work on a stream got: the bytes of the input that are used, the bytes of answers that stand at the output's start, and how many bytes of an
-// overlong record are still to be skipped.
+// How far the work on a stream got: the bytes of the input that are used, the bytes of answers that stand at the output's start,
+// and how many bytes of an overlong record are still to be skipped.
 pub(crate) struct Place {
     pub(crate) used: usize,
     pub(crate) put: usize,
     pub(crate) skip: usize,
 }
 
-// What stands next in a stream: bytes of an overlong record to be skipped; the length that an overlong record names; a whole record, by the count of its bytes;
-// or nothing whole.
+// What stands next in a stream: bytes of an overlong record to be skipped; the length that an overlong record names; a whole
+// record, by the count of its bytes; or nothing whole.
 pub(crate) enum Part {
     Skipped(usize),
     Overlong(usize),
@@ -69,8 +70,8 @@ pub(crate) enum Step {
     Stop,
 }
 
-// Answers one scene record: the 18 bytes of its outcome at the buffer's start; bytes behind them keep their contents. Refused, with the buffer as it was:
-// a buffer of fewer than 18 bytes (10), then the record (1 to 7), then an edge line that is not admitted (9).
+// Answers one scene record: the 18 bytes of its outcome at the buffer's start; bytes behind them keep their contents. Refused, with
+// the buffer as it was: a buffer of fewer than 18 bytes (10), then the record (1 to 7), then an edge line that is not admitted (9).
 pub fn answer_record(bytes: &[u8], buffer: &mut [u8]) -> Judged
     ensures { λ r. ⌜ writtenOf r (now (buffer .exit)) ≡ answerTo (now (bytes .entry)) (now (buffer .entry)) ⌝ }
 {
@@ -87,10 +88,11 @@ pub fn answer_record(bytes: &[u8], buffer: &mut [u8]) -> Judged
     outcome::write_outcome(answer, buffer)
 }
 
-// One turn of a program that reads scene records and writes answers. At the input's start wait the bytes that the turn before kept, and behind them stand
-// those that were read now: then the answers to all that is whole stand at the output's start, what is left is kept at the input's start, and bytes behind
-// both keep their contents. A read that brought nothing has met the end: bytes that were kept are a record cut short. Where the input does not hold so many
-// bytes, or the output has not two for each of the input's and 18 more, nothing is done and the stream is closed.
+// One turn of a program that reads scene records and writes answers. At the input's start wait the bytes that the turn before kept,
+// and behind them stand those that were read now: then the answers to all that is whole stand at the output's start, what is left
+// is kept at the input's start, and bytes behind both keep their contents. A read that brought nothing has met the end: bytes that
+// were kept are a record cut short. Where the input does not hold so many bytes, or the output has not two for each of the input's
+// and 18 more, nothing is done and the stream is closed.
 pub fn turn(input: &mut [u8], output: &mut [u8], before: Stream, read: usize) -> Stream
     ensures { λ r. ⌜ lent r (now (input .exit)) (now (output .exit)) ≡ turnOver (now (input .entry)) (now (output .entry)) before read ⌝ }
 {

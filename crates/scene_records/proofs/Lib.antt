@@ -12,3 +12,4 @@ pub mod WrittenParts
 pub mod WrittenScenes
 pub mod SceneAllBytes
 pub mod AnswerLaws
+pub mod Constants

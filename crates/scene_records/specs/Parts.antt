@@ -8,14 +8,14 @@ use lib.Ieee.{Float}
 use Rattle.arithmetic.specs.Binary32.{0ᶠ, finite}
 use Rattle.admission.specs.declared.Head.{Head}
 use Rattle.admission.specs.Faults.{within, inside}
-use Rattle.admission.specs.Heads.{headOf, isKind, roomFor, isEmptyOpen}
+use Rattle.admission.specs.Heads.{mostTogether, headOf, isKind, roomFor, isEmptyOpen}
 use Rattle.common.specs.declared.Vec2.{Vec2}
 use Rattle.common.specs.Vectors.{lengthSquaredOf}
 use Rattle.lines.specs.declared.Line.{Line}
 use Rattle.lines.specs.Lines.{line}
 use Rattle.lines.specs.LineFaults.{lineReach, bandLow, bandHigh}
 use Rattle.linear_programming.specs.Admit.{reach, longest}
-use Rattle.dodgy_2d.specs.Scenes.{shortestHorizon, longestHorizon}
+use Rattle.dodgy_2d.specs.Scenes.{shortestHorizon, longestHorizon, mostObstacles}
 use Rattle.fields.specs.Bytes.{each}
 use Rattle.fields.specs.Got.{Got, refused, got, then, guard, word, many}
 use Rattle.scene_records.specs.declared.Cart.{Cart}
@@ -95,10 +95,10 @@ abbrev pub coordinates : Vec2 → List Float
 coordinates v = v .x ∷ v .y ∷ []
 
 unfoldable pub blankBytes : List ℕ
-blankBytes = replicate 16 0
+blankBytes = replicate mostObstacles 0
 
 unfoldable pub blankVertices : List Float
-blankVertices = replicate 384 0ᶠ
+blankVertices = replicate (2 * mostTogether) 0ᶠ
 
 -- the obstacles' kinds, vertex counts and vertices, obstacle behind obstacle
 pub record Walls : Type 0 where

@@ -11,6 +11,7 @@ use Rattle.dodgy_2d.specs.declared.Scene.{Scene}
 use Rattle.dodgy_2d.specs.Scenes.{headsIn, neighboursIn}
 use Rattle.fields.specs.Bytes.{bigEndian, each}
 use Rattle.scene_records.specs.declared.Cart.{Cart}
+use Rattle.scene_records.specs.Steps.{sceneVersion}
 use Rattle.scene_records.specs.Parts.{Obstacle}
 
 -- ---- the parts of a scene
@@ -47,7 +48,7 @@ lineBytes l = vectorBytes (l .point) ++ vectorBytes (l .direction)
 
 -- version, cart, obstacles, neighbour lines
 unfoldable pub bodyBytes : Cart → List Obstacle → List Line → List ℕ
-bodyBytes c os ls = bigEndian 1 1 ++ cartBytes c ++ bigEndian 1 (length os) ++ each obstacleBytes os ++ bigEndian 1 (length ls) ++ each lineBytes ls
+bodyBytes c os ls = bigEndian 1 sceneVersion ++ cartBytes c ++ bigEndian 1 (length os) ++ each obstacleBytes os ++ bigEndian 1 (length ls) ++ each lineBytes ls
 
 -- "two-byte length of the rest", then the rest
 unfoldable pub recordBytes : Cart → List Obstacle → List Line → List ℕ

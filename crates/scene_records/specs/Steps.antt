@@ -42,9 +42,12 @@ ruleOf rule.Finite = finite
 
 -- ---- the fields
 
+abbrev pub sceneVersion : ℕ
+sceneVersion = 1
+
 -- "version byte is not 1": 1
 unfoldable pub version : List ℕ → ℕ → Got (Unit {0})
-version s at = then (word 1 s at) λ v a. guard (eqb v 1) 1 (got tt a)
+version s at = then (word 1 s at) λ v a. guard (eqb v sceneVersion) 1 (got tt a)
 
 -- "a count is over its limit": 4
 unfoldable pub count : ℕ → List ℕ → ℕ → Got ℕ
