@@ -45,6 +45,10 @@ abbrev pub 0ᶠ : Float
 abbrev pub 1ᶠ : Float
 1ᶠ = bits 0x3F80_0000
 
+-- the solve's midpoint and the cutoff time of a degenerate edge have it
+abbrev pub halfᶠ : Float
+halfᶠ = bits 0x3F00_0000
+
 unfoldable pub if_then_else_ : {A : Type 0} → Bool → A → A → A
 if_then_else_ true a b = a
 if_then_else_ false a b = b

@@ -7,18 +7,17 @@ use mathlib.Core.List.{List, [], _∷_, map}
 use lib.IntN.{negsuc}
 use lib.ListN.{length, replicate}
 use lib.Ieee.{Float, fin}
-use Rattle.arithmetic.specs.Binary32.{bits}
+use Rattle.arithmetic.specs.Binary32.{bits, halfᶠ}
 use Rattle.arithmetic.specs.Root.{sqrtOf}
 use Rattle.common.specs.declared.Vec2.{Vec2}
-use Rattle.common.specs.Vectors.{vec}
+use Rattle.common.specs.Vectors.{vec, longest}
 use Rattle.lines.specs.declared.Line.{Line}
 use Rattle.lines.specs.Lines.{line, linesOf, numbersOf}
 use Rattle.lines.specs.LineFaults.{linesFault}
 use Rattle.linear_programming.specs.Whole.{Outcome, stands, refusal, solving, relaxing, rigidFailure, Failed, noLine, failedLine}
-use Rattle.linear_programming.specs.Admit.{longest, wishFault, judgedList, listCall}
+use Rattle.linear_programming.specs.Admit.{wishFault, judgedList, listCall}
 use Rattle.linear_programming.proofs.Computed.{computed as solved, +, −}
 use Rattle.edges.specs.declared.Agent.{Agent}
-use Rattle.edges.specs.Cutoffs.{halfᶠ}
 use Rattle.obstacles.specs.Obstacles.{Answer, lines, refused, obstacleCall}
 use Rattle.obstacles.proofs.Computed.{computed}
 

@@ -2,7 +2,7 @@
 -- Definitions only. Assumes nothing.
 use mathlib.Core.Bool.{Bool, _&&_}
 use lib.Ieee.{Float, neg}
-use Rattle.arithmetic.specs.Binary32.{_⊕_, _⊖_, _⊗_, _⊘_, _≈ᶠ_, 0ᶠ, 1ᶠ}
+use Rattle.arithmetic.specs.Binary32.{_⊕_, _⊖_, _⊗_, _⊘_, _≈ᶠ_, bits, 0ᶠ, 1ᶠ}
 use Rattle.arithmetic.specs.Root.{sqrtOf}
 use Rattle.common.specs.declared.Vec2.{Vec2}
 
@@ -11,6 +11,13 @@ vec x y = record { x = x; y = y }
 
 abbrev pub zeroVector : Vec2
 zeroVector = vec 0ᶠ 0ᶠ
+
+-- 01, "What is admitted": 65,536 for a component, 1,024 for a speed limit or a margin
+abbrev pub reach : Float
+reach = bits 0x4780_0000
+
+abbrev pub longest : Float
+longest = bits 0x4480_0000
 
 unfoldable pub addOf : Vec2 → Vec2 → Vec2
 addOf a b = vec (a .x ⊕ b .x) (a .y ⊕ b .y)

@@ -5,7 +5,7 @@ use mathlib.Core.List.{List}
 use lib.ListN.{length, take, drop, getD}
 use lib.Ieee.{Float}
 use Rattle.admission.specs.Faults.{fine, fault, must, within}
-use Rattle.linear_programming.specs.Admit.{reach}
+use Rattle.common.specs.Vectors.{reach}
 use Rattle.lines.proofs.Fold.{left-next, left-none}
 use Rattle.dodgy_2d.specs.Scenes.{numbersFault}
 

@@ -13,10 +13,11 @@ use Rattle.admission.specs.declared.Head.{Head}
 use Rattle.admission.specs.Faults.{fine, must, within, inside}
 use Rattle.admission.proofs.FaultLaws.{⊳-fine, must-fine}
 use Rattle.common.specs.declared.Vec2.{Vec2}
+use Rattle.common.specs.Vectors.{reach, longest}
 use Rattle.lines.specs.declared.Line.{Line}
 use Rattle.lines.specs.Lines.{linesOf}
 use Rattle.lines.specs.LineFaults.{linesFault}
-use Rattle.linear_programming.specs.Admit.{reach, longest, wishFault, judgedList, listCall}
+use Rattle.linear_programming.specs.Admit.{wishFault, judgedList, listCall}
 use Rattle.linear_programming.specs.Whole.{Phase, Failed, stands, wholeList}
 use Rattle.lines.proofs.JudgeLaws.{faults-append}
 use Rattle.lines.proofs.Rows.{lines-long, lines-take}

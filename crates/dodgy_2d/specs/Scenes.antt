@@ -13,7 +13,7 @@ use Rattle.common.specs.declared.Vec2.{Vec2}
 use Rattle.lines.specs.declared.Line.{Line}
 use Rattle.lines.specs.Lines.{linesOf}
 use Rattle.lines.specs.LineFaults.{linesFault}
-use Rattle.linear_programming.specs.Admit.{reach, longest}
+use Rattle.common.specs.Vectors.{reach, longest}
 use Rattle.dodgy_2d.specs.declared.Scene.{Scene}
 
 -- "Horizon: 1/1,024 to 1,024"

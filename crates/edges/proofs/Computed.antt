@@ -1,14 +1,13 @@
 -- What computing an edge's line opens, and the constants: antt computes that each bit pattern is the number that the Rust gives. Assumes nothing.
 use mathlib.Core.Path.{_≡_, refl}
 use mathlib.Core.Bool.{false}
-use mathlib.Core.List.{[], _∷_}
 use lib.Ieee.{binary32, round}
 use Rattle.common.specs.Vectors.{negOf, divOf, distanceSquaredOf, eqOf}
 use Rattle.lines.proofs.Computed.{computed as numbers}
 use Rattle.edges.specs.Cover.{coverEpsilon, isDeep, covers, isEdgeCovered}
 use Rattle.edges.specs.Collision.{shapeOf, inUnit, reaches, cornerLine, nextHandles, rightCornerLine}
 use Rattle.edges.specs.Shadows.{tangent, extended, sideDirection, isBeyond, shadowBeside}
-use Rattle.edges.specs.Cutoffs.{halfᶠ, tCutoff, cutoffOf, vertexLine, areBelow, projectsLeft, projectsRight, missesCutoff, distanceUnless, cutoffLine, besideShadow, shadowLine, atMostBoth, nearestLine, chooseLine}
+use Rattle.edges.specs.Cutoffs.{tCutoff, cutoffOf, vertexLine, areBelow, projectsLeft, projectsRight, missesCutoff, distanceUnless, cutoffLine, besideShadow, shadowLine, atMostBoth, nearestLine, chooseLine}
 use Rattle.edges.specs.EdgeLines.{isDegenerate, lineForShadows, alone, lineOfVertex, lineOfEdge, linePast, lineInFront, lineForEdge}
 
 unfoldable pub computed : Unit {0}
@@ -18,6 +17,7 @@ unfolding numbers negOf divOf distanceSquaredOf eqOf isDeep covers isEdgeCovered
     isDegenerate lineForShadows alone lineOfVertex lineOfEdge linePast lineInFront lineForEdge
 computed = tt
 
-pub constants : (coverEpsilon ∷ halfᶠ ∷ []) ≡ (round binary32 false 1 100000 ∷ round binary32 false 1 2 ∷ [])
+-- the constant's bit pattern is the number that the Rust gives
+pub constants : coverEpsilon ≡ round binary32 false 1 100000
 unfolding computed
 constants = refl

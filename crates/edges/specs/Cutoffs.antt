@@ -1,7 +1,7 @@
 -- The edge in velocity space, cut off at the horizon, and the line where the velocity projects to it or to its shadows. Definitions only. Assumes nothing.
 use mathlib.Core.Bool.{Bool, false, not, _&&_, _||_}
 use lib.Ieee.{Float, inf}
-use Rattle.arithmetic.specs.Binary32.{_⊘_, _≤ᶠ_, _<ᶠ_, bits, 0ᶠ, 1ᶠ, if_then_else_}
+use Rattle.arithmetic.specs.Binary32.{_⊘_, _≤ᶠ_, _<ᶠ_, 0ᶠ, 1ᶠ, halfᶠ, if_then_else_}
 use Rattle.common.specs.declared.Vec2.{Vec2}
 use Rattle.common.specs.Vectors.{addOf, subOf, negOf, mulOf, divOf, dotOf, perpOf, lengthSquaredOf, normalizeOf}
 use Rattle.lines.specs.declared.Line.{Line}
@@ -11,10 +11,6 @@ use Rattle.edges.specs.declared.Cutoff.{Cutoff}
 use Rattle.edges.specs.declared.Shadow.{Shadow}
 use Rattle.edges.specs.Edges.{Side, onLeft, onRight, EdgeLine, nothing, made}
 use Rattle.edges.specs.Collision.{inUnit}
-
--- 0.5
-abbrev pub halfᶠ : Float
-halfᶠ = bits 0x3F00_0000
 
 -- f32::INFINITY
 abbrev pub infinity : Float

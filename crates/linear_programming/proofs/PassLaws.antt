@@ -8,6 +8,7 @@ use lib.Ieee.{Float}
 use Rattle.arithmetic.proofs.Choice.{if-all}
 use Rattle.common.specs.declared.Vec2.{Vec2}
 use Rattle.lines.specs.declared.Line.{Line}
+use Rattle.lines.specs.Lines.{mostLines}
 use Rattle.linear_programming.specs.declared.LinearProgram2D.{LinearProgram2D}
 use Rattle.linear_programming.specs.declared.LinearProgram2D.the-variants as lp2d
 use Rattle.linear_programming.specs.Walk.{walk}
@@ -65,14 +66,14 @@ data Bounded (k : ℕ) : Pass → Type 0 where
   barred : {r : ℕ} → Bounded k (refused r)
 
 module _ (o : Objective) (limit : Float) where
-  line-bounded : (e : List Line) (own : Line) (s : Pass) → (length e ≤ 256 → Bounded (length e) s) →
-      length (e ++ (own ∷ [])) ≤ 256 → Bounded (length (e ++ (own ∷ []))) (passLine o limit e own s)
+  line-bounded : (e : List Line) (own : Line) (s : Pass) → (length e ≤ mostLines → Bounded (length e) s) →
+      length (e ++ (own ∷ [])) ≤ mostLines → Bounded (length (e ++ (own ∷ []))) (passLine o limit e own s)
   unfolding passLine
   line-bounded e own s h short =
       let k : length (e ++ (own ∷ [])) ≡ length e + 1 = length-append e (own ∷ []) in
       rw k (next (h (omega arith)) (omega arith))
     where
-      next : {t : Pass} → Bounded (length e) t → length e < 256 → Bounded (length e + 1) (passLine o limit e own t)
+      next : {t : Pass} → Bounded (length e) t → length e < mostLines → Bounded (length e + 1) (passLine o limit e own t)
       next (halted {f} {n = n} a b) room = halted {f = f} {n = n} (omega arith) (omega arith)
       next barred room = barred
       next (running {p} {n} a) room = both (pass-fails o limit e own p n) (pass-counts o limit e own p n)
@@ -83,9 +84,9 @@ module _ (o : Objective) (limit : Float) where
           both never c = barred
 
   -- what a pass counts, and where it fails
-  pub pass-bounds : (e l : List Line) (p : Vec2) (a : LinearProgram2D) → length (e ++ l) ≤ 256 → passOf a ≡ walk (passLine o limit) e l (feasible p 0) → (probesOf a ≤ 65536) × (indexOf a ≤ length (e ++ l))
+  pub pass-bounds : (e l : List Line) (p : Vec2) (a : LinearProgram2D) → length (e ++ l) ≤ mostLines → passOf a ≡ walk (passLine o limit) e l (feasible p 0) → (probesOf a ≤ 65536) × (indexOf a ≤ length (e ++ l))
   pass-bounds e l p a h eq =
-      bounds a (rw (← eq) at (walk-grows (passLine o limit) (λ i t. length i ≤ 256 → Bounded (length i) t) line-bounded e l (feasible p 0) (λ short. running (omega arith)) h))
+      bounds a (rw (← eq) at (walk-grows (passLine o limit) (λ i t. length i ≤ mostLines → Bounded (length i) t) line-bounded e l (feasible p 0) (λ short. running (omega arith)) h))
     where
       bounds : (a : LinearProgram2D) → Bounded (length (e ++ l)) (passOf a) → (probesOf a ≤ 65536) × (indexOf a ≤ length (e ++ l))
       bounds (lp2d.Feasible p n) (running b) = (omega arith, omega arith)

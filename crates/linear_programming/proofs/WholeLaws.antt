@@ -1,4 +1,4 @@
--- Laws of whole lists and their beginnings: a refusal stays, the failed line stays, and phase and failed line fit each other. Each goes by the rules
+-- Laws of whole lists and their beginnings: a refusal of the solve stays, the failed line stays, and phase and failed line fit each other. Each goes by the rules
 -- line by line (Steps). Assumes nothing.
 use Prim.Native.Nat.{ℕ}
 use mathlib.Core.Path.{_≡_, refl, sym, _∙_}
@@ -76,7 +76,7 @@ module _ (rigid : ℕ) (wish : Vec2) (limit : Float) where
 
   -- ---- whole lists
 
-  -- a refused beginning refuses the list, with the same number: a list that stands has no refused beginning
+  -- where the solve of a beginning is refused, so is that of the list, with the same number: a list that stands has no beginning whose solve is refused
   pub prefix-refused : (l m : List Line) (r : ℕ) → wholeList rigid wish limit l ≡ refusal r → wholeList rigid wish limit (l ++ m) ≡ refusal r
   prefix-refused l m r h = sym (batch-whole rigid wish limit l m) ∙ rw h (feed-refusal rigid wish limit r l m)
 

@@ -9,6 +9,7 @@ use Rattle.arithmetic.specs.Binary32.{0ᶠ}
 use Rattle.arithmetic.proofs.Choice.{if-all}
 use Rattle.common.specs.declared.Vec2.{Vec2}
 use Rattle.lines.specs.declared.Line.{Line}
+use Rattle.lines.specs.Lines.{mostLines}
 use Rattle.linear_programming.specs.Walk.{walk}
 use Rattle.linear_programming.specs.OneLine.{toward}
 use Rattle.linear_programming.specs.Pass.{Pass, feasible, failed, refused, pass}
@@ -57,8 +58,8 @@ relaxed-totals f (counts-relaxed h) = totals h
 relaxed-totals f counts-relaxed-none = totals-none
 
 module _ (rigid : ℕ) (limit : Float) where
-  line-counts : (b : ℕ) (e : List Line) (own : Line) (s : Relaxed) → (length e ≤ 256 → CountsRelaxed (b + 32896 * length e) s) →
-      length (e ++ (own ∷ [])) ≤ 256 → CountsRelaxed (b + 32896 * length (e ++ (own ∷ []))) (relaxLine rigid limit e own s)
+  line-counts : (b : ℕ) (e : List Line) (own : Line) (s : Relaxed) → (length e ≤ mostLines → CountsRelaxed (b + 32896 * length e) s) →
+      length (e ++ (own ∷ [])) ≤ mostLines → CountsRelaxed (b + 32896 * length (e ++ (own ∷ []))) (relaxLine rigid limit e own s)
   unfolding relaxLine
   line-counts b e own s h short =
       let k : length (e ++ (own ∷ [])) ≡ length e + 1 = length-append e (own ∷ []) in
@@ -69,15 +70,15 @@ module _ (rigid : ℕ) (limit : Float) where
       counted-on counts-relaxed-none room = counts-relaxed-none
 
   -- relaxation over l behind e, of a pass that took b
-  walk-counts : (b : ℕ) (e l : List Line) (s : Relaxed) → length (e ++ l) ≤ 256 → CountsRelaxed b s → CountsRelaxed (b + 32896 * length (e ++ l)) (walk (relaxLine rigid limit) e l s)
+  walk-counts : (b : ℕ) (e l : List Line) (s : Relaxed) → length (e ++ l) ≤ mostLines → CountsRelaxed b s → CountsRelaxed (b + 32896 * length (e ++ l)) (walk (relaxLine rigid limit) e l s)
   walk-counts b e l s short d =
-      walk-grows (relaxLine rigid limit) (λ i t. length i ≤ 256 → CountsRelaxed (b + 32896 * length i) t) (line-counts b) e l s (λ room. looser (omega arith) d) short
+      walk-grows (relaxLine rigid limit) (λ i t. length i ≤ mostLines → CountsRelaxed (b + 32896 * length i) t) (line-counts b) e l s (λ room. looser (omega arith) d) short
 
-  after-totals : (lines : List Line) → length lines ≤ 256 → {q : Pass} → Takes (length lines) q → Totals 16777216 (afterPass rigid limit lines q)
+  after-totals : (lines : List Line) → length lines ≤ mostLines → {q : Pass} → Takes (length lines) q → Totals 16777216 (afterPass rigid limit lines q)
   unfolding afterPass
-  after-totals lines short (takes {n = n} a b) = totals {n = n} (omega (arith, bound-grows 256 (length lines) n short b))
+  after-totals lines short (takes {n = n} a b) = totals {n = n} (omega (arith, bound-grows mostLines (length lines) n short b))
   after-totals lines short (takes-failed {f} {p} {n} b) =
-      let most : n ≤ 32896 = omega (arith, bound-grows 256 (length lines) n short b) in
+      let most : n ≤ 32896 = omega (arith, bound-grows mostLines (length lines) n short b) in
       let whole = take-append-drop (f .index) lines in
       if-all (Totals 16777216) _ (totals (omega arith))
       (relaxed-totals (failedLine f) (looser {a = 32896 + 32896 * length lines} (omega arith)
@@ -85,7 +86,7 @@ module _ (rigid : ℕ) (limit : Float) where
   after-totals lines short takes-none = totals-none
 
 -- at most 2 ^ 24, so no total comes near 2 ^ 32
-pub whole-fits : (rigid : ℕ) (wish : Vec2) (limit : Float) (lines : List Line) {ph : Phase} {f : Failed} {n : ℕ} → length lines ≤ 256 → wholeList rigid wish limit lines ≡ stands ph f n → n ≤ 16777216
+pub whole-fits : (rigid : ℕ) (wish : Vec2) (limit : Float) (lines : List Line) {ph : Phase} {f : Failed} {n : ℕ} → length lines ≤ mostLines → wholeList rigid wish limit lines ≡ stands ph f n → n ≤ 16777216
 unfolding wholeList
 whole-fits rigid wish limit lines short e = counted (rw e at (after-totals rigid limit lines short (pass-takes (toward wish) limit lines)))
   where

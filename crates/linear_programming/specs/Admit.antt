@@ -4,11 +4,12 @@ use mathlib.Core.List.{List}
 use lib.ListN.{length}
 use lib.Dec.{leb, eqb}
 use lib.Ieee.{Float}
-use Rattle.arithmetic.specs.Binary32.{bits, 0ᶠ}
+use Rattle.arithmetic.specs.Binary32.{0ᶠ}
 use Rattle.admission.specs.Faults.{Fault, must, _⊳_, unlessFault, within, inside}
 use Rattle.common.specs.declared.Vec2.{Vec2}
+use Rattle.common.specs.Vectors.{reach, longest}
 use Rattle.lines.specs.declared.Line.{Line}
-use Rattle.lines.specs.Lines.{linesOf}
+use Rattle.lines.specs.Lines.{mostLines, linesOf}
 use Rattle.lines.specs.LineFaults.{linesFault}
 use Rattle.linear_programming.specs.Whole.{Outcome, refusal, wholeList}
 
@@ -16,19 +17,6 @@ infix 15 _⟫_
 -- what comes where there is no fault
 abbrev pub _⟫_ : Fault → Outcome → Outcome
 f ⟫ o = unlessFault refusal f o
-
--- ---- limits
-
-abbrev pub mostLines : ℕ
-mostLines = 256
-
--- 65,536
-abbrev pub reach : Float
-reach = bits 0x4780_0000
-
--- 1,024
-abbrev pub longest : Float
-longest = bits 0x4480_0000
 
 -- ---- the fault of a wish with its limit
 

@@ -4,7 +4,7 @@ use mathlib.Core.Bool.{_&&_}
 use mathlib.Core.List.{List, [], _∷_, _++_, foldl}
 use lib.ListN.{take, drop}
 use lib.Ieee.{Float}
-use Rattle.arithmetic.specs.Binary32.{_⊘_, _<ᶠ_, _≤ᶠ_, bits, 0ᶠ, if_then_else_, finite}
+use Rattle.arithmetic.specs.Binary32.{_⊘_, _<ᶠ_, _≤ᶠ_, 0ᶠ, halfᶠ, if_then_else_, finite}
 use Rattle.arithmetic.specs.Ends.{absOf}
 use Rattle.common.specs.declared.Vec2.{Vec2}
 use Rattle.common.specs.Vectors.{addOf, subOf, mulOf, dotOf, determinantOf, perpOf, normalizeOf}
@@ -14,9 +14,6 @@ use Rattle.linear_programming.specs.OneLine.{along, pointOn}
 use Rattle.linear_programming.specs.Pass.{Pass, feasible, failed, refused, finitePoint, pass}
 
 -- ---- the tightened list
-
-abbrev pub halfᶠ : Float
-halfᶠ = bits 0x3F00_0000
 
 -- what a previous line becomes: a line, or nothing where it points the same way
 pub data Tight : Type 0 where

@@ -6,13 +6,14 @@ use lib.Dec.{leb}
 use lib.Ieee.{Float}
 use Rattle.common.specs.declared.Vec2.{Vec2}
 use Rattle.lines.specs.declared.Line.{Line}
+use Rattle.lines.specs.Lines.{mostLines}
 use Rattle.linear_programming.specs.Walk.{walk}
 use Rattle.linear_programming.specs.OneLine.{toward}
 use Rattle.linear_programming.specs.Pass.{feasible, passLine}
 use Rattle.linear_programming.specs.Relax.{relaxed, relaxLine}
 use Rattle.linear_programming.specs.Whole.{Phase, solving, relaxing, rigidFailure, Failed, Outcome, stands, refusal, relaxedOutcome, afterPass}
 use Rattle.admission.specs.Faults.{must}
-use Rattle.linear_programming.specs.Admit.{_⟫_, mostLines}
+use Rattle.linear_programming.specs.Admit.{_⟫_}
 
 -- the lines from `from` on, the probes counted from 0
 unfoldable pub resumed : ℕ → Vec2 → Float → List Line → ℕ → Phase → Failed → Outcome

@@ -8,7 +8,7 @@ ghost use mathlib.Core.Path.{_≡_};
 ghost use Prim.Native.Nat.{_*_, _≤_, _<_};
 ghost use mathlib.Core.List.{foldl};
 ghost use lib.ListN.{length, take};
-ghost use Rattle.lines.specs.Lines.{linesOf};
+ghost use Rattle.lines.specs.Lines.{mostLines, linesOf};
 ghost use Rattle.linear_programming.specs.OneLine.{between, chord, unlessFails, cut, narrow, pointOn, choose, oneLine};
 ghost use Rattle.linear_programming.specs.Read.{objectiveOf, intervalOf, foundOf};
 
@@ -28,7 +28,7 @@ fn circle_interval(line: Line, radius: f32) -> Interval
 
 // One more line looked at: the interval is empty where that fails, else its ends are as the line left them.
 fn unless_fails(fails: bool, left: f32, right: f32, looked: u32) -> Interval
-    requires { ⌜ looked < 256 ⌝ }
+    requires { ⌜ looked < mostLines ⌝ }
     ensures { λ r. ⌜ intervalOf r ≡ unlessFails fails left right looked ⌝ }
 {
     if fails {
@@ -39,7 +39,7 @@ fn unless_fails(fails: bool, left: f32, right: f32, looked: u32) -> Interval
 
 // The crossing with an earlier line, at `t`, caps the right end or raises the left one, by the side that the earlier line leaves.
 fn cut_at(left: f32, right: f32, looked: u32, direction_determinant: f32, t: f32) -> Interval
-    requires { ⌜ looked < 256 ⌝ }
+    requires { ⌜ looked < mostLines ⌝ }
     ensures { λ r. ⌜ intervalOf r ≡ cut left right looked «direction_determinant» t ⌝ }
 {
     if direction_determinant >= 0.0 {
@@ -52,7 +52,7 @@ fn cut_at(left: f32, right: f32, looked: u32, direction_determinant: f32, t: f32
 
 // One earlier line narrows the interval; one that is nearly parallel leaves it as it is, or fails where `line` lies on its wrong side.
 fn narrow_by(line: Line, left: f32, right: f32, looked: u32, constraint: Line) -> Interval
-    requires { ⌜ looked < 256 ⌝ }
+    requires { ⌜ looked < mostLines ⌝ }
     ensures { λ r. ⌜ intervalOf r ≡ narrow line (between left right looked) constraint ⌝ }
 {
     let direction_determinant = common::determinant(line.direction, constraint.direction);
@@ -71,7 +71,7 @@ fn narrow_by(line: Line, left: f32, right: f32, looked: u32, constraint: Line) -
 
 // The first `count` lines narrow the interval, one by one.
 fn narrow_all(line: Line, left: f32, right: f32, lines: &[f32], count: usize) -> Interval
-    requires { ⌜ (count ≤ 256) × (4 * count ≤ length (now lines)) ⌝ }
+    requires { ⌜ (count ≤ mostLines) × (4 * count ≤ length (now lines)) ⌝ }
     ensures { λ r. ⌜ intervalOf r ≡ foldl (narrow line) (between left right 0) (take count (linesOf (now (lines .entry)))) ⌝ }
 {
     let mut t_left = left;
@@ -126,7 +126,7 @@ pub(crate) fn solve_linear_program_along_line(
     count: usize,
     optimal_value: OptimalValue,
 ) -> AlongLine
-    requires { ⌜ (count ≤ 256) × (4 * count ≤ length (now lines)) ⌝ }
+    requires { ⌜ (count ≤ mostLines) × (4 * count ≤ length (now lines)) ⌝ }
     ensures { λ r. ⌜ foundOf r ≡ oneLine (objectiveOf «optimal_value») radius line (take count (linesOf (now (lines .entry)))) ⌝ }
 {
     let Interval::Between(left, right, _) = circle_interval(line, radius) else {

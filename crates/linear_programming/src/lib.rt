@@ -93,7 +93,7 @@ pub fn solve_linear_program(numbers: &[f32], rigid: usize, limit: f32, wish: Vec
         return Answer::Refused(2);
     }
     let count = numbers.len() / 4;
-    if count > Line::MOST {
+    if Line::MOST < count {
         return Answer::Refused(4);
     }
     let judged = admission::first_of(judge::judge_wish(wish, limit), lines::judge_lines(numbers));
@@ -104,9 +104,10 @@ pub fn solve_linear_program(numbers: &[f32], rigid: usize, limit: f32, wish: Vec
 }
 
 // Takes the rules up again at the line `from`, where the lines before it left `phase` and `failed`: how all of the first `count` lines stand then, with
-// the probes of the lines from `from` on. Refused: more than 256 lines (4), the solve itself (8, 9).
+// the probes of the lines from `from` on. Refused: more than 256 lines (4), the solve itself (8, 9). The arguments are a session's fields, which a start
+// and its batches have judged: nothing is judged again, and of any others 01 promises only an answer, which may be one that no list has.
 pub fn resume_linear_program(
-    lines: [Line; 256],
+    lines: [Line; Line::MOST],
     count: usize,
     from: usize,
     rigid: usize,

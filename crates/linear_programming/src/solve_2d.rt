@@ -9,9 +9,9 @@ ghost use mathlib.Core.Path.{_≡_};
 ghost use Prim.Native.Nat.{_+_, _*_, _≤_, _<_};
 ghost use lib.ListN.{getD, length, take, drop};
 ghost use Rattle.linear_programming.specs.Walk.{walk};
-ghost use Rattle.lines.specs.Lines.{linesOf, offLine};
-ghost use Rattle.linear_programming.specs.Pass.{feasible, start, finitePoint, judged, solved, passLine};
-ghost use Rattle.linear_programming.specs.Read.{objectiveOf, foundOf, passOf, lookedOf};
+ghost use Rattle.lines.specs.Lines.{mostLines, linesOf, offLine};
+ghost use Rattle.linear_programming.specs.Pass.{feasible, start, finitePoint, judged, passLine};
+ghost use Rattle.linear_programming.specs.Read.{objectiveOf, passOf};
 
 // The best value with no line looked at.
 pub(crate) fn start_value(radius: f32, optimal_value: OptimalValue) -> Vec2
@@ -50,27 +50,8 @@ pub(crate) fn judge_point(optimal_value: OptimalValue, point: Vec2, probes: u32)
     }
 }
 
-// What the solve of the line at `index` leaves, `point` being the point before it.
-fn after_solve(
-    optimal_value: OptimalValue,
-    index: usize,
-    point: Vec2,
-    probes: u32,
-    along: AlongLine,
-) -> LinearProgram2D
-    requires { ⌜ (probes ≤ 65536) × (lookedOf along ≤ 256) ⌝ }
-    ensures { λ r. ⌜ passOf r ≡ solved (objectiveOf «optimal_value») index point probes (foundOf along) ⌝ }
-{
-    let AlongLine::At(best_value, looked) = along else {
-        let AlongLine::Fails(looked) = along else {
-            return LinearProgram2D::Refused(8);
-        };
-        return LinearProgram2D::Infeasible(Failure { index }, point, probes + looked);
-    };
-    judge_point(optimal_value, best_value, probes + looked)
-}
-
-// The line at an index, after the lines before it left `point`.
+// The line at an index, after the lines before it left `point`: met by it, or solved against the lines before it. Where that fails, the pass ends with the
+// index and the point before it.
 fn pass_line(
     lines: &[f32],
     index: usize,
@@ -79,7 +60,7 @@ fn pass_line(
     point: Vec2,
     probes: u32,
 ) -> LinearProgram2D
-    requires { ⌜ (4 * index + 4 ≤ length (now lines)) × (index < 256) × (probes < 65536) ⌝ }
+    requires { ⌜ (4 * index + 4 ≤ length (now lines)) × (index < mostLines) × (probes < 65536) ⌝ }
     ensures { λ r. ⌜ passOf r ≡ passLine (objectiveOf «optimal_value») radius (take index (linesOf (now (lines .entry)))) (getD (linesOf (now (lines .entry))) index offLine) (feasible point probes) ⌝ }
 {
     let line = lines::line_at(lines, index);
@@ -93,7 +74,14 @@ fn pass_line(
         index,
         optimal_value,
     );
-    after_solve(optimal_value, index, point, probes + 1, along)
+    let AlongLine::At(best_value, looked) = along else {
+        let AlongLine::Fails(looked) = along else {
+            return LinearProgram2D::Refused(8);
+        };
+        let counted = probes + 1 + looked;
+        return LinearProgram2D::Infeasible(Failure { index }, point, counted);
+    };
+    judge_point(optimal_value, best_value, probes + 1 + looked)
 }
 
 // The lines from `from` up to `count`, after those before them left `point`.
@@ -105,7 +93,7 @@ pub(crate) fn solve_linear_program_2d(
     optimal_value: OptimalValue,
     point: Vec2,
 ) -> LinearProgram2D
-    requires { ⌜ (from ≤ count) × (count ≤ 256) × (4 * count ≤ length (now lines)) ⌝ }
+    requires { ⌜ (from ≤ count) × (count ≤ mostLines) × (4 * count ≤ length (now lines)) ⌝ }
     ensures { λ r. ⌜ passOf r ≡ walk (passLine (objectiveOf «optimal_value») radius) (take from (linesOf (now (lines .entry)))) (drop from (take count (linesOf (now (lines .entry))))) (feasible point 0) ⌝ }
 {
     let mut best_value = point;

@@ -13,7 +13,7 @@ ghost use Prim.Native.Nat.{_+_, _*_, _≤_, _<_};
 ghost use lib.ListN.{getD, length, take, drop};
 ghost use Rattle.arithmetic.specs.Binary32.{finite};
 ghost use Rattle.linear_programming.specs.Walk.{walk};
-ghost use Rattle.lines.specs.Lines.{linesOf, offLine};
+ghost use Rattle.lines.specs.Lines.{mostLines, linesOf, offLine};
 ghost use Rattle.linear_programming.specs.OneLine.{along};
 ghost use Rattle.linear_programming.specs.Pass.{finitePoint, pass};
 ghost use Rattle.linear_programming.specs.Relax.{tightAt, midpoint, intersection, tighten as tightenedBy, tightened, relaxed, depthIn, replaced, relaxLine};
@@ -23,10 +23,8 @@ ghost use Rattle.linear_programming.specs.Read.{passOf, tightOf, relaxed
 fn tighten_at(constraint: Line, previous: Line, point: Vec2) -> Tightened
     ensures { λ r. ⌜ tightOf r ≡ tightAt constraint previous point ⌝ }
 {
-    Tightened::Kept(Line {
-        point,
-        direction: previous.direction.sub(constraint.direction).normalize(),
-    })
+    let direction = previous.direction.sub(constraint.direction).normalize();
+    Tightened::Kept(Line::new(point, direction))
 }
 
 fn middle_point(constraint: Line, previous: Line) -> Vec2
@@ -167,7 +165,7 @@ fn relax_line(
     penetration: f32,
     probes: u32,
 ) -> LinearProgram3D
-    requires { ⌜ (4 * index + 4 ≤ length (now lines)) × (index < 256) × (probes < 16777216) ⌝ }
+    requires { ⌜ (4 * index + 4 ≤ length (now lines)) × (index < mostLines) × (probes < 16777216) ⌝ }
     ensures { λ r. ⌜ relaxedOf r ≡ relaxLine rigid radius (take index (linesOf (now (lines .entry)))) (getD (linesOf (now (lines .entry))) index offLine) (relaxed value penetration probes) ⌝ }
 {
     let constraint = lines::line_at(lines, index);
@@ -191,7 +189,7 @@ pub(crate) fn solve_linear_program_3d(
     penetration: f32,
     probes: u32,
 ) -> LinearProgram3D
-    requires { ⌜ (from ≤ count) × (count ≤ 256) × (4 * count ≤ length (now lines)) × (probes ≤ 65536) ⌝ }
+    requires { ⌜ (from ≤ count) × (count ≤ mostLines) × (4 * count ≤ length (now lines)) × (probes ≤ 65536) ⌝ }
     ensures { λ r. ⌜ relaxedOf r ≡ walk (relaxLine rigid radius) (take from (linesOf (now (lines .entry)))) (drop from (take count (linesOf (now (lines .entry))))) (relaxed value penetration probes) ⌝ }
 {
     let mut best_value = value;

@@ -12,7 +12,7 @@ use lines::Line;
 ghost use mathlib.Core.Path.{_≡_};
 ghost use Prim.Native.Nat.{_*_, _≤_};
 ghost use lib.ListN.{length, take};
-ghost use Rattle.lines.specs.Lines.{linesOf};
+ghost use Rattle.lines.specs.Lines.{mostLines, linesOf};
 ghost use Rattle.linear_programming.specs.Whole.{relaxedOutcome, afterPass, wholeList};
 ghost use Rattle.linear_programming.specs.Resume.{resumed};
 ghost use Rattle.linear_programming.specs.Read.{passOf, relaxedOf, phaseOf, failedOf, outcomeOf, probesOf, indexOf};
@@ -36,7 +36,7 @@ fn after_pass(
     radius: f32,
     pass: LinearProgram2D,
 ) -> Answer
-    requires { ⌜ (count ≤ 256) × (4 * count ≤ length (now lines)) × (probesOf pass ≤ 65536) × (indexOf pass ≤ count) ⌝ }
+    requires { ⌜ (count ≤ mostLines) × (4 * count ≤ length (now lines)) × (probesOf pass ≤ 65536) × (indexOf pass ≤ count) ⌝ }
     ensures { λ r. ⌜ outcomeOf r ≡ afterPass rigid radius (take count (linesOf (now (lines .entry)))) (passOf pass) ⌝ }
 {
     match pass {
@@ -76,7 +76,7 @@ pub(crate) fn resume(
     phase: Phase,
     failed: FailedLine,
 ) -> Answer
-    requires { ⌜ (from ≤ count) × (count ≤ 256) × (4 * count ≤ length (now lines)) ⌝ }
+    requires { ⌜ (from ≤ count) × (count ≤ mostLines) × (4 * count ≤ length (now lines)) ⌝ }
     ensures { λ r. ⌜ outcomeOf r ≡ resumed rigid wish limit (take count (linesOf (now (lines .entry)))) from (phaseOf phase) (failedOf failed) ⌝ }
 {
     match phase {
@@ -119,7 +119,7 @@ pub(crate) fn solve_from_start(
     limit: f32,
     wish: Vec2,
 ) -> Answer
-    requires { ⌜ (count ≤ 256) × (4 * count ≤ length (now lines)) ⌝ }
+    requires { ⌜ (count ≤ mostLines) × (4 * count ≤ length (now lines)) ⌝ }
     ensures { λ r. ⌜ outcomeOf r ≡ wholeList rigid wish limit (take count (linesOf (now (lines .entry)))) ⌝ }
 {
     let start = solve_2d::start_value(limit, OptimalValue::Point(wish.x, wish.y));
@@ -140,8 +140,8 @@ pub(crate) fn solve_from_start(
 }
 
 // The first `count` lines laid out as numbers.
-pub(crate) fn lay(lines: [Line; 256], count: usize, numbers: &mut [f32])
-    requires { ⌜ (count ≤ 256) × (length (now numbers) ≡ 1024) ⌝ }
+pub(crate) fn lay(lines: [Line; Line::MOST], count: usize, numbers: &mut [f32])
+    requires { ⌜ (count ≤ mostLines) × (length (now numbers) ≡ 1024) ⌝ }
     ensures { λ _. ⌜ (length (now (numbers .exit)) ≡ 1024) × (take count (linesOf (now (numbers .exit))) ≡ take count lines) ⌝ }
 {
     let mut n = 0usize;

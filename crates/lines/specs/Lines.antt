@@ -17,6 +17,10 @@ line p d = record { point = p; direction = d }
 abbrev pub epsilon : Float
 epsilon = bits 0x3727_C5AC
 
+-- "256 lines in a list or session"
+abbrev pub mostLines : ℕ
+mostLines = 256
+
 -- the point, then the direction
 unfoldable pub linesOf : List Float → List Line
 linesOf [] = []

@@ -11,10 +11,9 @@ use Rattle.arithmetic.specs.Binary32.{0ᶠ, finite}
 use Rattle.admission.specs.Faults.{within, inside}
 use Rattle.admission.specs.Heads.{headOf, isKind, roomFor, isEmptyOpen}
 use Rattle.common.specs.declared.Vec2.{Vec2}
-use Rattle.common.specs.Vectors.{vec, lengthSquaredOf}
+use Rattle.common.specs.Vectors.{vec, reach, longest, lengthSquaredOf}
 use Rattle.lines.specs.Lines.{line}
 use Rattle.lines.specs.LineFaults.{lineReach, bandLow, bandHigh}
-use Rattle.linear_programming.specs.Admit.{reach, longest}
 use Rattle.dodgy_2d.specs.Scenes.{shortestHorizon, longestHorizon}
 use Rattle.words.specs.Words.{wordOf}
 use Rattle.fields.specs.Got.{refused, got, then, guard, word}

@@ -11,7 +11,7 @@ use Rattle.admission.specs.Faults.{fine, within}
 use Rattle.common.specs.declared.Vec2.{Vec2}
 use Rattle.lines.specs.declared.Line.{Line}
 use Rattle.lines.specs.LineFaults.{lineFault, linesFault}
-use Rattle.linear_programming.specs.Admit.{reach}
+use Rattle.common.specs.Vectors.{reach}
 use Rattle.dodgy_2d.specs.declared.Scene.{Scene}
 use Rattle.dodgy_2d.specs.Scenes.{headsOf, numbersFault, vectorFault, agentFault, headFault, obstaclesFault, sceneFault}
 use Rattle.fields.specs.Bytes.{each}

@@ -16,7 +16,7 @@ use Rattle.admission.proofs.HeadLaws.{room-within}
 use Rattle.common.specs.declared.Vec2.{Vec2}
 use Rattle.lines.specs.declared.Line.{Line}
 use Rattle.lines.specs.LineFaults.{lineReach}
-use Rattle.linear_programming.specs.Admit.{reach}
+use Rattle.common.specs.Vectors.{reach}
 use Rattle.dodgy_2d.specs.declared.Scene.{Scene}
 use Rattle.fields.specs.Bytes.{bigEndian, each, AllBytes}
 use Rattle.fields.specs.Got.{got, many}

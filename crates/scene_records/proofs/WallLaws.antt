@@ -12,7 +12,7 @@ use Rattle.admission.specs.Faults.{within}
 use Rattle.admission.specs.Heads.{headOf}
 use Rattle.admission.proofs.HeadLaws.{room-within}
 use Rattle.common.specs.declared.Vec2.{Vec2}
-use Rattle.linear_programming.specs.Admit.{reach}
+use Rattle.common.specs.Vectors.{reach}
 use Rattle.fields.specs.Bytes.{each}
 use Rattle.fields.specs.Got.{Got, refused, got, then, many}
 use Rattle.fields.proofs.ChainLaws.{apart, many-length}

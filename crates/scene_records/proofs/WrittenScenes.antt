@@ -14,11 +14,10 @@ use Rattle.admission.specs.Faults.{fine, must, within, inside}
 use Rattle.admission.proofs.FaultLaws.{⊳-fine, must-fine}
 use Rattle.admission.proofs.HeadLaws.{room-within}
 use Rattle.common.specs.declared.Vec2.{Vec2}
-use Rattle.common.specs.Vectors.{lengthSquaredOf}
+use Rattle.common.specs.Vectors.{reach, longest, lengthSquaredOf}
 use Rattle.lines.specs.declared.Line.{Line}
 use Rattle.lines.specs.Lines.{linesOf}
 use Rattle.lines.specs.LineFaults.{lineReach, bandLow, bandHigh, lineFault, linesFault}
-use Rattle.linear_programming.specs.Admit.{reach, longest}
 use Rattle.lines.proofs.Rows.{lines-long}
 use Rattle.obstacles.specs.Vertices.{verticesOf}
 use Rattle.obstacles.proofs.VertexNumbers.{vertices-long}

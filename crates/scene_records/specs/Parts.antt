@@ -10,11 +10,10 @@ use Rattle.admission.specs.declared.Head.{Head}
 use Rattle.admission.specs.Faults.{within, inside}
 use Rattle.admission.specs.Heads.{mostTogether, headOf, isKind, roomFor, isEmptyOpen}
 use Rattle.common.specs.declared.Vec2.{Vec2}
-use Rattle.common.specs.Vectors.{lengthSquaredOf}
+use Rattle.common.specs.Vectors.{reach, longest, lengthSquaredOf}
 use Rattle.lines.specs.declared.Line.{Line}
 use Rattle.lines.specs.Lines.{line}
 use Rattle.lines.specs.LineFaults.{lineReach, bandLow, bandHigh}
-use Rattle.linear_programming.specs.Admit.{reach, longest}
 use Rattle.dodgy_2d.specs.Scenes.{shortestHorizon, longestHorizon, mostObstacles}
 use Rattle.fields.specs.Bytes.{each}
 use Rattle.fields.specs.Got.{Got, refused, got, then, guard, word, many}

@@ -6,11 +6,11 @@ use lib.ListN.{length}
 use lib.Seq.{sets}
 use lib.Ieee.{Float}
 use Rattle.lines.specs.declared.Line.{Line}
-use Rattle.lines.specs.Lines.{linesOf}
+use Rattle.lines.specs.Lines.{mostLines, linesOf}
 use Rattle.lines.specs.LineFaults.{linesFault}
 use Rattle.linear_programming.specs.Whole.{Outcome, stands, refusal}
 use Rattle.admission.specs.Faults.{Fault, fine, fault, must, _⊳_, fitsBehind, judgedAs}
-use Rattle.linear_programming.specs.Admit.{_⟫_, mostLines, fours}
+use Rattle.linear_programming.specs.Admit.{_⟫_, fours}
 use Rattle.linear_programming.specs.Resume.{resumed}
 use Rattle.linear_programming.specs.Read.{phaseOf, phaseAs, failedOf, failedAs}
 use Rattle.session.specs.declared.Session.{Session}

@@ -14,12 +14,12 @@ use Rattle.arithmetic.proofs.Magnitude.Size.{Within, Apart, Over, NonNeg, withi
 use Rattle.arithmetic.proofs.Magnitude.Operations.{square-nonneg, square-over, add-over-nonneg, add-nonneg-over}
 use Rattle.arithmetic.proofs.Magnitude.Comparisons.{le-within, over-not-le, between-within}
 use Rattle.common.specs.declared.Vec2.{Vec2}
-use Rattle.common.specs.Vectors.{dotOf, lengthSquaredOf}
+use Rattle.common.specs.Vectors.{reach, longest, dotOf, lengthSquaredOf}
 use Rattle.common.proofs.VectorSizes.{Inside}
 use Rattle.lines.specs.declared.Line.{Line}
 use Rattle.lines.specs.LineFaults.{lineReach, bandLow, bandHigh, lineFault, linesFault}
 use Rattle.admission.specs.Faults.{fine, must, within as isWithin, inside}
-use Rattle.linear_programming.specs.Admit.{reach, longest, wishFault}
+use Rattle.linear_programming.specs.Admit.{wishFault}
 use Rattle.admission.proofs.FaultLaws.{⊳-fine, must-fine}
 use Rattle.linear_programming.proofs.Bounds.SolveSizes.{LineIn}
 

@@ -7,7 +7,7 @@ use mathlib.Core.Bool.{false}
 use mathlib.Core.List.{List, foldl}
 use lib.Dec.{lit≤}
 use lib.Ieee.{Float, ofBits}
-use Rattle.arithmetic.specs.Binary32.{_<ᶠ_, _≤ᶠ_, 0ᶠ, if_then_else_}
+use Rattle.arithmetic.specs.Binary32.{_<ᶠ_, _≤ᶠ_, 0ᶠ, halfᶠ, if_then_else_}
 use Rattle.arithmetic.specs.Ends.{absOf}
 use Rattle.arithmetic.proofs.Choice.{if-all, if-case}
 use Rattle.arithmetic.proofs.Lists.{All, all-snoc, all-take, all-drop, all-map, none, more}
@@ -22,7 +22,7 @@ use Rattle.lines.specs.Lines.{epsilon}
 use Rattle.lines.specs.LineFaults.{linesFault}
 use Rattle.linear_programming.specs.OneLine.{toward, along}
 use Rattle.linear_programming.specs.Pass.{Pass, finitePoint, pass}
-use Rattle.linear_programming.specs.Relax.{halfᶠ, Tight, kept, skipped, tightAt, midpoint, intersection, tighten, behind, tightenNext, tightened, Relaxed, relaxed, depthIn, replaced, relaxLine}
+use Rattle.linear_programming.specs.Relax.{Tight, kept, skipped, tightAt, midpoint, intersection, tighten, behind, tightenNext, tightened, Relaxed, relaxed, depthIn, replaced, relaxLine}
 use Rattle.linear_programming.specs.Whole.{Phase, Failed, Outcome, stands, relaxedOutcome, afterPass, wholeList}
 use Rattle.admission.specs.Faults.{fine}
 use Rattle.linear_programming.specs.Admit.{wishFault}

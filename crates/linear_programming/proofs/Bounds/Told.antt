@@ -1,54 +1,61 @@
--- A call over any list of any numbers stands, or is refused with a number below 8: 8 and 9 never come out of a solve of admitted lines. Assumes nothing.
+-- A call over any list of any numbers stands, or is refused with 2, 4, 6 or 7: 8 and 9 never come out of a solve of admitted lines. Assumes nothing.
 use mathlib.Core.Path.{_≡_, refl}
-use Prim.Native.Nat.{ℕ, _%_, _<_}
+use Prim.Native.Nat.{ℕ, _%_}
 use mathlib.Core.Bool.{Bool, true, false}
 use mathlib.Core.List.{List, [], _∷_}
 use lib.ListN.{length}
-use lib.Dec.{eqb, leb, lit<}
+use lib.Dec.{eqb, leb}
 use lib.Ieee.{Float}
 use Rattle.arithmetic.specs.Binary32.{0ᶠ, finite}
 use Rattle.common.specs.declared.Vec2.{Vec2}
-use Rattle.common.specs.Vectors.{lengthSquaredOf}
+use Rattle.common.specs.Vectors.{reach, longest, lengthSquaredOf}
 use Rattle.lines.specs.declared.Line.{Line}
-use Rattle.lines.specs.Lines.{linesOf}
+use Rattle.lines.specs.Lines.{mostLines, linesOf}
 use Rattle.lines.specs.LineFaults.{lineReach, bandLow, bandHigh, lineFault, linesFault}
 use Rattle.linear_programming.specs.Whole.{Phase, Failed, Outcome, stands, refusal}
 use Rattle.admission.specs.Faults.{Fault, fine, fault, must, _⊳_, within, inside}
-use Rattle.linear_programming.specs.Admit.{_⟫_, mostLines, reach, longest, wishFault, judgedList, listCall}
+use Rattle.linear_programming.specs.Admit.{_⟫_, wishFault, judgedList, listCall}
 use Rattle.admission.proofs.FaultLaws.{⊳-fine}
 use Rattle.linear_programming.proofs.Bounds.NeverRefused.{Stood, stood, never-refused}
 
+-- the numbers that a list is refused with
+pub data ListNumber : ℕ → Type 0 where
+  no-whole-lines : ListNumber 2
+  too-many : ListNumber 4
+  out-of-range : ListNumber 6
+  out-of-band : ListNumber 7
+
 pub data Told : Outcome → Type 0 where
   answered : {ph : Phase} {f : Failed} {n : ℕ} → Told (stands ph f n)
-  declined : {r : ℕ} → r < 8 → Told (refusal r)
+  declined : {r : ℕ} → ListNumber r → Told (refusal r)
 
--- ---- faults have numbers below 8
+-- ---- the faults have these numbers
 
 data Mild : Fault → Type 0 where
   passes : Mild fine
-  tells : {r : ℕ} → r < 8 → Mild (fault r)
+  tells : {r : ℕ} → ListNumber r → Mild (fault r)
 
 ⊳-mild : {f g : Fault} → Mild f → Mild g → Mild (f ⊳ g)
 ⊳-mild passes k = k
 ⊳-mild (tells h) k = tells h
 
-must-mild : (b : Bool) (r : ℕ) → r < 8 → Mild (must b r)
-must-mild true r h = passes
-must-mild false r h = tells h
+must-mild : (b : Bool) {r : ℕ} → ListNumber r → Mild (must b r)
+must-mild true h = passes
+must-mild false h = tells h
 
 wish-mild : (wish : Vec2) (limit : Float) → Mild (wishFault wish limit)
 unfolding wishFault
 wish-mild wish limit =
-    ⊳-mild (must-mild (within reach (wish .x)) 6 (lit< tt))
-    (⊳-mild (must-mild (within reach (wish .y)) 6 (lit< tt)) (must-mild (inside 0ᶠ longest limit) 6 (lit< tt)))
+    ⊳-mild (must-mild (within reach (wish .x)) out-of-range)
+    (⊳-mild (must-mild (within reach (wish .y)) out-of-range) (must-mild (inside 0ᶠ longest limit) out-of-range))
 
 line-mild : (l : Line) → Mild (lineFault l)
 unfolding lineFault
 line-mild l =
-    ⊳-mild (must-mild (within lineReach (l .point .x)) 6 (lit< tt))
-    (⊳-mild (must-mild (within lineReach (l .point .y)) 6 (lit< tt))
-    (⊳-mild (must-mild (finite (l .direction .x)) 6 (lit< tt))
-    (⊳-mild (must-mild (finite (l .direction .y)) 6 (lit< tt)) (must-mild (inside bandLow bandHigh (lengthSquaredOf (l .direction))) 7 (lit< tt)))))
+    ⊳-mild (must-mild (within lineReach (l .point .x)) out-of-range)
+    (⊳-mild (must-mild (within lineReach (l .point .y)) out-of-range)
+    (⊳-mild (must-mild (finite (l .direction .x)) out-of-range)
+    (⊳-mild (must-mild (finite (l .direction .y)) out-of-range) (must-mild (inside bandLow bandHigh (lengthSquaredOf (l .direction))) out-of-band))))
 
 lines-mild : (ls : List Line) → Mild (linesFault ls)
 unfolding linesFault
@@ -69,7 +76,7 @@ module _ (rigid : ℕ) (wish : Vec2) (limit : Float) where
   pub judged-told : (lines : List Line) → Told (judgedList rigid wish limit lines)
   unfolding judgedList
   judged-told lines =
-      ⟫-told (⊳-mild (must-mild (leb (length lines) mostLines) 4 (lit< tt)) (⊳-mild (wish-mild wish limit) (lines-mild lines)))
+      ⟫-told (⊳-mild (must-mild (leb (length lines) mostLines) too-many) (⊳-mild (wish-mild wish limit) (lines-mild lines)))
       (λ e.
       let a = ⊳-fine (must (leb (length lines) mostLines) 4) e in
       let b = ⊳-fine (wishFault wish limit) (a .1) in
@@ -77,4 +84,4 @@ module _ (rigid : ℕ) (wish : Vec2) (limit : Float) where
 
   pub list-told : (xs : List Float) → Told (listCall rigid wish limit xs)
   unfolding listCall
-  list-told xs = ⟫-told (must-mild (eqb (length xs % 4) 0) 2 (lit< tt)) (λ e. judged-told (linesOf xs))
+  list-told xs = ⟫-told (must-mild (eqb (length xs % 4) 0) no-whole-lines) (λ e. judged-told (linesOf xs))

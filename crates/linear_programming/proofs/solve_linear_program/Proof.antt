@@ -9,7 +9,7 @@ use lib.ListN.{length}
 use lib.Ieee.{Float}
 use borrow.Author.Tests.{eq-eqb, ne-eqb, le-leb, lt-leb}
 use Rattle.lines.specs.declared.Line.{Line}
-use Rattle.lines.specs.Lines.{linesOf}
+use Rattle.lines.specs.Lines.{mostLines, linesOf}
 use Rattle.linear_programming.specs.Whole.{wholeList}
 use Rattle.linear_programming.specs.Admit.{judgedList, listCall}
 use Rattle.lines.proofs.Rows.{lines-long, lines-take-all}
@@ -17,11 +17,11 @@ use borrow.Author.Needs.{needs}
 use Rattle.linear_programming.proofs.solve_linear_program.Statement.{statement}
 use Rattle.linear_programming.proofs.solve_linear_program.Tie as tie
 
-few : (xs : List Float) → length xs / 4 ≤ 256 → leb (length (linesOf xs)) 256 ≡ true
-few xs h = rw (lines-long xs) (le-leb (length xs / 4) 256 h)
+few : (xs : List Float) → length xs / 4 ≤ mostLines → leb (length (linesOf xs)) mostLines ≡ true
+few xs h = rw (lines-long xs) (le-leb (length xs / 4) mostLines h)
 
-too-many : (xs : List Float) → 256 < length xs / 4 → leb (length (linesOf xs)) 256 ≡ false
-too-many xs h = rw (lines-long xs) (lt-leb (length xs / 4) 256 h)
+too-many : (xs : List Float) → mostLines < length xs / 4 → leb (length (linesOf xs)) mostLines ≡ false
+too-many xs h = rw (lines-long xs) (lt-leb (length xs / 4) mostLines h)
 
 returns : tie.Need-returns
 unfolding listCall judgedList

@@ -1,12 +1,12 @@
--- `linear_programming::solve_2d::pass_line` meets its contract. Assumes nothing.
+-- `linear_programming::solve_2d::pass_line` meets its contract. In each need `s` is where the one-line solve has answered. Assumes nothing.
 use Rattle.arithmetic.specs.Binary32.{if_then_else_}
 use native.Mathlib.Omega.{arith}
 use denote.Ref.{now}
 use lib.Seq.{length-take-le}
 use Rattle.lines.specs.Lines.{linesOf}
-use Rattle.linear_programming.specs.Pass.{passLine}
+use Rattle.linear_programming.specs.Pass.{solved, passLine}
 use Rattle.lines.proofs.Rows.{lines-fit}
-use Rattle.linear_programming.proofs.Variants.{looked-most}
+use Rattle.linear_programming.proofs.Variants.{refuses-left, looked-most}
 use borrow.Author.Needs.{needs}
 use Rattle.linear_programming.proofs.solve_2d.pass_line.Statement.{statement}
 use Rattle.linear_programming.proofs.solve_2d.pass_line.Tie as tie
@@ -15,19 +15,45 @@ returns : tie.Need-returns
 unfolding passLine if_then_else_
 returns c = simp (c .if1 .taken, ← c .before .determinant .ensures, ← c .before .before .sub .ensures, ← c .before .before .before .line-at .ensures)
 
-after-solve-requires : tie.Need-after-solve-requires
-after-solve-requires c κs =
-    let a = c .before .before .before .before .before .before .args in
-    let short = length-take-le (a .index) (linesOf (now (a .lines))) (lines-fit (now (a .lines)) (a .index) (omega arith)) in
-    (omega arith, omega (arith, short, looked-most _ _ _ _ (c .solve-linear-program-along-line .result) (c .solve-linear-program-along-line .ensures)))
-
 returns-2 : tie.Need-returns-2
-unfolding passLine if_then_else_
+unfolding passLine if_then_else_ solved
 returns-2 c =
-    let a = c .before .before .before .before .before .before .before .args in
-    simp (length-take-le (a .index) (linesOf (now (a .lines))) (lines-fit (now (a .lines)) (a .index) (omega arith)), ← c .after-solve .ensures, ← c .before .solve-linear-program-along-line .ensures, c .before .before .if1 .left, ← c .before .before .before .determinant .ensures, ← c .before .before .before .before .sub .ensures, ← c .before .before .before .before .before .line-at .ensures)
+    let s = c .before .before in
+    let refuses = refuses-left (s .solve-linear-program-along-line .result) (c .before .match .keys2) (c .match2 .keys2) in
+    simp (refuses, ← s .solve-linear-program-along-line .ensures, s .before .if1 .left, ← s .before .before .determinant .ensures, ← s .before .before .before .sub .ensures, ← s .before .before .before .before .line-at .ensures)
+
+add-counted-2 : tie.Need-add-counted-2
+add-counted-2 c =
+    let s = c .before .before .before .before in
+    let a = s .before .before .before .before .before .before .args in
+    let short = length-take-le (a .index) (linesOf (now (a .lines))) (lines-fit (now (a .lines)) (a .index) (omega arith)) in
+    let most = rw (c .before .along2 .given .1) at (looked-most _ _ _ _ (s .solve-linear-program-along-line .result) (s .solve-linear-program-along-line .ensures)) in
+    omega (arith, short, most)
+
+returns-3 : tie.Need-returns-3
+unfolding passLine if_then_else_ solved
+returns-3 c =
+    let s = c .before .before .before .before in
+    let a = s .before .before .before .before .before .before .args in
+    let short = length-take-le (a .index) (linesOf (now (a .lines))) (lines-fit (now (a .lines)) (a .index) (omega arith)) in
+    simp (short, c .before .along2 .given .1, ← s .solve-linear-program-along-line .ensures, s .before .if1 .left, ← s .before .before .determinant .ensures, ← s .before .before .before .sub .ensures, ← s .before .before .before .before .line-at .ensures)
+
+add-judge-point-2 : tie.Need-add-judge-point-2
+add-judge-point-2 c =
+    let s = c .before .before .before in
+    let a = s .before .before .before .before .before .before .args in
+    let short = length-take-le (a .index) (linesOf (now (a .lines))) (lines-fit (now (a .lines)) (a .index) (omega arith)) in
+    let most = rw (c .before .along .given .1) at (looked-most _ _ _ _ (s .solve-linear-program-along-line .result) (s .solve-linear-program-along-line .ensures)) in
+    omega (arith, short, most)
+
+returns-4 : tie.Need-returns-4
+unfolding passLine if_then_else_ solved
+returns-4 c =
+    let s = c .before .before .before .before in
+    simp (← c .judge-point .ensures, c .before .before .along .given .1, ← s .solve-linear-program-along-line .ensures, s .before .if1 .left, ← s .before .before .determinant .ensures, ← s .before .before .before .sub .ensures, ← s .before .before .before .before .line-at .ensures)
 
 pub pass-line-spec : {M : Type 1} → statement M
 pass-line-spec =
     tie.close (tie.spec (λ c κs. search needs) (λ c κs. search needs) (λ c κs. search needs) (λ c. search needs) returns (λ c κs. search needs)
-    (λ c. search needs) after-solve-requires returns-2)
+    (λ c. search needs) (λ c. search needs) returns-2 (λ c. search needs) add-counted-2 returns-3 (λ c. search needs) add-judge-point-2
+    (λ c κs. search needs) returns-4)

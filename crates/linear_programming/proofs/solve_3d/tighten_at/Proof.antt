@@ -6,8 +6,8 @@ use Rattle.linear_programming.proofs.solve_3d.tighten_at.Tie as tie
 
 returns : tie.Need-returns
 unfolding tightAt
-returns c = simp (← c .normalize .ensures, ← c .before .sub .ensures)
+returns c = simp (← c .new .ensures, ← c .before .normalize .ensures, ← c .before .before .sub .ensures)
 
 pub tighten-at-spec : {M : Type 1} → statement M
 tighten-at-spec =
-    tie.close (tie.spec (λ c κs. search needs) (λ c κs. search needs) returns)
+    tie.close (tie.spec (λ c κs. search needs) (λ c κs. search needs) (λ c κs. search needs) returns)

@@ -5,7 +5,7 @@ use native.Mathlib.Nat.{add-zero, sub-zero}
 use native.Mathlib.Omega.{arith}
 use denote.Ref.{now}
 use lib.ListN.{length}
-use Rattle.linear_programming.specs.Admit.{reach}
+use Rattle.common.specs.Vectors.{reach}
 use Rattle.admission.specs.Faults.{within}
 use Rattle.scene_records.specs.Parts.{coordinates, verticesAt, stored}
 use Rattle.scene_records.specs.Steps.{from, vector}
