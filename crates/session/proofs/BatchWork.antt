@@ -9,7 +9,7 @@ use lib.Seq.{sets, sets-eq, take-at, length-take-le}
 use lib.Ieee.{Float}
 use borrow.Author.Tests.{le-leb, leb-true}
 use Rattle.lines.specs.declared.Line.{Line}
-use Rattle.lines.specs.Lines.{linesOf}
+use Rattle.lines.specs.Lines.{mostLines, linesOf}
 use Rattle.linear_programming.specs.Whole.{Outcome}
 use Rattle.admission.specs.Faults.{fine, must}
 use Rattle.linear_programming.specs.Admit.{fours}
@@ -29,21 +29,21 @@ lines-behind l m n h =
     let k : length (take n l ++ m) ≡ n + length m = rw (length-append, length-take-le n l (omega arith)) refl in
     rw (sets-eq m l n h) (take-at (take n l ++ m) (drop (n + length m) l) (n + length m) k)
 
-pub batch-fits : (n : ℕ) (xs : List Float) → fine ≡ batchFault n xs → n + length xs / 4 ≤ 256
+pub batch-fits : (n : ℕ) (xs : List Float) → fine ≡ batchFault n xs → n + length xs / 4 ≤ mostLines
 unfolding batchFault
 batch-fits n xs h =
-    let a = ⊳-fine (must (leb n 256) 4) (sym h) in
+    let a = ⊳-fine (must (leb n mostLines) 4) (sym h) in
     let b = ⊳-fine (fours xs) (a .1) in
-    let c = ⊳-fine (must (leb (n + length (linesOf xs)) 256) 4) (b .1) in
-    rw (← lines-long xs) (leb-true _ _ (must-fine (leb (n + length (linesOf xs)) 256) 4 (c .0)))
+    let c = ⊳-fine (must (leb (n + length (linesOf xs)) mostLines) 4) (b .1) in
+    rw (← lines-long xs) (leb-true _ _ (must-fine (leb (n + length (linesOf xs)) mostLines) 4 (c .0)))
 
-module _ (s : Session) (xs : List Float) (size : length (s .lines) ≡ 256) (fits : s .count + length xs / 4 ≤ 256) where
+module _ (s : Session) (xs : List Float) (size : length (s .lines) ≡ mostLines) (fits : s .count + length xs / 4 ≤ mostLines) where
   -- all lines, from the first new one on
   all-lines : resumedCall (s .rigid) (s .wish) (s .limit) (sets (s .lines) (s .count) (linesOf xs)) (s .count + length (linesOf xs)) (s .count) (phaseOf (s .phase)) (failedOf (s .failed)) ≡ worked s (linesOf xs)
   unfolding resumedCall worked
   all-lines =
       let n : length (linesOf xs) ≡ length xs / 4 = lines-long xs in
-      rw (le-leb (s .count + length (linesOf xs)) 256 (omega arith), lines-behind (s .lines) (linesOf xs) (s .count) (omega arith))
+      rw (le-leb (s .count + length (linesOf xs)) mostLines (omega arith), lines-behind (s .lines) (linesOf xs) (s .count) (omega arith))
 
   pub worked-right : (lines : List Line) (n : ℕ) (o : Outcome) → lines ≡ sets (s .lines) (s .count) (linesOf xs) → n ≡ s .count + length xs / 4 →
       o ≡ resumedCall (s .rigid) (s .wish) (s .limit) lines n (s .count) (phaseOf (s .phase)) (failedOf (s .failed)) →

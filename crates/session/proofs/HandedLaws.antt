@@ -10,7 +10,7 @@ use lib.Seq.{length-take-le, length-sets}
 use lib.Ieee.{Float}
 use borrow.Author.Tests.{le-leb}
 use Rattle.lines.specs.declared.Line.{Line}
-use Rattle.lines.specs.Lines.{linesOf}
+use Rattle.lines.specs.Lines.{mostLines, linesOf}
 use Rattle.lines.specs.LineFaults.{linesFault}
 use Rattle.linear_programming.specs.Whole.{Phase, Failed, Outcome, stands, refusal, wholeList}
 use Rattle.admission.specs.Faults.{Fault, fine, fault, must, _⊳_}
@@ -33,7 +33,7 @@ use Rattle.session.proofs.BatchWork.{lines-behind, batch-fits}
 
 by-four : (n : ℕ) (xs : List Float) → batchFault n xs ≡ fine → fours xs ≡ fine
 unfolding batchFault
-by-four n xs e = ⊳-fine (fours xs) (⊳-fine (must (leb n 256) 4) e .1) .0
+by-four n xs e = ⊳-fine (fours xs) (⊳-fine (must (leb n mostLines) 4) e .1) .0
 
 module _ (s : Session) (h : Handed s) where
   -- what was judged of the lines that stand
@@ -45,8 +45,8 @@ module _ (s : Session) (h : Handed s) where
   pub fault-free : FaultFree
   unfolding judgedList
   fault-free =
-      let passed = ⟫-stands (must (leb (length (linesIn s)) 256) 4 ⊳ wishFault (s .wish) (s .limit) ⊳ linesFault (linesIn s)) (h .stand) in
-      let few = ⊳-fine (must (leb (length (linesIn s)) 256) 4) (passed .0) in
+      let passed = ⟫-stands (must (leb (length (linesIn s)) mostLines) 4 ⊳ wishFault (s .wish) (s .limit) ⊳ linesFault (linesIn s)) (h .stand) in
+      let few = ⊳-fine (must (leb (length (linesIn s)) mostLines) 4) (passed .0) in
       let faults = ⊳-fine (wishFault (s .wish) (s .limit)) (few .1) in
       record { wished = faults .0; lined = faults .1; stood = passed .1 }
 
@@ -57,8 +57,8 @@ module _ (s : Session) (h : Handed s) where
   all-judged : (xs : List Float) → (fours xs ⟫ judgedList (s .rigid) (s .wish) (s .limit) (linesIn s ++ linesOf xs)) ≡ (batchFault (s .count) xs ⟫ wholeList (s .rigid) (s .wish) (s .limit) (linesIn s ++ linesOf xs))
   unfolding judgedList batchFault
   all-judged xs =
-      rw (length-append (linesIn s) (linesOf xs), faults-append, fault-free .wished, fault-free .lined, count-is, le-leb (s .count) 256 (h .fits))
-      (sym (⟫-assoc (fours xs) (must (leb (s .count + length (linesOf xs)) 256) 4 ⊳ linesFault (linesOf xs)) _))
+      rw (length-append (linesIn s) (linesOf xs), faults-append, fault-free .wished, fault-free .lined, count-is, le-leb (s .count) mostLines (h .fits))
+      (sym (⟫-assoc (fours xs) (must (leb (s .count + length (linesOf xs)) mostLines) 4 ⊳ linesFault (linesOf xs)) _))
 
   -- the solve over the new lines, the probes before added, is the whole-list rules over all lines
   solved-on : (m : List Line) → addProbes (s .probes) (worked s m) ≡ wholeList (s .rigid) (s .wish) (s .limit) (linesIn s ++ m)
@@ -67,8 +67,8 @@ module _ (s : Session) (h : Handed s) where
       ap (λ (k : ℕ). addProbes (s .probes) (resumed (s .rigid) (s .wish) (s .limit) (linesIn s ++ m) k (phaseOf (s .phase)) (failedOf (s .failed)))) (sym count-is)
       ∙ resumed-whole (s .rigid) (s .wish) (s .limit) (linesIn s) m (fault-free .stood)
 
-  module _ (m : List Line) (room : s .count + length m ≤ 256) where
-    all-few : length (linesIn s ++ m) ≤ 256
+  module _ (m : List Line) (room : s .count + length m ≤ mostLines) where
+    all-few : length (linesIn s ++ m) ≤ mostLines
     all-few = rw (length-append, count-is) room
 
     -- no total comes round
@@ -97,7 +97,7 @@ module _ (s : Session) (h : Handed s) where
     whole-told : batchFault (s .count) xs ≡ fine → judgedList (s .rigid) (s .wish) (s .limit) after ≡ addProbes (s .probes) (worked s L)
     whole-told e = (rw (by-four (s .count) xs e, e) at (all-judged xs)) ∙ sym (solved-on L)
 
-    has-room : batchFault (s .count) xs ≡ fine → s .count + length L ≤ 256
+    has-room : batchFault (s .count) xs ≡ fine → s .count + length L ≤ mostLines
     has-room e = rw (lines-long xs) (batch-fits (s .count) xs (sym e))
 
     refused-on : (r : ℕ) → refusal r ≡ (fours xs ⟫ judgedList (s .rigid) (s .wish) (s .limit) after) → Continues s xs (settled s L (refusal r))

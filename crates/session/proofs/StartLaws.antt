@@ -8,7 +8,7 @@ use lib.Ieee.{Float}
 use Rattle.arithmetic.specs.Binary32.{0ᶠ}
 use Rattle.common.specs.declared.Vec2.{Vec2}
 use Rattle.common.specs.Vectors.{zeroVector}
-use Rattle.lines.specs.Lines.{linesOf}
+use Rattle.lines.specs.Lines.{mostLines, linesOf}
 use Rattle.lines.specs.LineFaults.{linesFault}
 use Rattle.linear_programming.specs.Whole.{Outcome, stands, refusal, solving, noLine}
 use Rattle.admission.specs.Faults.{within, inside}
@@ -19,7 +19,7 @@ use Rattle.session.specs.declared.Fed.{Fed}
 use Rattle.session.specs.Sessions.{blankLines, blankSession, startedBy, startedAs}
 use Rattle.session.specs.Handed.{Handed, Begins}
 
-blank-size : length blankLines ≡ 256
+blank-size : length blankLines ≡ mostLines
 unfolding blankLines
 blank-size = refl
 

@@ -4,7 +4,6 @@ use mathlib.Core.Path.{_≡_}
 use mathlib.Core.List.{List, [], _∷_, _++_}
 use lib.ListN.{length}
 use lib.Ieee.{Float}
-use Rattle.admission.specs.Faults.{fine, faultOf}
 use Rattle.session.specs.declared.Session.{Session}
 use Rattle.session.specs.Batches.{fedAs}
 
@@ -12,11 +11,6 @@ use Rattle.session.specs.Batches.{fedAs}
 abbrev pub fedAll : Session → List (List Float) → Session
 fedAll s [] = s
 fedAll s (xs ∷ xss) = fedAll (fedAs s xs .session) xss
-
--- no batch is refused
-pub data Taken : Session → List (List Float) → Type 0 where
-  all-taken : {s : Session} → Taken s []
-  taken : {s : Session} {xs : List Float} {xss : List (List Float)} → faultOf (fedAs s xs .judged) ≡ fine → Taken (fedAs s xs .session) xss → Taken s (xs ∷ xss)
 
 -- each batch is whole lines, or empty
 pub data WholeLines : List (List Float) → Type 0 where

@@ -5,7 +5,7 @@ use mathlib.Core.List.{List, [], _++_}
 use lib.ListN.{length}
 use lib.Ieee.{Float}
 use Rattle.common.specs.declared.Vec2.{Vec2}
-use Rattle.lines.specs.Lines.{linesOf}
+use Rattle.lines.specs.Lines.{mostLines, linesOf}
 use Rattle.linear_programming.specs.Whole.{Outcome}
 use Rattle.admission.specs.Faults.{fine, fault, faultOf}
 use Rattle.linear_programming.specs.Admit.{_⟫_, fours, judgedList, listCall}
@@ -15,8 +15,8 @@ use Rattle.session.specs.Sessions.{linesIn, outcomeIn}
 
 -- the session stands as the single call over its own lines does: phase, point, penetration, failed line and probes
 pub record Handed (s : Session) : Type 0 where
-  pub size : length (s .lines) ≡ 256
-  pub fits : s .count ≤ 256
+  pub size : length (s .lines) ≡ mostLines
+  pub fits : s .count ≤ mostLines
   pub stand : judgedList (s .rigid) (s .wish) (s .limit) (linesIn s) ≡ outcomeIn s
 
 -- what a call tells: how its session stands, or the number of its refusal

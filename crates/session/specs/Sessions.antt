@@ -7,7 +7,7 @@ use Rattle.arithmetic.specs.Binary32.{0ᶠ}
 use Rattle.common.specs.declared.Vec2.{Vec2}
 use Rattle.common.specs.Vectors.{zeroVector}
 use Rattle.lines.specs.declared.Line.{Line}
-use Rattle.lines.specs.Lines.{line}
+use Rattle.lines.specs.Lines.{line, mostLines}
 use Rattle.linear_programming.specs.Whole.{solving, noLine, Outcome, stands, refusal}
 use Rattle.admission.specs.Faults.{fine, fault, judgedAs}
 use Rattle.linear_programming.specs.Admit.{listCall}
@@ -24,7 +24,7 @@ outcomeIn s = stands (phaseOf (s .phase)) (failedOf (s .failed)) (s .probes)
 
 -- the array of a session that has no lines yet
 unfoldable pub blankLines : List Line
-blankLines = replicate 256 (line zeroVector zeroVector)
+blankLines = replicate mostLines (line zeroVector zeroVector)
 
 unfoldable pub blankSession : Session
 blankSession = record {

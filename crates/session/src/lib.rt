@@ -9,7 +9,7 @@ ghost use mathlib.Core.Path.{_≡_};
 ghost use Prim.Native.Nat.{_+_, _/_, _≤_};
 ghost use lib.ListN.{length};
 ghost use lib.Seq.{sets};
-ghost use Rattle.lines.specs.Lines.{linesOf};
+ghost use Rattle.lines.specs.Lines.{mostLines, linesOf};
 ghost use Rattle.admission.specs.Faults.{faultOf};
 ghost use Rattle.linear_programming.specs.Read.{outcomeOf};
 ghost use Rattle.session.specs.Sessions.{blankLines, blankSession, startedAs};
@@ -18,7 +18,7 @@ ghost use Rattle.session.specs.Handed.{Handed, Begins, Continues};
 
 // The lines so far and their count, what they are solved for, and how they stand: the phase, the failed line beside it, and the probes.
 pub struct Session {
-    pub lines: [Line; 256],
+    pub lines: [Line; Line::MOST],
     pub count: usize,
     pub rigid: usize,
     pub wish: Vec2,
@@ -34,13 +34,10 @@ pub struct Fed {
     pub session: Session,
 }
 
-fn blank_lines() -> [Line; 256]
+fn blank_lines() -> [Line; Line::MOST]
     ensures { λ r. ⌜ r ≡ blankLines ⌝ }
 {
-    [Line {
-        point: Vec2::ZERO,
-        direction: Vec2::ZERO,
-    }; 256]
+    [Line::new(Vec2::ZERO, Vec2::ZERO); Line::MOST]
 }
 
 // The session that stands beside a refusal to start: nothing is wished, and nothing stands in the way.
@@ -77,8 +74,8 @@ fn judge_batch(count: usize, numbers: &[f32]) -> Judged
 }
 
 // The lines with those of a batch behind the first `count`.
-fn store(lines: [Line; 256], count: usize, numbers: &[f32]) -> [Line; 256]
-    requires { ⌜ count + length (now numbers) / 4 ≤ 256 ⌝ }
+fn store(lines: [Line; Line::MOST], count: usize, numbers: &[f32]) -> [Line; Line::MOST]
+    requires { ⌜ count + length (now numbers) / 4 ≤ mostLines ⌝ }
     ensures { λ r. ⌜ r ≡ sets lines count (linesOf (now (numbers .entry))) ⌝ }
 {
     let mut stored = lines;
@@ -142,7 +139,7 @@ impl Session {
 
 // A batch that is admitted and fits, stored and worked.
 fn work(session: Session, numbers: &[f32]) -> Fed
-    requires { ⌜ session .count + length (now numbers) / 4 ≤ 256 ⌝ }
+    requires { ⌜ session .count + length (now numbers) / 4 ≤ mostLines ⌝ }
     ensures { λ r. ⌜ r ≡ settled session (linesOf (now (numbers .entry))) (worked session (linesOf (now (numbers .entry)))) ⌝ }
 {
     let from = session.count;
@@ -166,7 +163,7 @@ fn work(session: Session, numbers: &[f32]) -> Fed
 }
 
 // The session as the solve leaves it.
-fn settle(session: Session, lines: [Line; 256], count: usize, answer: Answer) -> Fed
+fn settle(session: Session, lines: [Line; Line::MOST], count: usize, answer: Answer) -> Fed
     ensures { λ r. ⌜ r ≡ settledOn session lines count (outcomeOf answer) ⌝ }
 {
     let wish = session.wish;
