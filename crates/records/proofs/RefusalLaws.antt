@@ -24,8 +24,8 @@ use Rattle.obstacles.specs.Obstacles as walls
 use Rattle.obstacles.specs.Obstacles.{Answer, lines, Admitted, notAdmitted, admitted, behind, addEdge, linesUpTo, obstacleLines, obstacleFault, obstacleCall}
 use Rattle.dodgy_2d.specs.declared.Scene.{Scene}
 use Rattle.dodgy_2d.specs.Scenes.{headsIn, sceneFault}
-use Rattle.dodgy_2d.specs.Outcomes.{SceneOutcome, outcome, refusedScene, joined, edgeLines, edgesAt, sceneOutcome}
-use Rattle.dodgy_2d.proofs.SceneTold.{Told, answered, at-fault, by-edge, scene-told}
+use Rattle.dodgy_2d.specs.Outcomes.{SceneOutcome, outcome, refusedScene, joined, edgeLines, edgesAt, atRest, sceneOutcome}
+use Rattle.dodgy_2d.proofs.SceneTold.{Told, answered, at-fault, by-edge, by-edge-at-rest, scene-told}
 use Rattle.fields.specs.Got.{Got, refused, got, then, guard, word, many}
 use Rattle.scene_records.specs.Steps.{version, count, number, vector, ended}
 use Rattle.scene_records.specs.Parts.{cart, head, verticesAt, obstacle, obstacles, neighbour, neighbours}
@@ -199,7 +199,8 @@ same-number m r e = cc
 solve-numbered : (c : Scene) → sceneFault c ≡ fine → (o : SceneOutcome) → Told c o → (r : ℕ) → one.ofOutcome o ≡ one.refusal r → Numbered r
 solve-numbered c f (outcome code p l n) (answered h) r e = absurd (let z : _≡_ {A = ℕ} 0 1 = cc in omega arith)
 solve-numbered c f (refusedScene m) (at-fault g) r e = absurd (no-fault m (sym f ∙ g))
-solve-numbered c f (refusedScene m) (by-edge v g h) r e = rw (← same-number m r e) (lines-numbered (rw h at (scene-lines c v)))
+solve-numbered c f (refusedScene m) (by-edge g h) r e = rw (← same-number m r e) (lines-numbered (rw h at (scene-lines c (c .agent .velocity))))
+solve-numbered c f (refusedScene m) (by-edge-at-rest g h) r e = rw (← same-number m r e) (lines-numbered (rw h at (scene-lines c atRest)))
 
 reading-numbered : (s : List ℕ) (g : Got Scene) → sceneInVersion1 s ≡ g → NumberedReading g → (r : ℕ) → one.ofReading g ≡ one.refusal r → Numbered r
 reading-numbered s (refused m) z h r e = rw (← same-number m r e) (refused-numbered h)

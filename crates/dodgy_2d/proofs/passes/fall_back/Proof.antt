@@ -7,9 +7,7 @@ use Rattle.dodgy_2d.proofs.passes.fall_back.Statement.{statement}
 use Rattle.dodgy_2d.proofs.passes.fall_back.Tie as tie
 
 add-all : tie.Need-add-all
-add-all c =
-    let start = c .before .before .before .before in
-    omega (arith, start .pre .1, pass-fits (start .args .scene) atRest (start .pre .0) (rw (c .before .phase .given .1) at (c .before .before .before .pass .ensures)))
+add-all c = omega (arith, pass-fits _ atRest (search needs) (rw (c .before .phase .given .1) at (c .before .before .before .pass .ensures)))
 
 returns : tie.Need-returns
 returns c = simp (c .before .number .given .1, ← c .before .before .before .pass .ensures)
