@@ -21,11 +21,12 @@ use Rattle.edges.specs.declared.Agent.{Agent}
 use Rattle.obstacles.specs.Obstacles.{Answer, lines, refused, obstacleCall}
 use Rattle.obstacles.proofs.Computed.{computed}
 
--- a list with its rigid count, wish and limit; a number whose root is asked; an obstacle beside an agent at rest at the origin, with horizon 1
+-- a list with its rigid count, wish and limit; a number whose root is asked; an obstacle of so many vertices, with its numbers, beside an agent at rest at the
+-- origin, with margin and horizon
 pub data Asked : Type 0 where
   list : ℕ → Vec2 → Float → List Line → Asked
   root : Float → Asked
-  obstacle : ℕ → Float → List Vec2 → Asked
+  numbers : ℕ → ℕ → List Float → Float → Float → Asked
 
 pub data Answered : Type 0 where
   ends : Outcome → Answered
@@ -51,7 +52,11 @@ still = record { position = vec (+ 0) (+ 0); velocity = vec (+ 0) (+ 0) }
 abbrev pub byTheRules : Asked → Answered
 byTheRules (list rigid wish limit ls) = ends (listCall rigid wish limit (numbersOf ls))
 byTheRules (root x) = is (sqrtOf x)
-byTheRules (obstacle kind margin vs) = makes (obstacleCall still kind (corners vs) 0 (length vs) margin (+ 1))
+byTheRules (numbers kind count xs margin horizon) = makes (obstacleCall still kind xs count margin horizon)
+
+-- with its vertices' numbers, and horizon 1
+abbrev obstacle : ℕ → Float → List Vec2 → Asked
+obstacle kind margin vs = numbers kind (length vs) (corners vs) margin (+ 1)
 
 -- ---- the table
 
@@ -116,9 +121,13 @@ table =
     ∷ (obstacle 2 halfᶠ wall gives makes (lines (line (vec (− 1) halfᶠ) (vec (− 1) (− 0)) ∷ [])))
     ∷ (obstacle 2 (+ 2) turned gives makes (lines []))
     ∷ (obstacle 2 halfᶠ turned gives makes (lines []))
+    -- its wall with a horizon out of range
+    ∷ (numbers 2 2 (corners wall) (+ 2) (+ 2048) gives makes (refused 6))
     -- P12
     ∷ (obstacle 1 (+ 1) (vec (+ 5) (+ 0) ∷ []) gives makes (lines []))
     ∷ (obstacle 1 (+ 1) (vec halfᶠ (+ 0) ∷ []) gives makes (refused 9))
+    -- no vertices, and a number left over
+    ∷ (numbers 1 0 (+ 0 ∷ []) (+ 1) (+ 1) gives makes (refused 2))
     -- 256 lines pass, 257 get 4; limit 1,024 passes, the next f32 gets 6
     ∷ (list 0 o (+ 2) (replicate 256 behind) gives ends (stands (solving o) noLine 256))
     ∷ (list 0 o (+ 2) (replicate 257 behind) gives ends (refusal 4))

@@ -1,4 +1,4 @@
-// Runs 01's bench cases, P1 to P12 and the limits of its last row, through the code: the cases that proofs/Table.antt claims of the definitions. A case that is wrong is told by its number.
+// Runs 01's bench cases, P1 to P12 and the limits of its last row, with a horizon out of range and a number left over, through the code: the cases that proofs/Table.antt claims of the definitions. A case that is wrong is told by its number.
 use admission::Judged;
 use common::Vec2;
 use edges::Agent;
@@ -135,12 +135,25 @@ fn roots(t: Tally) -> Tally {
 
 // ---- obstacles
 
-fn made(kind: u8, vertices: &[f32], count: usize, margin: f32) -> ObstacleLines {
+fn asked(kind: u8, vertices: &[f32], count: usize, margin: f32, horizon: f32) -> ObstacleLines {
     let agent = Agent {
         position: Vec2::ZERO,
         velocity: Vec2::ZERO,
     };
-    obstacles::get_lines_for_agent_to_obstacle(agent, kind, vertices, 0, count, margin, 1.0)
+    obstacles::get_lines_for_agent_to_obstacle(agent, kind, vertices, count, margin, horizon)
+}
+
+// With horizon 1, as 01 has it.
+fn made(kind: u8, vertices: &[f32], count: usize, margin: f32) -> ObstacleLines {
+    asked(kind, vertices, count, margin, 1.0)
+}
+
+fn is_told(found: ObstacleLines, number: u8) -> bool {
+    let judged = found.judged;
+    match judged {
+        Judged::Fault(told) => told == number,
+        Judged::Fine => false,
+    }
 }
 
 fn is_no_line(found: ObstacleLines) -> bool {
@@ -168,18 +181,15 @@ fn walls(t: Tally) -> Tally {
         .with(is_line(made(2, &wall, 2, 0.5), -1.0, 0.5), 11)
         .with(is_no_line(made(2, &turned, 2, 2.0)), 11)
         .with(is_no_line(made(2, &turned, 2, 0.5)), 11)
+        .with(is_told(asked(2, &wall, 2, 2.0, 2048.0), 6), 11)
 }
 
 fn points(t: Tally) -> Tally {
     let aside = [5.0, 0.0];
     let near = [0.5, 0.0];
-    let refused = made(1, &near, 1, 1.0).judged;
-    let nine = match refused {
-        Judged::Fault(number) => number == 9,
-        Judged::Fine => false,
-    };
     t.with(is_no_line(made(1, &aside, 1, 1.0)), 12)
-        .with(nine, 12)
+        .with(is_told(made(1, &near, 1, 1.0), 9), 12)
+        .with(is_told(made(1, &near[0..1], 0, 1.0), 2), 12)
 }
 
 fn main() {

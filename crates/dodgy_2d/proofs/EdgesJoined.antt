@@ -1,22 +1,25 @@
 -- The obstacles' lines joined, obstacle behind obstacle: in the definitions, and in the numbers that hold them. Assumes nothing.
-use Prim.Native.Nat.{ℕ, _+_, _*_, _≤_, _<_}
+use Prim.Native.Nat.{ℕ, _+_, _-_, _*_, _≤_, _<_}
 use mathlib.Core.Path.{_≡_, refl, sym, ap}
 use mathlib.Core.List.{List, [], _++_, append-assoc, append-nil}
 use native.Mathlib.Omega.{arith}
-use lib.ListN.{length, take, getD}
+use lib.ListN.{length, take, drop, getD}
 use lib.Seq.{paste, take-paste, length-take-le}
 use lib.Ieee.{Float}
+use Rattle.admission.specs.declared.Head.{Head}
 use Rattle.admission.specs.Faults.{fine, fault, faultOf, judgedAs}
+use Rattle.admission.specs.Heads.{headOf}
 use Rattle.admission.proofs.FaultLaws.{no-fault}
 use Rattle.lines.specs.declared.Line.{Line}
 use Rattle.lines.specs.Lines.{linesOf}
 use Rattle.lines.proofs.Rows.{lines-append}
 use Rattle.edges.specs.declared.Agent.{Agent}
 use Rattle.obstacles.specs.declared.ObstacleLines.{ObstacleLines}
-use Rattle.obstacles.specs.Obstacles.{Answer, lines, refused, obstacleCall}
+use Rattle.obstacles.specs.Obstacles.{Answer, lines, refused, linesAlone}
 use Rattle.obstacles.specs.Read.{answerAs}
-use Rattle.obstacles.proofs.HandedOver.{handed-lines}
-use Rattle.dodgy_2d.specs.Outcomes.{joined, edgeLines}
+use Rattle.obstacles.proofs.VertexNumbers.{part-size}
+use Rattle.obstacles.proofs.HandedOver.{lines-few, alone-lines, handed-lines}
+use Rattle.dodgy_2d.specs.Outcomes.{joined, linesAt, edgeLines}
 use Rattle.dodgy_2d.proofs.HeadsInOrder.{headsFrom, heads-next, heads-none}
 
 -- ---- joining
@@ -36,7 +39,7 @@ module _ (agent : Agent) (margin horizon : Float) (v : List Float) (ks cs : List
   abbrev pub edgesFrom : ℕ → ℕ → Answer
   edgesFrom offset i = edgeLines agent margin horizon v offset (headsFrom ks cs n i)
 
-  pub edges-on : (i offset : ℕ) (a b : Answer) → i < n → b ≡ joined a (obstacleCall agent (getD ks i 0) v offset (getD cs i 0) margin horizon) → joined a (edgesFrom offset i) ≡ joined b (edgesFrom (offset + getD cs i 0) (i + 1))
+  pub edges-on : (i offset : ℕ) (a b : Answer) → i < n → b ≡ joined a (linesAt agent margin horizon v offset (headOf (getD ks i 0) (getD cs i 0))) → joined a (edgesFrom offset i) ≡ joined b (edgesFrom (offset + getD cs i 0) (i + 1))
   unfolding edgeLines
   edges-on i offset a b h e = rw (heads-next ks cs n i kinds counts h, e) (joined-assoc a _ _)
 
@@ -45,6 +48,22 @@ module _ (agent : Agent) (margin horizon : Float) (v : List Float) (ks cs : List
   edges-done i offset l h = rw (heads-none ks cs n i kinds counts h) (ap lines (append-nil l))
 
 -- ---- one obstacle's answer, by what it says
+
+-- the lines alone, of the vertices from the offset on, are the obstacle's, and few
+module _ (agent : Agent) (margin horizon : Float) (v : List Float) (offset : ℕ) (h : Head) (few : h .count ≤ 64) (there : 2 * (offset + h .count) ≤ length v) where
+  abbrev found-alone : Answer
+  found-alone = linesAlone agent (h .kind) (take (2 * (offset + h .count) - 2 * offset) (drop (2 * offset) v)) margin horizon
+
+  alone-there : found-alone ≡ linesAt agent margin horizon v offset h
+  alone-there =
+      let cut : 2 * (offset + h .count) - 2 * offset ≡ 2 * h .count = omega arith in
+      rw cut (alone-lines agent (h .kind) (h .count) _ margin horizon (part-size v offset (h .count) (omega arith)) few)
+
+  pub found-lines : {found : ObstacleLines} → found ≡ answerAs found-alone → found ≡ answerAs (linesAt agent margin horizon v offset h)
+  found-lines e = rw alone-there at e
+
+  pub found-few : {found : ObstacleLines} → found ≡ answerAs found-alone → found .count ≤ h .count
+  found-few e = lines-few agent (h .kind) (h .count) _ margin horizon (found-lines e)
 
 fault-same : {r s : ℕ} → fault r ≡ fault s → r ≡ s
 fault-same e = cc

@@ -1,19 +1,19 @@
 -- A scene's obstacles in order: what a loop over them has left, and what their faults say of each. Assumes nothing.
 use Prim.Native.Nat.{ℕ, _+_, _*_, _≤_, _<_}
 use mathlib.Core.Path.{_≡_, sym, ap, _∙_}
-use mathlib.Core.Bool.{true, not}
 use mathlib.Core.List.{List, [], _∷_}
 use native.Mathlib.Omega.{arith}
-use lib.ListN.{length, take, drop, getD}
-use lib.Seq.{drop-drop, drop-at, take-add, length-take-le}
+use lib.ListN.{length, take, drop, getD, length-drop}
+use lib.Seq.{drop-drop}
 use lib.Ieee.{Float}
 use Rattle.admission.specs.declared.Head.{Head}
-use Rattle.admission.specs.Faults.{Fault, fine, fault, must, _⊳_}
-use Rattle.admission.specs.Heads.{headOf, isKind, roomFor, isEmptyOpen}
-use Rattle.admission.proofs.FaultLaws.{⊳-fine, ⊳-assoc, must-fine}
-use Rattle.admission.proofs.HeadLaws.{room-within}
+use Rattle.admission.specs.Faults.{Fault, fine, fault, _⊳_}
+use Rattle.admission.specs.Heads.{headOf}
+use Rattle.admission.proofs.FaultLaws.{⊳-fine, ⊳-assoc}
 use Rattle.lines.proofs.Fold.{left-next, left-none}
-use Rattle.dodgy_2d.specs.Scenes.{headsOf, numbersFault, headFault, obstaclesFault}
+use Rattle.obstacles.specs.ObstacleFaults.{headFault, verticesFault}
+use Rattle.obstacles.proofs.ObstacleFaults.{head-room, vertices-lent}
+use Rattle.dodgy_2d.specs.Scenes.{headsOf, obstaclesFault}
 
 -- ---- the heads from the i-th up to the n-th
 
@@ -29,26 +29,6 @@ module _ (ks cs : List ℕ) (n i : ℕ) (kinds : n ≤ length ks) (counts : n �
   unfolding headsOf
   heads-none h = rw (left-none ks n i kinds h)
 
--- ---- one head's fault
-
--- a head without a fault passes each test
-pub head-passed : (total : ℕ) (h : Head) → headFault total h ≡ fine → (isKind (h .kind) ≡ true) × (roomFor total (h .count) ≡ true) × (not (isEmptyOpen (h .kind) (h .count)) ≡ true)
-unfolding headFault
-head-passed total h e =
-    let a = ⊳-fine (must (isKind (h .kind)) 3) e in
-    let b = ⊳-fine (must (roomFor total (h .count)) 4) (a .1) in
-    (must-fine _ 3 (a .0), must-fine _ 4 (b .0), must-fine _ 5 (b .1))
-
-pub head-room : (total : ℕ) (h : Head) → headFault total h ≡ fine → (h .count ≤ 64) × (total + h .count ≤ 192)
-head-room total h e = room-within total (h .count) (head-passed total h e .1)
-
--- the numbers of `count` vertices behind `total`
-pub part-of : (v : List Float) (total count : ℕ) → total + count ≤ 192 → length v ≡ 384 → drop (2 * total) (take (2 * (total + count)) v) ≡ take (2 * count) (drop (2 * total) v)
-part-of v total count room long =
-    let e : 2 * (total + count) ≡ 2 * total + 2 * count = omega arith in
-    let k : length (take (2 * total) v) ≡ 2 * total = length-take-le (2 * total) v (omega arith) in
-    rw (e, take-add (2 * total) (2 * count) v) (drop-at (take (2 * total) v) (take (2 * count) (drop (2 * total) v)) (2 * total) k)
-
 -- ---- one obstacle of several, behind `total` vertices
 
 behind : (total count : ℕ) (v : List Float) → drop (2 * count) (drop (2 * total) v) ≡ drop (2 * (total + count)) v
@@ -61,7 +41,7 @@ module _ (ks cs : List ℕ) (n i : ℕ) (kinds : n ≤ length ks) (counts : n �
   own = headOf (getD ks i 0) (getD cs i 0)
 
   abbrev pub ownFault : Fault
-  ownFault = headFault total own ⊳ numbersFault (take (2 * own .count) (drop (2 * total) v))
+  ownFault = headFault total own ⊳ verticesFault (own .count) (drop (2 * total) v)
 
   abbrev left : Fault
   left = obstaclesFault total (headsFrom ks cs n i) (drop (2 * total) v)
@@ -71,7 +51,7 @@ module _ (ks cs : List ℕ) (n i : ℕ) (kinds : n ≤ length ks) (counts : n �
 
   one-more : i < n → left ≡ (ownFault ⊳ later)
   unfolding obstaclesFault
-  one-more h = rw (heads-next ks cs n i kinds counts h, ← behind total (own .count) v) (⊳-assoc (headFault total own) (numbersFault (take (2 * own .count) (drop (2 * total) v))) _)
+  one-more h = rw (heads-next ks cs n i kinds counts h, ← behind total (own .count) v) (⊳-assoc (headFault total own) (verticesFault (own .count) (drop (2 * total) v)) _)
 
   pub obstacle-on : i < n → fine ≡ ownFault → left ≡ later
   obstacle-on h e = one-more h ∙ rw (← e)
@@ -86,6 +66,12 @@ module _ (ks cs : List ℕ) (n i : ℕ) (kinds : n ≤ length ks) (counts : n �
   -- an obstacle that passes leaves room for its vertices
   pub own-room : fine ≡ ownFault → (own .count ≤ 64) × (total + own .count ≤ 192)
   own-room e = head-room total own (⊳-fine (headFault total own) (sym e) .0)
+
+  -- and its vertices are there
+  pub own-there : 2 * total ≤ length v → fine ≡ ownFault → 2 * (total + own .count) ≤ length v
+  own-there h e =
+      let there = vertices-lent (own .count) (drop (2 * total) v) (⊳-fine (headFault total own) (sym e) .1) in
+      omega (arith, length-drop (2 * total) v)
 
   -- where none is at fault, this one passes, and none behind it is at fault
   pub own-fine : i < n → left ≡ fine → (fine ≡ ownFault) × (later ≡ fine)

@@ -1,5 +1,4 @@
--- The laws of `dodgy_2d`: of numbers and of obstacles judged in order, of the obstacles' lines joined, of the passes, of what is told, and that two answers of one promise agree.
-pub mod NumbersInOrder
+-- The laws of `dodgy_2d`: of obstacles judged in order, of the obstacles' lines joined, of the passes, of what is told, and that two answers of one promise agree.
 pub mod HeadsInOrder
 pub mod EdgesJoined
 pub mod ScenePasses

@@ -8,12 +8,11 @@ use lib.ListN.{length, take, length-append, length-take}
 use lib.Seq.{paste, take-paste, length-paste-head, length-take-le}
 use lib.Ieee.{Float}
 use borrow.Author.Tests.{leb-true, le-leb}
-use Rattle.arithmetic.specs.Binary32.{0ᶠ}
 use Rattle.admission.specs.declared.Head.{Head}
-use Rattle.admission.specs.Faults.{fine, must, within, inside}
+use Rattle.admission.specs.Faults.{fine, must, within}
 use Rattle.admission.proofs.FaultLaws.{⊳-fine, must-fine}
 use Rattle.common.specs.declared.Vec2.{Vec2}
-use Rattle.common.specs.Vectors.{reach, longest}
+use Rattle.common.specs.Vectors.{reach}
 use Rattle.lines.specs.declared.Line.{Line}
 use Rattle.lines.specs.Lines.{linesOf}
 use Rattle.lines.specs.LineFaults.{linesFault}
@@ -23,46 +22,42 @@ use Rattle.lines.proofs.JudgeLaws.{faults-append}
 use Rattle.lines.proofs.Rows.{lines-long, lines-take}
 use Rattle.linear_programming.proofs.WholeProbes.{whole-fits}
 use Rattle.edges.specs.declared.Agent.{Agent}
+use Rattle.obstacles.specs.ObstacleFaults.{vectorFault, agentFault, headFault, verticesFault}
 use Rattle.obstacles.specs.Obstacles.{Answer, lines, refused}
-use Rattle.obstacles.proofs.EdgesInOrder.{FewAdmitted, refuses, few-admitted}
-use Rattle.obstacles.proofs.HandedOver.{call-few-admitted}
+use Rattle.obstacles.proofs.ObstacleFaults.{head-room}
+use Rattle.obstacles.proofs.EdgesInOrder.{FewAdmitted, refuses, few-admitted, lines-few-admitted}
 use Rattle.dodgy_2d.specs.declared.Scene.{Scene}
-use Rattle.dodgy_2d.specs.Scenes.{headsIn, neighboursIn, shortestHorizon, longestHorizon, numbersFault, vectorFault, agentFault, headFault, obstaclesFault, sceneFault}
+use Rattle.dodgy_2d.specs.Scenes.{headsIn, neighboursIn, cartFault, obstaclesFault, sceneFault}
 use Rattle.dodgy_2d.specs.Outcomes.{joined, edgeLines, edgesAt, solvedOver, passAt}
-use Rattle.dodgy_2d.proofs.HeadsInOrder.{head-room}
 use Rattle.dodgy_2d.proofs.EdgesJoined.{copied-lines}
 
 -- ---- the parts of a scene without a fault
 
 pub record Parts (s : Scene) : Type 0 where
-  pub agent : agentFault s ≡ fine
+  pub cart : cartFault s ≡ fine
   pub wish : wishFault (s .wish) (s .limit) ≡ fine
   pub obstacles : s .obstacles ≤ 16
   pub walls : obstaclesFault 0 (headsIn s) (s .vertices) ≡ fine
   pub neighbours : s .neighbours ≤ 64
   pub lines : linesFault (neighboursIn s) ≡ fine
 
-wish-fine : (s : Scene) → agentFault s ≡ fine → wishFault (s .wish) (s .limit) ≡ fine
-unfolding agentFault vectorFault numbersFault wishFault
+wish-fine : (s : Scene) → cartFault s ≡ fine → wishFault (s .wish) (s .limit) ≡ fine
+unfolding cartFault vectorFault wishFault
 wish-fine s e =
-    let a = ⊳-fine (vectorFault (s .agent .position)) e in
-    let b = ⊳-fine (vectorFault (s .agent .velocity)) (a .1) in
-    let c = ⊳-fine (must (inside 0ᶠ longest (s .margin)) 6) (b .1) in
-    let d = ⊳-fine (must (inside shortestHorizon longestHorizon (s .horizon)) 6) (c .1) in
-    let w = ⊳-fine (vectorFault (s .wish)) (d .1) in
+    let a = ⊳-fine (agentFault (s .agent) (s .margin) (s .horizon)) e in
+    let w = ⊳-fine (vectorFault (s .wish)) (a .1) in
     let x = ⊳-fine (must (within reach (s .wish .x)) 6) (w .0) in
-    let y = ⊳-fine (must (within reach (s .wish .y)) 6) (x .1) in
-    rw (x .0, y .0, w .1)
+    rw (x .0, x .1, w .1)
 
 pub parts : (s : Scene) → sceneFault s ≡ fine → Parts s
 unfolding sceneFault
 parts s e =
-    let a = ⊳-fine (agentFault s) e in
+    let a = ⊳-fine (cartFault s) e in
     let b = ⊳-fine (must (leb (s .obstacles) 16) 4) (a .1) in
     let c = ⊳-fine (obstaclesFault 0 (headsIn s) (s .vertices)) (b .1) in
     let d = ⊳-fine (must (leb (s .neighbours) 64) 4) (c .1) in
     record {
-      agent = a .0;
+      cart = a .0;
       wish = wish-fine s (a .0);
       obstacles = leb-true _ _ (must-fine (leb (s .obstacles) 16) 4 (b .0));
       walls = c .0;
@@ -76,8 +71,8 @@ few-and-admitted : {n : ℕ} {ls : List Line} → FewAdmitted n (lines ls) → (
 few-and-admitted (few-admitted few all) = (few, all)
 
 joined-few-admitted : (m n : ℕ) (a b : Answer) → FewAdmitted m a → FewAdmitted n b → FewAdmitted (m + n) (joined a b)
-joined-few-admitted m n (refused r) b refuses g = refuses
-joined-few-admitted m n (lines l) (refused r) (few-admitted few all) refuses = refuses
+joined-few-admitted m n (refused r) b (refuses e) g = refuses e
+joined-few-admitted m n (lines l) (refused r) (few-admitted few all) (refuses e) = refuses e
 joined-few-admitted m n (lines l) (lines k) (few-admitted few all) (few-admitted fewer rest) =
     few-admitted {ls = l ++ k} (rw length-append (omega arith)) (rw (faults-append l k, all, rest))
 
@@ -86,10 +81,10 @@ unfolding edgeLines obstaclesFault linesFault
 edges-few-admitted agent margin horizon v xs offset [] few e = few-admitted {ls = []} (omega arith) refl
 edges-few-admitted agent margin horizon v xs offset (h ∷ hs) few e =
     let a = ⊳-fine (headFault offset h) e in
-    let b = ⊳-fine (numbersFault _) (a .1) in
+    let b = ⊳-fine (verticesFault (h .count) xs) (a .1) in
     let room = head-room offset h (a .0) .1 in
     let k : 192 - offset ≡ h .count + (192 - (offset + h .count)) = omega arith in
-    rw k (joined-few-admitted (h .count) (192 - (offset + h .count)) _ _ (call-few-admitted agent (h .kind) v offset (h .count) margin horizon) (edges-few-admitted agent margin horizon v _ (offset + h .count) hs room (b .1)))
+    rw k (joined-few-admitted (h .count) (192 - (offset + h .count)) _ _ (lines-few-admitted agent (h .kind) (h .count) _ margin horizon) (edges-few-admitted agent margin horizon v _ (offset + h .count) hs room (b .1)))
 
 -- 01, "192 together": the obstacles of a scene make at most 192 lines
 pub scene-few-admitted : (s : Scene) (velocity : Vec2) → sceneFault s ≡ fine → FewAdmitted 192 (edgesAt s velocity)
@@ -105,7 +100,7 @@ solved-fits : (s : Scene) (a : Answer) → s .neighbours ≤ 64 → FewAdmitted 
 solved-fits s (lines l) few (few-admitted short all) e =
     let k = few-neighbours s few in
     whole-fits (length l) (s .wish) (s .limit) (l ++ neighboursIn s) (rw length-append (omega arith)) e
-solved-fits s (refused r) few refuses e = absurd (let z : _≡_ {A = ℕ} 0 1 = cc in omega arith)
+solved-fits s (refused r) few (refuses nine) e = absurd (let z : _≡_ {A = ℕ} 0 1 = cc in omega arith)
 
 pub pass-fits : (s : Scene) (velocity : Vec2) → sceneFault s ≡ fine → {ph : Phase} {f : Failed} {n : ℕ} → stands ph f n ≡ passAt s velocity → n ≤ 16777216
 unfolding passAt

@@ -1,7 +1,7 @@
 -- 01, "Scene: obstacle lines (rigid), then neighbour lines ..": two passes and their outcomes. Definitions only. Assumes nothing.
-use Prim.Native.Nat.{ℕ, _+_}
+use Prim.Native.Nat.{ℕ, _+_, _*_}
 use mathlib.Core.List.{List, [], _∷_, _++_}
-use lib.ListN.{length}
+use lib.ListN.{length, take, drop}
 use lib.Ieee.{Float}
 use Rattle.admission.specs.declared.Head.{Head}
 use Rattle.admission.specs.Faults.{unlessFault}
@@ -10,7 +10,8 @@ use Rattle.common.specs.Vectors.{zeroVector}
 use Rattle.lines.specs.declared.Line.{Line}
 use Rattle.linear_programming.specs.Whole.{Failed, Outcome, stands, refusal, solving, relaxing, rigidFailure, wholeList}
 use Rattle.edges.specs.declared.Agent.{Agent}
-use Rattle.obstacles.specs.Obstacles.{Answer, lines, refused, obstacleCall}
+use Rattle.obstacles.specs.Vertices.{verticesOf}
+use Rattle.obstacles.specs.Obstacles.{Answer, lines, refused, obstacleLines}
 use Rattle.dodgy_2d.specs.declared.Scene.{Scene}
 use Rattle.dodgy_2d.specs.Scenes.{headsIn, neighboursIn, sceneFault}
 
@@ -26,11 +27,16 @@ joined (lines l) (lines m) = lines (l ++ m)
 joined (lines l) (refused r) = refused r
 joined (refused r) a = refused r
 
+-- the lines of one obstacle, whose vertices are those from the offset on
+abbrev pub linesAt : Agent → Float → Float → List Float → ℕ → Head → Answer
+linesAt agent margin horizon vertices offset h =
+    obstacleLines agent (h .kind) (h .count) (verticesOf (take (2 * h .count) (drop (2 * offset) vertices))) margin horizon
+
 -- obstacle behind obstacle, each with its vertices behind those of the ones before; the first refusal is told
 unfoldable pub edgeLines : Agent → Float → Float → List Float → ℕ → List Head → Answer
 edgeLines agent margin horizon vertices offset [] = lines []
 edgeLines agent margin horizon vertices offset (h ∷ hs) =
-    joined (obstacleCall agent (h .kind) vertices offset (h .count) margin horizon) (edgeLines agent margin horizon vertices (offset + h .count) hs)
+    joined (linesAt agent margin horizon vertices offset h) (edgeLines agent margin horizon vertices (offset + h .count) hs)
 
 -- ---- a pass: "obstacle lines (rigid), then neighbour lines"
 

@@ -10,9 +10,9 @@ ghost use lib.ListN.{length, take};
 ghost use lib.Seq.{paste};
 ghost use Rattle.admission.specs.Faults.{fine};
 ghost use Rattle.lines.specs.Lines.{linesOf};
-ghost use Rattle.obstacles.specs.Obstacles.{lines as linesAre, obstacleCall};
+ghost use Rattle.obstacles.specs.Obstacles.{lines as linesAre};
 ghost use Rattle.dodgy_2d.specs.Scenes.{headsOf, obstaclesFault};
-ghost use Rattle.dodgy_2d.specs.Outcomes.{joined, edgeLines};
+ghost use Rattle.dodgy_2d.specs.Outcomes.{joined, linesAt, edgeLines};
 ghost use Rattle.dodgy_2d.specs.Read.{edgesOf, countIn};
 
 // Copies the first `n` numbers of `more` to those from `at` on.
@@ -38,15 +38,13 @@ fn add_obstacle(
     numbers: &mut [f32],
     count: usize,
 ) -> EdgeLines
-    requires { ⌜ (length (now numbers) ≡ 1024) × (head .count ≤ 64) × (count + head .count ≤ 192) ⌝ }
-    ensures { λ r. ⌜ (length (now (numbers .exit)) ≡ 1024) × (countIn r ≤ count + head .count) × (edgesOf r (now (numbers .exit)) ≡ joined (linesAre (linesOf (take (4 * count) (now (numbers .entry))))) (obstacleCall agent (head .kind) (now (vertices .entry)) offset (head .count) margin horizon)) ⌝ }
+    requires { ⌜ (length (now numbers) ≡ 1024) × (head .count ≤ 64) × (count + head .count ≤ 192) × (offset ≤ 192) × (2 * (offset + head .count) ≤ length (now vertices)) ⌝ }
+    ensures { λ r. ⌜ (length (now (numbers .exit)) ≡ 1024) × (countIn r ≤ count + head .count) × (edgesOf r (now (numbers .exit)) ≡ joined (linesAre (linesOf (take (4 * count) (now (numbers .entry))))) (linesAt agent margin horizon (now (vertices .entry)) offset head)) ⌝ }
 {
-    let found = obstacles::get_lines_for_agent_to_obstacle(
+    let found = obstacles::get_lines_alone(
         agent,
         head.kind,
-        vertices,
-        offset,
-        head.count,
+        &vertices[2 * offset..2 * (offset + head.count)],
         margin,
         horizon,
     );

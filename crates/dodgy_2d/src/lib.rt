@@ -30,10 +30,6 @@ impl Scene {
     pub const MOST_OBSTACLES: usize = 16;
 
     pub const MOST_NEIGHBOURS: usize = 64;
-
-    pub const SHORTEST_HORIZON: f32 = 0.0009765625;
-
-    pub const LONGEST_HORIZON: f32 = 1024.0;
 }
 
 // How many lines the obstacles made, or the number of a refusal.

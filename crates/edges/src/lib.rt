@@ -17,6 +17,13 @@ pub struct Agent {
     pub velocity: Vec2,
 }
 
+impl Agent {
+    // The ends of the time for which an agent keeps clear of an obstacle: 1/1,024 to 1,024.
+    pub const SHORTEST_HORIZON: f32 = 0.0009765625;
+
+    pub const LONGEST_HORIZON: f32 = 1024.0;
+}
+
 // An end of an edge, and whether the obstacle is convex there.
 pub struct EdgeVertex {
     pub point: Vec2,

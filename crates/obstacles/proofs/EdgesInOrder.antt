@@ -1,4 +1,4 @@
--- The edges in order: one edge more, a refusal that stays; and every answer refuses or has few lines, all admitted. Assumes nothing.
+-- The edges in order: one edge more, a refusal that stays; and every answer refuses with 9 or has few lines, all admitted. Assumes nothing.
 use Prim.Native.Nat.{ℕ, zero, suc, _+_, _-_, _≤_}
 use mathlib.Core.Path.{_≡_, refl}
 use mathlib.Core.List.{List, [], _∷_, _++_}
@@ -21,9 +21,9 @@ use Rattle.obstacles.specs.Vertices.{edgeAt}
 use Rattle.edges.specs.EdgeLines.{lineForEdge}
 use Rattle.obstacles.specs.Obstacles.{Answer, lines, refused, Admitted, kept, nothingKept, notAdmitted, admitted, behind, addEdge, linesUpTo, edgeCount, obstacleLines}
 
--- the answer refuses, or its lines are at most n and pass the admission of a list
+-- the answer refuses with 9, or its lines are at most n and pass the admission of a list
 pub data FewAdmitted (n : ℕ) : Answer → Type 0 where
-  refuses : {r : ℕ} → FewAdmitted n (refused r)
+  refuses : {r : ℕ} → r ≡ 9 → FewAdmitted n (refused r)
   few-admitted : {ls : List Line} → length ls ≤ n → linesFault ls ≡ fine → FewAdmitted n (lines ls)
 
 behind-few-admitted : (n : ℕ) (ls : List Line) (e : EdgeLine) → length ls ≤ n → linesFault ls ≡ fine → FewAdmitted (suc n) (behind ls (admitted e))
@@ -32,10 +32,10 @@ behind-few-admitted n ls nothing few all = few-admitted {ls = ls} (omega arith) 
 behind-few-admitted n ls (made l) few all =
     unless-case (λ (a : Admitted). FewAdmitted (suc n) (behind ls a)) (λ (r : ℕ). notAdmitted 9) (lineFault l)
     (λ e. few-admitted {ls = ls ++ (l ∷ [])} (rw length-append (omega arith)) (rw (faults-append ls (l ∷ []), all, e)))
-    (λ r e. refuses)
+    (λ r e. refuses refl)
 
 more-few-admitted : (n m : ℕ) (a : Answer) → n ≤ m → FewAdmitted n a → FewAdmitted m a
-more-few-admitted n m (refused r) h refuses = refuses
+more-few-admitted n m (refused r) h (refuses e) = refuses e
 more-few-admitted n m (lines ls) h (few-admitted few all) = few-admitted {ls = ls} (omega arith) all
 
 few-edges : (kind n : ℕ) → edgeCount kind n ≤ n
@@ -72,7 +72,7 @@ module _ (agent : Agent) (kind n : ℕ) (vs : List Vec2) (margin horizon : Float
 
   edge-few-admitted : (k : ℕ) (a : Answer) → FewAdmitted k a → FewAdmitted (suc k) (addEdge agent kind n vs margin horizon a k)
   unfolding addEdge
-  edge-few-admitted k (refused r) refuses = refuses
+  edge-few-admitted k (refused r) (refuses e) = refuses e
   edge-few-admitted k (lines ls) (few-admitted few all) = behind-few-admitted k ls (lineForEdge agent (edgeAt kind n vs k) margin horizon ls) few all
 
   up-to-few-admitted : (k : ℕ) → FewAdmitted k (upTo k)
@@ -80,7 +80,7 @@ module _ (agent : Agent) (kind n : ℕ) (vs : List Vec2) (margin horizon : Float
   up-to-few-admitted zero = few-admitted {ls = []} (omega arith) refl
   up-to-few-admitted (suc k) = edge-few-admitted k (upTo k) (up-to-few-admitted k)
 
-  -- the lines of n vertices are at most n, and each is admitted
+  -- the lines of n vertices are at most n, and each is admitted; they are refused with 9 alone
   pub lines-few-admitted : FewAdmitted n (obstacleLines agent kind n vs margin horizon)
   unfolding obstacleLines
   lines-few-admitted = more-few-admitted (edgeCount kind n) n _ (few-edges kind n) (up-to-few-admitted (edgeCount kind n))

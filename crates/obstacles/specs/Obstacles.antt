@@ -1,18 +1,18 @@
--- The lines of one obstacle: all its edges in order, and its faults (01, "Rules of the edges", "Refusal numbers"). Definitions only. Assumes nothing.
-use Prim.Native.Nat.{ℕ, zero, suc, _-_, _*_, _/_}
-use mathlib.Core.Bool.{not}
+-- The lines of one obstacle: all its edges in order, alone and behind its faults (01, "Rules of the edges", "Refusal numbers"). Definitions only. Assumes nothing.
+use Prim.Native.Nat.{ℕ, zero, suc, _-_, _/_}
 use mathlib.Core.List.{List, [], _∷_, _++_}
 use lib.Dec.{eqb, leb}
-use lib.ListN.{length, take, drop}
+use lib.ListN.{length}
 use lib.Ieee.{Float}
 use Rattle.arithmetic.specs.Binary32.{if_then_else_}
 use Rattle.common.specs.declared.Vec2.{Vec2}
 use Rattle.lines.specs.declared.Line.{Line}
 use Rattle.lines.specs.LineFaults.{lineFault}
-use Rattle.admission.specs.Faults.{Fault, must, _⊳_, unlessFault, fitsBehind}
-use Rattle.admission.specs.Heads.{openKind, mostVertices, isKind, isEmptyOpen}
+use Rattle.admission.specs.Faults.{_⊳_, unlessFault}
+use Rattle.admission.specs.Heads.{headOf, openKind, mostVertices}
 use Rattle.edges.specs.declared.Agent.{Agent}
 use Rattle.edges.specs.Edges.{EdgeLine, nothing, made}
+use Rattle.obstacles.specs.ObstacleFaults.{agentFault, obstacleFault}
 use Rattle.obstacles.specs.Vertices.{verticesOf, edgeAt}
 use Rattle.edges.specs.EdgeLines.{lineForEdge}
 
@@ -56,18 +56,14 @@ edgeCount kind n = if eqb kind openKind then (n - 1) else n
 unfoldable pub obstacleLines : Agent → ℕ → ℕ → List Vec2 → Float → Float → Answer
 obstacleLines agent kind n vs margin horizon = linesUpTo agent kind n vs margin horizon (edgeCount kind n)
 
--- ---- faults
+-- as they are, with nothing judged but that the answer holds as many lines (4)
+unfoldable pub linesAlone : Agent → ℕ → List Float → Float → Float → Answer
+linesAlone agent kind xs margin horizon =
+    let n = length xs / 2 in
+    if leb n mostVertices then obstacleLines agent kind n (verticesOf xs) margin horizon else refused 4
 
--- kind (3), count (4), no vertices (5); then the vertices from offset on, of those that there are (2)
-unfoldable pub obstacleFault : ℕ → ℕ → ℕ → ℕ → Fault
-obstacleFault kind have offset count =
-    must (isKind kind) 3
-    ⊳ must (leb count mostVertices) 4
-    ⊳ must (not (isEmptyOpen kind count)) 5
-    ⊳ must (fitsBehind have offset count) 2
-
--- the obstacle whose vertices are the count from the vertex offset on, two numbers each
-unfoldable pub obstacleCall : Agent → ℕ → List Float → ℕ → ℕ → Float → Float → Answer
-obstacleCall agent kind xs offset count margin horizon =
-    unlessFault refused (obstacleFault kind (length xs / 2) offset count)
-    (obstacleLines agent kind count (verticesOf (take (2 * count) (drop (2 * offset) xs))) margin horizon)
+-- the agent's first fault, then the obstacle's, then its lines
+unfoldable pub obstacleCall : Agent → ℕ → List Float → ℕ → Float → Float → Answer
+obstacleCall agent kind xs count margin horizon =
+    unlessFault refused (agentFault agent margin horizon ⊳ obstacleFault (headOf kind count) xs)
+    (obstacleLines agent kind count (verticesOf xs) margin horizon)

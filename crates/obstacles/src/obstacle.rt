@@ -1,35 +1,20 @@
-// All edges of an obstacle in order, each line behind those made earlier; and the faults of an obstacle.
+// All edges of an obstacle in order, each line behind those made earlier.
 use crate::AddedLines;
 use crate::AdmittedLine;
 use crate::ObstacleLines;
 use crate::vertices;
 use admission::Head;
 use admission::Judged;
-use admission::fault_unless;
-use admission::first_of;
-use admission::fits_behind;
 use edges::Agent;
 use edges::EdgeLine;
 ghost use mathlib.Core.Path.{_≡_};
 ghost use Prim.Native.Nat.{_+_, _/_, _≤_, _<_};
 ghost use lib.ListN.{length};
 ghost use Rattle.lines.specs.Lines.{linesOf};
-ghost use Rattle.admission.specs.Faults.{faultOf};
 ghost use Rattle.obstacles.specs.Vertices.{verticesOf, edgeAt};
 ghost use Rattle.edges.specs.EdgeLines.{lineForEdge};
-ghost use Rattle.obstacles.specs.Obstacles.{obstacleFault, edgeCount, admitted, obstacleLines, refused as refusedWith};
+ghost use Rattle.obstacles.specs.Obstacles.{edgeCount, admitted, obstacleLines, refused as refusedWith};
 ghost use Rattle.obstacles.specs.Read.{admittedOf, blankNumbers, addedOf, answerAs};
-
-// The first fault of an obstacle among `have` vertices: its kind (3), too many vertices (4), open with none (5), vertices missing (2).
-pub(crate) fn judge_obstacle(kind: u8, have: usize, offset: usize, count: usize) -> Judged
-    ensures { λ r. ⌜ faultOf r ≡ obstacleFault kind have offset count ⌝ }
-{
-    let known = fault_unless(Head::is_kind(kind), 3);
-    let few = fault_unless(count <= Head::MOST, 4);
-    let some = fault_unless(!Head::is_empty_open(kind, count), 5);
-    let there = fault_unless(fits_behind(have, offset, count), 2);
-    first_of(known, first_of(few, first_of(some, there)))
-}
 
 // As many edges as vertices where the obstacle is closed, one less where it is open.
 fn edge_count(kind: u8, count: usize) -> usize
@@ -123,7 +108,7 @@ pub(crate) fn refused(number: u8) -> ObstacleLines
     }
 }
 
-// The lines of an obstacle that is not at fault.
+// The lines of an obstacle that has at most 64 vertices.
 pub(crate) fn lines_for_edges(
     agent: Agent,
     kind: u8,

@@ -1,30 +1,23 @@
 -- Every refusal of a record has a number from 1 to 10, and the answer reader takes the program's reply to it. Assumes nothing.
-use Prim.Native.Nat.{ℕ, zero, suc, _+_, _-_, _/_, _≤_}
+use Prim.Native.Nat.{ℕ, zero, suc, _+_, _-_, _≤_}
 use native.Mathlib.Omega.{arith}
 use mathlib.Core.Path.{_≡_, refl, sym, _∙_}
 use mathlib.Core.Bool.{Bool, true, false, not, _&&_}
-use mathlib.Core.List.{List, [], _∷_}
+use mathlib.Core.List.{List}
 use lib.Dec.{leb, eqb}
 use lib.ListN.{length}
 use lib.Ieee.{Float, binary32, ofBits}
 use borrow.Author.Tests.{leb-true}
 use Rattle.arithmetic.specs.Binary32.{finite}
 use Rattle.arithmetic.proofs.Choice.{and-left, and-right}
-use Rattle.admission.specs.declared.Head.{Head}
-use Rattle.admission.specs.Faults.{Fault, fine, must, _⊳_, unlessFault, inside}
-use Rattle.admission.specs.Heads.{mostVertices, isKind, roomFor, isEmptyOpen}
-use Rattle.admission.proofs.FaultLaws.{no-fault, unless-case}
-use Rattle.common.specs.declared.Vec2.{Vec2}
-use Rattle.lines.specs.declared.Line.{Line}
-use Rattle.lines.specs.LineFaults.{bandLow, bandHigh, lineFault}
+use Rattle.admission.specs.Faults.{fine, inside}
+use Rattle.admission.specs.Heads.{isKind, roomFor, isEmptyOpen}
+use Rattle.admission.proofs.FaultLaws.{no-fault}
+use Rattle.lines.specs.LineFaults.{bandLow, bandHigh}
 use Rattle.common.specs.Vectors.{lengthSquaredOf}
-use Rattle.edges.specs.declared.Agent.{Agent}
-use Rattle.edges.specs.Edges.{EdgeLine, nothing, made}
-use Rattle.obstacles.specs.Obstacles as walls
-use Rattle.obstacles.specs.Obstacles.{Answer, lines, Admitted, notAdmitted, admitted, behind, addEdge, linesUpTo, obstacleLines, obstacleFault, obstacleCall}
 use Rattle.dodgy_2d.specs.declared.Scene.{Scene}
-use Rattle.dodgy_2d.specs.Scenes.{headsIn, sceneFault}
-use Rattle.dodgy_2d.specs.Outcomes.{SceneOutcome, outcome, refusedScene, joined, edgeLines, edgesAt, atRest, sceneOutcome}
+use Rattle.dodgy_2d.specs.Scenes.{sceneFault}
+use Rattle.dodgy_2d.specs.Outcomes.{SceneOutcome, outcome, refusedScene, sceneOutcome}
 use Rattle.dodgy_2d.proofs.SceneTold.{Told, answered, at-fault, by-edge, by-edge-at-rest, scene-told}
 use Rattle.fields.specs.Got.{Got, refused, got, then, guard, word, many}
 use Rattle.scene_records.specs.Steps.{version, count, number, vector, ended}
@@ -131,63 +124,6 @@ module _ (s : List ℕ) where
       then-numbered (neighbours s m g) _ (neighbours-numbered m g) λ ls h.
       then-numbered (ended s h) _ (guard-numbered (eqb h (length s)) 2 _ refl read) λ w i. read
 
--- ---- the edge lines'
-
--- edge lines that are refused with such a number alone
-data NumberedLines : Answer → Type 0 where
-  lined : {ls : List Line} → NumberedLines (lines ls)
-  refusing : {r : ℕ} → Numbered r → NumberedLines (walls.refused r)
-
-admitted-numbered : (e : EdgeLine) (ls : List Line) → NumberedLines (behind ls (admitted e))
-unfolding admitted
-admitted-numbered nothing ls = lined
-admitted-numbered (made l) ls =
-    unless-case (λ (a : Admitted). NumberedLines (behind ls a)) (λ (r : ℕ). notAdmitted 9) (lineFault l) (λ e. lined) (λ r e. refusing {r = 9} refl)
-
-module _ (agent : Agent) (kind n : ℕ) (vs : List Vec2) (margin horizon : Float) where
-  add-numbered : (a : Answer) (i : ℕ) → NumberedLines a → NumberedLines (addEdge agent kind n vs margin horizon a i)
-  unfolding addEdge
-  add-numbered (lines ls) i h = admitted-numbered _ ls
-  add-numbered (walls.refused r) i h = h
-
-  edges-numbered : (k : ℕ) → NumberedLines (linesUpTo agent kind n vs margin horizon k)
-  unfolding linesUpTo
-  edges-numbered zero = lined
-  edges-numbered (suc k) = add-numbered _ k (edges-numbered k)
-
--- a rule with such a number, then an answer
-must-numbered : (b : Bool) (r : ℕ) (f : Fault) (a : Answer) → Numbered r → NumberedLines (unlessFault walls.refused f a) → NumberedLines (unlessFault walls.refused (must b r ⊳ f) a)
-must-numbered true r f a h s = s
-must-numbered false r f a h s = refusing h
-
-last-numbered : (b : Bool) (r : ℕ) (a : Answer) → Numbered r → NumberedLines a → NumberedLines (unlessFault walls.refused (must b r) a)
-last-numbered true r a h s = s
-last-numbered false r a h s = refusing h
-
-call-numbered : (agent : Agent) (kind : ℕ) (xs : List Float) (offset n : ℕ) (margin horizon : Float) → NumberedLines (obstacleCall agent kind xs offset n margin horizon)
-unfolding obstacleCall obstacleFault obstacleLines
-call-numbered agent kind xs offset n margin horizon =
-    must-numbered (isKind kind) 3 _ _ refl (
-    must-numbered (leb n mostVertices) 4 _ _ refl (
-    must-numbered (not (isEmptyOpen kind n)) 5 _ _ refl (
-    last-numbered (leb (offset + n) (length xs / 2)) 2 _ refl (edges-numbered agent kind n _ margin horizon _))))
-
-joined-numbered : (a b : Answer) → NumberedLines a → NumberedLines b → NumberedLines (joined a b)
-joined-numbered (lines l) (lines m) p q = lined
-joined-numbered (lines l) (walls.refused r) p q = q
-joined-numbered (walls.refused r) b p q = p
-
-walls-numbered : (agent : Agent) (margin horizon : Float) (xs : List Float) (offset : ℕ) (hs : List Head) → NumberedLines (edgeLines agent margin horizon xs offset hs)
-unfolding edgeLines
-walls-numbered agent margin horizon xs offset [] = lined
-walls-numbered agent margin horizon xs offset (h ∷ hs) = joined-numbered _ _ (call-numbered agent _ xs offset _ margin horizon) (walls-numbered agent margin horizon xs _ hs)
-
-scene-lines : (c : Scene) (velocity : Vec2) → NumberedLines (edgesAt c velocity)
-scene-lines c velocity = walls-numbered (record { position = c .agent .position; velocity = velocity }) (c .margin) (c .horizon) (c .vertices) 0 (headsIn c)
-
-lines-numbered : {r : ℕ} → NumberedLines (walls.refused r) → Numbered r
-lines-numbered (refusing h) = h
-
 -- ---- a record's
 
 refused-numbered : {r : ℕ} → NumberedReading {A = Scene} (refused r) → Numbered r
@@ -199,8 +135,8 @@ same-number m r e = cc
 solve-numbered : (c : Scene) → sceneFault c ≡ fine → (o : SceneOutcome) → Told c o → (r : ℕ) → one.ofOutcome o ≡ one.refusal r → Numbered r
 solve-numbered c f (outcome code p l n) (answered h) r e = absurd (let z : _≡_ {A = ℕ} 0 1 = cc in omega arith)
 solve-numbered c f (refusedScene m) (at-fault g) r e = absurd (no-fault m (sym f ∙ g))
-solve-numbered c f (refusedScene m) (by-edge g h) r e = rw (← same-number m r e) (lines-numbered (rw h at (scene-lines c (c .agent .velocity))))
-solve-numbered c f (refusedScene m) (by-edge-at-rest g h) r e = rw (← same-number m r e) (lines-numbered (rw h at (scene-lines c atRest)))
+solve-numbered c f (refusedScene m) (by-edge nine g h) r e = rw (← same-number m r e, nine)
+solve-numbered c f (refusedScene m) (by-edge-at-rest nine g h) r e = rw (← same-number m r e, nine)
 
 reading-numbered : (s : List ℕ) (g : Got Scene) → sceneInVersion1 s ≡ g → NumberedReading g → (r : ℕ) → one.ofReading g ≡ one.refusal r → Numbered r
 reading-numbered s (refused m) z h r e = rw (← same-number m r e) (refused-numbered h)

@@ -38,10 +38,9 @@ isReplayed head rest =
     && isAnswer (wordOf head 8) rest (4 * wordOf head 4)
     (answerAs
     (obstacleCall
-    (record { position = vectorAt head 28; velocity = vectorAt head 36 })
+    (record { position = vectorAt head 20; velocity = vectorAt head 28 })
     (wordOf head 0)
     (firstNumbers rest (wordOf head 4))
     (longAt head 12)
-    (longAt head 20)
-    (numberAt head 44)
-    (numberAt head 48))))
+    (numberAt head 36)
+    (numberAt head 40))))

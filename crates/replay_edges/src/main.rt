@@ -1,5 +1,5 @@
 // Replays the set `edges`: the lines that the Rust gives for an agent and an obstacle, or the number of the refusal where one of them is not admitted or the obstacle is at fault.
-// A record is, in words: kind, how many numbers, answer (how many lines, or 100 + the number of a refusal), offset and count of the vertices (2 each), position (2), velocity (2), margin, horizon; the numbers, two a vertex; then the lines, four numbers each.
+// A record is, in words: kind, how many numbers, answer (how many lines, or 100 + the number of a refusal), count of the vertices (2), position (2), velocity (2), margin, horizon; the numbers, two a vertex; then the lines, four numbers each.
 use admission::Head;
 use admission::Judged;
 use edges::Agent;
@@ -36,8 +36,8 @@ fn is_replayed(head: &[u8], rest: &[u8]) -> bool
         return false;
     }
     let agent = Agent {
-        position: vector_at(head, 28),
-        velocity: vector_at(head, 36),
+        position: vector_at(head, 20),
+        velocity: vector_at(head, 28),
     };
     let numbers = first_numbers(rest, count);
     let made = obstacles::get_lines_for_agent_to_obstacle(
@@ -45,9 +45,8 @@ fn is_replayed(head: &[u8], rest: &[u8]) -> bool
         kind as u8,
         &numbers[0..count],
         long_at(head, 12),
-        long_at(head, 20),
-        number_at(head, 44),
-        number_at(head, 48),
+        number_at(head, 36),
+        number_at(head, 40),
     );
     is_answer(words::word_at(head, 8), rest, 4 * count, made)
 }
@@ -115,7 +114,7 @@ fn turn(walk: Walk, head: &mut [u8], rest: &mut [u8]) -> Walk
 // The walk to its end.
 fn walked(start: Walk) -> Walk {
     let mut walk = start;
-    let mut head: [u8; 52] = [0; 52];
+    let mut head: [u8; 44] = [0; 44];
     // The longest rest: 192 vertices and 99 lines.
     let mut rest: [u8; 3120] = [0; 3120];
     while walk.left > 0 {

@@ -14,7 +14,7 @@ use Rattle.common.specs.declared.Vec2.{Vec2}
 use Rattle.common.specs.Vectors.{vec, reach, longest, lengthSquaredOf}
 use Rattle.lines.specs.Lines.{line}
 use Rattle.lines.specs.LineFaults.{lineReach, bandLow, bandHigh}
-use Rattle.dodgy_2d.specs.Scenes.{shortestHorizon, longestHorizon}
+use Rattle.edges.specs.Edges.{shortestHorizon, longestHorizon}
 use Rattle.words.specs.Words.{wordOf}
 use Rattle.fields.specs.Got.{refused, got, then, guard, word}
 use Rattle.fields.proofs.WordLaws.{word-there}

@@ -13,7 +13,8 @@ use Rattle.lines.specs.declared.Line.{Line}
 use Rattle.lines.specs.LineFaults.{lineFault, linesFault}
 use Rattle.common.specs.Vectors.{reach}
 use Rattle.dodgy_2d.specs.declared.Scene.{Scene}
-use Rattle.dodgy_2d.specs.Scenes.{headsOf, numbersFault, vectorFault, agentFault, headFault, obstaclesFault, sceneFault}
+use Rattle.obstacles.specs.ObstacleFaults.{vectorFault, agentFault, numberFault, vertexFault, verticesFault, headFault}
+use Rattle.dodgy_2d.specs.Scenes.{headsOf, cartFault, obstaclesFault, sceneFault}
 use Rattle.fields.specs.Bytes.{each}
 use Rattle.fields.specs.Got.{got, many}
 use Rattle.fields.proofs.ChainLaws.{then-got, cons-got, got-same}
@@ -22,7 +23,7 @@ use Rattle.scene_records.specs.Steps.{number, vector}
 use Rattle.scene_records.specs.Parts.{cart, coordinates, verticesAt, Obstacle, sizeOf, kindOf, numbersIn, obstacle, obstacles, neighbour, neighbours}
 use Rattle.scene_records.specs.Records.{sceneOf, sceneInVersion1}
 use Rattle.scene_records.proofs.Taken.{number-taken, vector-taken, cart-taken, obstacle-taken, line-taken, fields-taken, scene-taken-version-1}
-use Rattle.scene_records.proofs.SceneParts.{own-vertices, later-vertices, vertices-front, heads-back, neighbours-back}
+use Rattle.scene_records.proofs.SceneParts.{later-vertices, vertices-front, heads-back, neighbours-back}
 use Rattle.scene_records.proofs.ReadBytes.{obstacles-total}
 
 module _ (s : List ℕ) where
@@ -33,23 +34,23 @@ module _ (s : List ℕ) where
   vector-passed passes at v m e = vector-taken s passes at v m e λ a p q. (number-passed passes at (v .x) a p, number-passed passes a (v .y) m q)
 
   vector-fine : (at : ℕ) (v : Vec2) (m : ℕ) → vector (within reach) s at ≡ got v m → vectorFault v ≡ fine
-  unfolding vectorFault numbersFault
+  unfolding vectorFault
   vector-fine at v m e = let h = vector-passed (within reach) at v m e in rw (h .0, h .1)
 
-  cart-fine : (at : ℕ) (x : Cart) (m n : ℕ) (os : List Obstacle) (k : ℕ) (ls : List Line) → cart s at ≡ got x m → agentFault (sceneOf x n os k ls) ≡ fine
-  unfolding agentFault
+  cart-fine : (at : ℕ) (x : Cart) (m n : ℕ) (os : List Obstacle) (k : ℕ) (ls : List Line) → cart s at ≡ got x m → cartFault (sceneOf x n os k ls) ≡ fine
+  unfolding cartFault agentFault
   cart-fine at x m n os k ls z =
       cart-taken s at x m z λ a b d e f p v g t w l read-p read-v read-g read-t read-w read-l same.
       rw (← same) (rw (vector-fine at p a read-p, vector-fine a v b read-v, number-passed _ b g d read-g, number-passed _ d t e read-t, vector-fine e w f read-w, number-passed _ f l m read-l) refl)
 
-  vertices-fine : (n at : ℕ) (vs : List Vec2) (m : ℕ) → verticesAt s n at ≡ got vs m → numbersFault (each coordinates vs) ≡ fine
-  unfolding verticesAt many each numbersFault
-  vertices-fine zero at vs m e = rw (← got-same e .0)
-  vertices-fine (suc n) at vs m e =
+  vertices-fine : (n at : ℕ) (vs : List Vec2) (m : ℕ) (behind : List Float) → verticesAt s n at ≡ got vs m → verticesFault n (each coordinates vs ++ behind) ≡ fine
+  unfolding verticesAt many each numberFault vertexFault verticesFault
+  vertices-fine zero at vs m behind e = refl
+  vertices-fine (suc n) at vs m behind e =
       then-got (vector (within reach) s at) _ e λ v a p r.
       cons-got v (verticesAt s n a) r λ rest q u.
       let h = vector-passed (within reach) at v a p in
-      rw (u, h .0, h .1) (vertices-fine n a rest m q)
+      rw (u, h .0, h .1) (vertices-fine n a rest m behind q)
 
   obstacles-fine : (n total at : ℕ) (os : List Obstacle) (m : ℕ) (rest : List Float) → obstacles s n total at ≡ got os m
       → obstaclesFault total (headsOf (map kindOf os) (map sizeOf os)) (each numbersIn os ++ rest) ≡ fine
@@ -59,7 +60,7 @@ module _ (s : List ℕ) where
       then-got (obstacle s total at) _ e λ o a p r.
       cons-got o (obstacles s n (total + sizeOf o) a) r λ more q u.
       obstacle-taken s total at o a p λ b d read-k known read-n room some read-vs.
-      rw (u, known, room, some, append-assoc (numbersIn o) (each numbersIn more) rest, own-vertices o (each numbersIn more ++ rest), later-vertices o (each numbersIn more ++ rest), vertices-fine (sizeOf o) d (o .vertices) a read-vs)
+      rw (u, known, room, some, append-assoc (numbersIn o) (each numbersIn more) rest, later-vertices o (each numbersIn more ++ rest), vertices-fine (sizeOf o) d (o .vertices) a (each numbersIn more ++ rest) read-vs)
       (obstacles-fine n (total + sizeOf o) a more m rest q)
 
   line-fine : (at : ℕ) (l : Line) (m : ℕ) → neighbour s at ≡ got l m → lineFault l ≡ fine

@@ -16,7 +16,7 @@ use Rattle.common.specs.Vectors.{reach, longest, lengthSquaredOf}
 use Rattle.lines.specs.declared.Line.{Line}
 use Rattle.lines.specs.LineFaults.{lineReach, bandLow, bandHigh}
 use Rattle.dodgy_2d.specs.declared.Scene.{Scene}
-use Rattle.dodgy_2d.specs.Scenes.{shortestHorizon, longestHorizon}
+use Rattle.edges.specs.Edges.{shortestHorizon, longestHorizon}
 use Rattle.fields.specs.Got.{got, word}
 use Rattle.fields.proofs.ChainLaws.{got-same, then-got, guard-got, many-length}
 use Rattle.fields.proofs.Spans.{word-fits}

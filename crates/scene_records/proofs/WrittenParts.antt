@@ -20,7 +20,7 @@ use Rattle.common.specs.declared.Vec2.{Vec2}
 use Rattle.common.specs.Vectors.{reach, longest, lengthSquaredOf}
 use Rattle.lines.specs.declared.Line.{Line}
 use Rattle.lines.specs.LineFaults.{lineReach, bandLow, bandHigh}
-use Rattle.dodgy_2d.specs.Scenes.{shortestHorizon, longestHorizon}
+use Rattle.edges.specs.Edges.{shortestHorizon, longestHorizon}
 use Rattle.fields.specs.Bytes.{bigEndian, each}
 use Rattle.fields.specs.Got.{got, word}
 use Rattle.fields.proofs.ByteLaws.{length-big-endian}

@@ -1,7 +1,7 @@
 -- Law: the bytes of a scene without a fault are read back to that scene, with zeros behind its counts. Assumes nothing.
 use Prim.Native.Nat.{ℕ, zero, suc, _+_, _*_, _≤_}
 use native.Mathlib.Omega.{arith}
-use mathlib.Core.Path.{_≡_, refl, ap, _∙_}
+use mathlib.Core.Path.{_≡_, refl, sym, ap, _∙_}
 use mathlib.Core.Bool.{Bool, true}
 use mathlib.Core.List.{List, [], _∷_}
 use lib.ListN.{length, take, drop, length-drop}
@@ -11,7 +11,7 @@ use Rattle.arithmetic.specs.Binary32.{0ᶠ, finite}
 use Rattle.arithmetic.proofs.Lists.{All, none, more, all-take, all-drop}
 use Rattle.admission.specs.declared.Head.{Head}
 use Rattle.admission.specs.Faults.{fine, must, within, inside}
-use Rattle.admission.proofs.FaultLaws.{⊳-fine, must-fine}
+use Rattle.admission.proofs.FaultLaws.{no-fault, ⊳-fine, must-fine}
 use Rattle.admission.proofs.HeadLaws.{room-within}
 use Rattle.common.specs.declared.Vec2.{Vec2}
 use Rattle.common.specs.Vectors.{reach, longest, lengthSquaredOf}
@@ -22,8 +22,10 @@ use Rattle.lines.proofs.Rows.{lines-long}
 use Rattle.obstacles.specs.Vertices.{verticesOf}
 use Rattle.obstacles.proofs.VertexNumbers.{vertices-long}
 use Rattle.dodgy_2d.specs.declared.Scene.{Scene}
-use Rattle.dodgy_2d.specs.Scenes.{headsOf, headsIn, neighboursIn, shortestHorizon, longestHorizon, numbersFault, vectorFault, agentFault, headFault, obstaclesFault, sceneFault}
-use Rattle.dodgy_2d.proofs.HeadsInOrder.{head-passed}
+use Rattle.edges.specs.Edges.{shortestHorizon, longestHorizon}
+use Rattle.obstacles.specs.ObstacleFaults.{vectorFault, agentFault, numberFault, vertexFault, verticesFault, headFault}
+use Rattle.dodgy_2d.specs.Scenes.{headsOf, headsIn, neighboursIn, cartFault, obstaclesFault, sceneFault}
+use Rattle.obstacles.proofs.ObstacleFaults.{head-passed}
 use Rattle.dodgy_2d.proofs.ScenePasses.{parts}
 use Rattle.fields.specs.Got.{got}
 use Rattle.fields.proofs.Backs.{Every}
@@ -73,37 +75,38 @@ good : (passes : Float → Bool) (x : Float) (r : ℕ) → Fit x → must (passe
 good passes x r f e = record { fit = f; pass = must-fine (passes x) r e }
 
 good-vector : (v : Vec2) → FitVector v → vectorFault v ≡ fine → GoodVector (within reach) v
-unfolding vectorFault numbersFault
+unfolding vectorFault
 good-vector v f e =
     let a = ⊳-fine (must (within reach (v .x)) 6) e in
-    let b = ⊳-fine (must (within reach (v .y)) 6) (a .1) in
-    record { x = good (within reach) (v .x) 6 (f .x) (a .0); y = good (within reach) (v .y) 6 (f .y) (b .0) }
+    record { x = good (within reach) (v .x) 6 (f .x) (a .0); y = good (within reach) (v .y) 6 (f .y) (a .1) }
 
-good-cart : (c : Scene) → Typed c → agentFault c ≡ fine → GoodCart (cartIn c)
-unfolding agentFault
+good-cart : (c : Scene) → Typed c → cartFault c ≡ fine → GoodCart (cartIn c)
+unfolding cartFault agentFault
 good-cart c t e =
-    let a = ⊳-fine (vectorFault (c .agent .position)) e in
+    let k = ⊳-fine (agentFault (c .agent) (c .margin) (c .horizon)) e in
+    let a = ⊳-fine (vectorFault (c .agent .position)) (k .0) in
     let b = ⊳-fine (vectorFault (c .agent .velocity)) (a .1) in
     let d = ⊳-fine (must (inside 0ᶠ longest (c .margin)) 6) (b .1) in
-    let f = ⊳-fine (must (inside shortestHorizon longestHorizon (c .horizon)) 6) (d .1) in
-    let g = ⊳-fine (vectorFault (c .wish)) (f .1) in
+    let g = ⊳-fine (vectorFault (c .wish)) (k .1) in
     record {
       position = good-vector (c .agent .position) (t .position) (a .0);
       velocity = good-vector (c .agent .velocity) (t .velocity) (b .0);
       margin = good (inside 0ᶠ longest) (c .margin) 6 (t .margin) (d .0);
-      horizon = good (inside shortestHorizon longestHorizon) (c .horizon) 6 (t .horizon) (f .0);
+      horizon = good (inside shortestHorizon longestHorizon) (c .horizon) 6 (t .horizon) (d .1);
       wish = good-vector (c .wish) (t .wish) (g .0);
       limit = good (inside 0ᶠ longest) (c .limit) 6 (t .limit) (g .1);
     }
 
-good-vertices : (xs : List Float) → All Fit xs → numbersFault xs ≡ fine → Every (λ (u : Unit {0}). GoodVector (within reach)) (λ u v. u) tt (verticesOf xs)
-unfolding verticesOf numbersFault
-good-vertices [] h e = tt
-good-vertices (x ∷ []) h e = tt
-good-vertices (x ∷ y ∷ xs) (more p (more q h)) e =
-    let a = ⊳-fine (must (within reach x) 6) e in
-    let b = ⊳-fine (must (within reach y) 6) (a .1) in
-    (record { x = good (within reach) x 6 p (a .0); y = good (within reach) y 6 q (b .0) }, good-vertices xs h (b .1))
+good-vertices : (n : ℕ) (xs : List Float) → All Fit xs → verticesFault n xs ≡ fine → Every (λ (u : Unit {0}). GoodVector (within reach)) (λ u v. u) tt (verticesOf (take (2 * n) xs))
+unfolding verticesOf numberFault vertexFault verticesFault
+good-vertices zero xs h e = tt
+good-vertices (suc n) [] h e = absurd (no-fault 2 (sym e))
+good-vertices (suc n) (x ∷ []) h e = absurd (no-fault 2 (sym (⊳-fine (must (within reach x) 6) (⊳-fine (vertexFault (x ∷ [])) e .0) .1)))
+good-vertices (suc n) (x ∷ y ∷ xs) (more p (more q h)) e =
+    let a = ⊳-fine (vertexFault (x ∷ y ∷ xs)) e in
+    let b = ⊳-fine (must (within reach x) 6) (a .0) in
+    let two : 2 * suc n ≡ suc (suc (2 * n)) = omega arith in
+    rw two (record { x = good (within reach) x 6 p (b .0); y = good (within reach) y 6 q (b .1) }, good-vertices n xs h (a .1))
 
 -- each obstacle's vertices are there: the total before it and the numbers left make up 384
 good-obstacles : (total : ℕ) (hs : List Head) (xs : List Float) → 2 * total + length xs ≡ 384 → All Fit xs → obstaclesFault total hs xs ≡ fine → Every GoodObstacle onTotal total (withVertices hs xs)
@@ -111,7 +114,7 @@ unfolding obstaclesFault withVertices
 good-obstacles total [] xs l h e = tt
 good-obstacles total (k ∷ hs) xs l h e =
     let head-fine = ⊳-fine (headFault total k) e in
-    let numbers-fine = ⊳-fine (numbersFault (take (2 * k .count) xs)) (head-fine .1) in
+    let vertices-fine = ⊳-fine (verticesFault (k .count) xs) (head-fine .1) in
     let passed = head-passed total k (head-fine .0) in
     let fit : total + k .count ≤ 192 = room-within total (k .count) (passed .1) .1 in
     let front : length (take (2 * k .count) xs) ≡ 2 * k .count = length-take-le (2 * k .count) xs (omega arith) in
@@ -121,9 +124,9 @@ good-obstacles total (k ∷ hs) xs l h e =
         kind = passed .0;
         room = rw size (passed .1);
         some = rw size (passed .2);
-        vertices = good-vertices (take (2 * k .count) xs) (all-take (2 * k .count) h) (numbers-fine .0);
+        vertices = good-vertices (k .count) xs h (vertices-fine .0);
       },
-      rw size (good-obstacles (total + k .count) hs (drop (2 * k .count) xs) behind (all-drop (2 * k .count) h) (numbers-fine .1)),
+      rw size (good-obstacles (total + k .count) hs (drop (2 * k .count) xs) behind (all-drop (2 * k .count) h) (vertices-fine .1)),
     )
 
 good-line : (l : Line) → FitLine l → lineFault l ≡ fine → GoodLine l
@@ -175,7 +178,7 @@ module _ (c : Scene) (t : Typed c) where
       let os-long = obstacles-long (p .obstacles) in
       let ls-long = neighbours-long (p .neighbours) in
       let ok : GoodParts (cartIn c) (obstaclesIn c) (neighboursIn c) = record {
-        cart = good-cart c t (p .agent);
+        cart = good-cart c t (p .cart);
         few = rw os-long (p .obstacles);
         obstacles = good-obstacles 0 (headsIn c) (c .vertices) (omega (arith, t .vertices)) (t .vertexNumbers) (p .walls);
         fewer = rw ls-long (p .neighbours);

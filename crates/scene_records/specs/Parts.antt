@@ -14,7 +14,8 @@ use Rattle.common.specs.Vectors.{reach, longest, lengthSquaredOf}
 use Rattle.lines.specs.declared.Line.{Line}
 use Rattle.lines.specs.Lines.{line}
 use Rattle.lines.specs.LineFaults.{lineReach, bandLow, bandHigh}
-use Rattle.dodgy_2d.specs.Scenes.{shortestHorizon, longestHorizon, mostObstacles}
+use Rattle.edges.specs.Edges.{shortestHorizon, longestHorizon}
+use Rattle.dodgy_2d.specs.Scenes.{mostObstacles}
 use Rattle.fields.specs.Bytes.{each}
 use Rattle.fields.specs.Got.{Got, refused, got, then, guard, word, many}
 use Rattle.scene_records.specs.declared.Cart.{Cart}

@@ -6,7 +6,7 @@ use crate::Rule;
 use crate::steps::number_at;
 use crate::steps::vector_at;
 use common::Vec2;
-use dodgy_2d::Scene;
+use edges::Agent;
 ghost use mathlib.Core.Path.{_≡_};
 ghost use Rattle.scene_records.specs.Steps.{from, told};
 ghost use Rattle.scene_records.specs.Parts.{cart};
@@ -16,7 +16,7 @@ pub(crate) fn cart_at(bytes: &[u8], cursor: Cursor) -> CartRead
 {
     let reach = Rule::Within(Vec2::REACH);
     let length = Rule::Inside(0.0, Vec2::LONGEST);
-    let time = Rule::Inside(Scene::SHORTEST_HORIZON, Scene::LONGEST_HORIZON);
+    let time = Rule::Inside(Agent::SHORTEST_HORIZON, Agent::LONGEST_HORIZON);
     let position = vector_at(bytes, cursor, reach);
     let next = position.next;
     let velocity = vector_at(bytes, next, reach);

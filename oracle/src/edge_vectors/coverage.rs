@@ -4,12 +4,14 @@
 use counters::EdgeBranch;
 use glam::Vec2;
 
-use super::call::{Call, SCENE_VERTICES};
+use super::call::{Call, CLOSED};
 use super::judge::{self, LONGEST_HORIZON, MOST_VERTICES, SHORTEST_HORIZON};
 use super::{Case, Outcome, NOT_ADMITTED};
 use crate::coverage_table::{self, Column};
 use crate::encounters::{EdgeLine, EdgeLines, Encounter};
-use crate::list_vectors::judge::{BAND_HIGH, BAND_LOW, LINE_REACH, LONGEST, REACH};
+use crate::list_vectors::judge::{
+    admits_component, admits_length, BAND_HIGH, BAND_LOW, LONGEST, REACH,
+};
 
 enum Test {
     /// The counted build took the branch.
@@ -19,12 +21,10 @@ enum Test {
     NotAdmitted(fn(&Encounter, &EdgeLine) -> bool),
     /// The number was told before any edge was looked at, and the call is of this kind.
     Faulty(u32, fn(&Call) -> bool),
-    /// Not refused, and the call is of this kind.
-    Fine(fn(&Call) -> bool),
 }
 
 use EdgeBranch::*;
-use Test::{Faulty, Fine, Made as Of, NotAdmitted, Took};
+use Test::{Faulty, Made as Of, NotAdmitted, Took};
 
 /// A side is the left or the right of an edge. One row to a line, so that it reads as a table.
 #[rustfmt::skip]
@@ -145,45 +145,47 @@ const ROWS: &[(&str, Test)] = &[
     ("-0 in a line", Of(|_, m| m.lines.iter().any(|(p, d)| any(*p, is_minus_zero) || any(*d, is_minus_zero)))),
     ("velocity exactly at a cutoff", Of(|e, _| e.vertices.iter().any(|v| (*v - e.position) / e.horizon == e.velocity))),
     ("direction off length 1 by more than roundings, but in its band", Of(|_, m| m.lines.iter().any(|(_, d)| in_band(*d) && (d.dot(*d) - 1.0).abs() > 0.0001))),
-    ("numbers that no scene holds", Of(|e, _| !judge::admits_numbers(e))),
     ("9: a line is not admitted", NotAdmitted(|_, _| true)),
-    ("9: direction a NaN", NotAdmitted(|e, (_, d)| judge::admits_numbers(e) && any(*d, f32::is_nan))),
-    ("9: direction infinite", NotAdmitted(|e, (_, d)| judge::admits_numbers(e) && any(*d, f32::is_infinite))),
-    ("9: direction below its band", NotAdmitted(|e, (_, d)| judge::admits_numbers(e) && d.dot(*d) < BAND_LOW)),
-    ("9: direction above its band", NotAdmitted(|e, (_, d)| judge::admits_numbers(e) && finite(*d) && d.dot(*d) > BAND_HIGH)),
+    ("9: direction a NaN", NotAdmitted(|_, (_, d)| any(*d, f32::is_nan))),
+    ("9: direction infinite", NotAdmitted(|_, (_, d)| any(*d, f32::is_infinite))),
+    ("9: direction below its band", NotAdmitted(|_, (_, d)| d.dot(*d) < BAND_LOW)),
+    ("9: direction above its band", NotAdmitted(|_, (_, d)| finite(*d) && d.dot(*d) > BAND_HIGH)),
     ("9: an admitted line before it", Of(|_, m| m.lines.first().is_some_and(judge::admits) && !m.lines.iter().all(judge::admits))),
     ("9: an admitted line behind it", Of(|_, m| m.lines.last().is_some_and(judge::admits) && !m.lines.iter().all(judge::admits))),
     ("9: vertices apart, the right one just inside the margin", NotAdmitted(|e, _| !e.closed && e.vertices.len() == 2 && apart(e) && just_inside(e, e.vertices[1]))),
     ("9: a vertex twice, the agent at rest", NotAdmitted(|e, _| e.velocity == Vec2::ZERO && pairs(e).any(|(a, b)| a == b))),
     ("9: one vertex, margin 0, its squared distance rounds to 0", NotAdmitted(|e, _| e.vertices.len() == 1 && e.margin == 0.0 && e.vertices[0] != e.position)),
-    ("9: the point alone, of numbers that no scene holds", NotAdmitted(|e, (p, d)| !judge::admits_numbers(e) && in_band(*d) && any(*p, |x| x.abs() > LINE_REACH))),
     ("P11: margin 2", Of(|e, m| is_bench(e, 2.0) && gives(m, &[(Vec2::ZERO, BACKWARDS)]))),
     ("P11: margin 0.5", Of(|e, m| is_bench(e, 0.5) && gives(m, &[(Vec2::new(-1.0, 0.5), BACKWARDS)]))),
     ("P11: vertices exchanged", Of(|e, m| !e.closed && e.vertices == [Vec2::new(1.0, 1.0), Vec2::new(-1.0, 1.0)] && gives(m, &[]))),
     ("P12: vertex (5,0)", Of(|e, m| e.closed && e.vertices == [Vec2::new(5.0, 0.0)] && gives(m, &[]))),
     ("P12: vertex (0.5,0), 9", NotAdmitted(|e, _| e.closed && e.vertices == [Vec2::new(0.5, 0.0)] && e.margin == 1.0)),
-    ("vertices behind an offset", Fine(|c| c.offset > 0 && c.count > 0)),
-    ("numbers left behind the vertices", Fine(|c| c.numbers.len() as u64 > 2 * (c.offset + c.count))),
-    ("offset at the end of the numbers, closed, no vertices", Fine(|c| c.offset > 0 && c.count == 0)),
-    ("192 vertices, asked for the first 64", Fine(|c| is_full_scene(c) && c.offset == 0)),
-    ("192 vertices, asked for the second 64", Fine(|c| is_full_scene(c) && c.offset == 64)),
-    ("192 vertices, asked for the last 64", Fine(|c| is_full_scene(c) && c.offset == 128)),
+    ("6: position", Faulty(6, |c| out(c.position))),
+    ("6: velocity", Faulty(6, |c| !out(c.position) && out(c.velocity))),
+    ("6: margin", Faulty(6, |c| agent_in(c) && !admits_length(c.margin))),
+    ("6: margin one f32 over 1,024", Faulty(6, |c| agent_in(c) && c.margin == LONGEST.next_up())),
+    ("6: horizon below 1/1,024", Faulty(6, |c| near_in(c) && c.horizon < SHORTEST_HORIZON)),
+    ("6: horizon 2,048, P11's wall", Faulty(6, |c| near_in(c) && c.horizon == 2048.0)),
+    ("6: a vertex", Faulty(6, |c| beside_in(c) && judge::is_kind(c.kind))),
+    ("6: the second component of a vertex", Faulty(6, |c| beside_in(c) && c.numbers.iter().position(|x| !admits_component(*x)).is_some_and(|place| place % 2 == 1))),
+    ("6 told before 3", Faulty(6, |c| near_in(c) && !judge::is_kind(c.kind))),
+    ("6 told before 2: the vertex after it is missing", Faulty(6, |c| beside_in(c) && 2 * c.count > c.numbers.len() as u64)),
+    ("6 told before 2: a number left over", Faulty(6, |c| beside_in(c) && 2 * c.count < c.numbers.len() as u64)),
     ("3: kind 0", Faulty(3, |c| c.kind == 0)),
     ("3: kind 3", Faulty(3, |c| c.kind == 3)),
     ("3: kind 255", Faulty(3, |c| c.kind == 255)),
     ("3 told before 4", Faulty(3, |c| c.count > MOST_VERTICES)),
     ("4: 65 vertices", Faulty(4, |c| c.count == 65 && c.numbers.len() == 130)),
-    ("4: a count of 2^64 - 1", Faulty(4, |c| c.count == u64::MAX && c.offset == 0)),
-    ("4: offset and count of 2^64 - 1", Faulty(4, |c| c.count == u64::MAX && c.offset == u64::MAX)),
+    ("4: a count of 2^64 - 1", Faulty(4, |c| c.count == u64::MAX)),
     ("4 told before 2", Faulty(4, |c| c.numbers.len() < 130)),
-    ("5: open, no vertices", Faulty(5, |c| c.offset == 0)),
-    ("5 told before 2", Faulty(5, |c| c.offset > 2)),
+    ("5: open, no vertices", Faulty(5, |c| c.numbers.is_empty())),
+    ("5 told before 2", Faulty(5, |c| !c.numbers.is_empty())),
+    ("2 told before 6: a number left over is not looked at", Faulty(2, |c| c.numbers.iter().any(|x| !admits_component(*x)))),
+    ("2: one number left over", Faulty(2, |c| 2 * c.count + 1 == c.numbers.len() as u64)),
+    ("2: a vertex left over", Faulty(2, |c| 2 * c.count + 2 == c.numbers.len() as u64)),
+    ("2: closed, no vertices, one number left over", Faulty(2, |c| c.count == 0 && c.kind == CLOSED)),
     ("2: one vertex missing", Faulty(2, |c| 2 * c.count == c.numbers.len() as u64 + 2)),
     ("2: one number missing", Faulty(2, |c| 2 * c.count == c.numbers.len() as u64 + 1)),
-    ("2: one vertex missing behind an offset", Faulty(2, |c| c.offset == 1 && 2 * (c.offset + c.count) == c.numbers.len() as u64 + 2)),
-    ("2: offset beyond the numbers, closed, no vertices", Faulty(2, |c| c.count == 0)),
-    ("2: an offset of 2^64 - 1", Faulty(2, |c| c.offset == u64::MAX)),
-    ("2: an offset of 2^63", Faulty(2, |c| c.offset == 1 << 63)),
 ];
 
 /// The table; or the rows that no encounter shows.
@@ -213,7 +215,6 @@ fn passes(test: &Test, case: &Case) -> bool {
                     .any(|line| !judge::admits(line) && test(encounter, line))
         }
         (Faulty(told, test), Outcome::Faulty(number)) => number == told && test(&case.call),
-        (Fine(test), Outcome::Made(..)) => case.refusal().is_none() && test(&case.call),
         _ => false,
     }
 }
@@ -235,9 +236,22 @@ fn is_full(encounter: &Encounter) -> bool {
     encounter.vertices.len() as u64 == MOST_VERTICES
 }
 
-/// The vertices asked for and the numbers around them are as many as a scene may have.
-fn is_full_scene(call: &Call) -> bool {
-    call.count == MOST_VERTICES && call.numbers.len() == 2 * SCENE_VERTICES
+fn out(vector: Vec2) -> bool {
+    any(vector, |x| !admits_component(x))
+}
+
+fn agent_in(call: &Call) -> bool {
+    !out(call.position) && !out(call.velocity)
+}
+
+/// All before the horizon.
+fn near_in(call: &Call) -> bool {
+    agent_in(call) && admits_length(call.margin)
+}
+
+/// All before the obstacle.
+fn beside_in(call: &Call) -> bool {
+    near_in(call) && judge::admits_horizon(call.horizon)
 }
 
 /// The edges, as pairs of vertices.

@@ -1,7 +1,7 @@
 //! The vectors of the edges: encounters of an agent with an obstacle, each with its lines, one record after the other.
-//! A record: kind, how many numbers, answer (how many lines, or 100 + number for a refusal), offset and count of the
-//! vertices (2 words each, high first), position (2), velocity (2), margin, horizon; the numbers, two a vertex; then
-//! the lines, four numbers each.
+//! A record: kind, how many numbers, answer (how many lines, or 100 + number for a refusal), count of the vertices
+//! (2 words, high first), position (2), velocity (2), margin, horizon; the numbers, two a vertex; then the lines, four
+//! numbers each.
 //! The lines are the plain build's, which the counted one must give too. The Rust also hands on lines that are not
 //! admitted: an encounter that makes one is refused with 9. Other refusals are those of judge.rs, and the Rust is not
 //! asked. coverage.rs says what the encounters must show, all of it.
@@ -41,12 +41,9 @@ const PARTS: [(Make, usize); 15] = [
     (aimed::inside_by_rounding, 200),
     (aimed::in_line, 4_500),
     (aimed::barely_covered, 800),
-    (layouts::long, 240),
+    (layouts::long, 300),
     (layouts::any_numbers, 1_000),
 ];
-
-/// Encounters whose numbers are as many as a scene may have.
-const FULL_SCENES: usize = 60;
 
 const NOT_ADMITTED: u32 = 9;
 const REFUSED: u32 = 100;
@@ -83,10 +80,6 @@ pub fn bytes() -> Result<(Vec<u8>, String), String> {
             cases.push(ask(call(&mut random, make))?);
         }
     }
-    for _ in 0..FULL_SCENES {
-        let encounter = layouts::long(&mut random);
-        cases.push(ask(Call::in_full_scene(&mut random, &encounter))?);
-    }
     if cases.len() < AT_LEAST {
         return Err(format!("only {} encounters", cases.len()));
     }
@@ -102,8 +95,8 @@ pub fn at_scale(random: &mut Random) -> Result<Parts, String> {
 
 fn call(random: &mut Random, make: Make) -> Call {
     let encounter = make(random);
-    if random.one_in(8) {
-        Call::among_others(random, &encounter)
+    if random.one_in(64) {
+        Call::uneven(random, &encounter)
     } else {
         Call::new(&encounter)
     }
@@ -122,11 +115,11 @@ fn ask(call: Call) -> Result<Case, String> {
     Ok(Case { call, outcome })
 }
 
-/// In a scene a point is out of bounds only beside a direction that is not admitted either.
+/// Of admitted numbers a point is out of bounds only beside a direction that is not admitted either.
 fn check_points(encounter: &Encounter, made: &EdgeLines) -> Result<(), String> {
     let point_alone =
         |line: &EdgeLine| !judge::admits(line) && judge::admits(&(Vec2::ZERO, line.1));
-    if judge::admits_numbers(encounter) && made.lines.iter().any(point_alone) {
+    if made.lines.iter().any(point_alone) {
         return Err(format!("a line's point alone is not admitted: {encounter}"));
     }
     Ok(())
@@ -142,7 +135,6 @@ fn write_record(words: &mut Words, case: &Case) {
     words.word(call.kind);
     words.word(call.numbers.len() as u32);
     words.word(refusal.unwrap_or(lines.len() as u32));
-    words.long_word(call.offset);
     words.long_word(call.count);
     for vector in [call.position, call.velocity] {
         words.bits(vector.x);

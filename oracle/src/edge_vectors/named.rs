@@ -4,8 +4,10 @@
 use glam::Vec2;
 
 use super::call::{Call, CLOSED, OPEN};
+use super::judge::SHORTEST_HORIZON;
 use super::{ask, coverage, Case};
 use crate::encounters::Encounter;
+use crate::list_vectors::judge::{LONGEST, REACH};
 
 pub fn cases() -> Result<Vec<Case>, String> {
     let mut cases = Vec::new();
@@ -129,7 +131,6 @@ fn faulty() -> Vec<(&'static str, Call)> {
         (
             "5 told before 2",
             Call {
-                offset: u64::MAX,
                 count: 0,
                 ..fine()
             },
@@ -143,58 +144,90 @@ fn faulty() -> Vec<(&'static str, Call)> {
             },
         ),
         (
-            "2: one vertex missing behind an offset",
+            "2: one number left over",
             Call {
-                offset: 1,
+                numbers: vec![-1.0, 1.0, 1.0, 1.0, 0.0],
                 ..fine()
             },
         ),
+        ("2: a vertex left over", Call { count: 1, ..fine() }),
         (
-            "2: offset beyond the numbers, closed, no vertices",
+            "2: closed, no vertices, one number left over",
             Call {
                 kind: CLOSED,
-                offset: 3,
+                numbers: vec![0.0],
                 count: 0,
                 ..fine()
             },
         ),
         (
-            "offset at the end of the numbers, closed, no vertices",
+            "2 told before 6: a number left over is not looked at",
             Call {
-                kind: CLOSED,
-                offset: 2,
-                count: 0,
+                numbers: vec![-1.0, 1.0, 1.0, 1.0, f32::NAN],
                 ..fine()
             },
         ),
         (
-            "2: an offset of 2^64 - 1",
+            "6 told before 2: a number left over",
             Call {
-                offset: u64::MAX,
+                numbers: vec![-1.0, 1.0, 1.0, f32::INFINITY, 0.0],
                 ..fine()
             },
         ),
         (
-            "2: an offset of 2^64 - 1",
+            "6 told before 2: the vertex after it is missing",
             Call {
-                kind: CLOSED,
-                offset: u64::MAX,
-                count: 1,
+                numbers: vec![-1.0, f32::NAN],
                 ..fine()
             },
         ),
         (
-            "2: an offset of 2^63",
+            "6: the second component of a vertex",
             Call {
-                offset: 1 << 63,
+                numbers: vec![-1.0, 1.0, 1.0, REACH.next_up()],
                 ..fine()
             },
         ),
         (
-            "4: offset and count of 2^64 - 1",
+            "6: horizon 2,048, P11's wall",
             Call {
-                offset: u64::MAX,
-                count: u64::MAX,
+                horizon: 2048.0,
+                ..fine()
+            },
+        ),
+        (
+            "6: horizon below 1/1,024",
+            Call {
+                horizon: SHORTEST_HORIZON.next_down(),
+                ..fine()
+            },
+        ),
+        (
+            "6: margin one f32 over 1,024",
+            Call {
+                margin: LONGEST.next_up(),
+                ..fine()
+            },
+        ),
+        (
+            "6: position",
+            Call {
+                position: Vec2::new(0.0, -REACH.next_up()),
+                ..fine()
+            },
+        ),
+        (
+            "6: velocity",
+            Call {
+                velocity: Vec2::new(f32::NEG_INFINITY, 0.0),
+                ..fine()
+            },
+        ),
+        (
+            "6 told before 3",
+            Call {
+                kind: 3,
+                horizon: f32::NAN,
                 ..fine()
             },
         ),

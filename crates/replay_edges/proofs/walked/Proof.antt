@@ -6,7 +6,7 @@ use Rattle.replay_edges.proofs.walked.Statement.{statement}
 use Rattle.replay_edges.proofs.walked.Tie as tie
 
 abbrev Inv-loop : tie.InvT-loop
-Inv-loop walk₀ head₀ rest₀ walk head rest = (length head ≡ 52) × (length rest ≡ 3120)
+Inv-loop walk₀ head₀ rest₀ walk head rest = (length head ≡ 44) × (length rest ≡ 3120)
 
 abbrev μ-loop : tie.MeasureT-loop
 μ-loop walk₀ head₀ rest₀ walk head rest = walk .left

@@ -14,19 +14,19 @@ use Rattle.dodgy_2d.proofs.judge.judge_scene.Tie as tie
 
 returns : tie.Need-returns
 unfolding sceneFault
-returns c = simp (c .enum-told2 .given .1, ← c .before .before .judge-agent .ensures)
+returns c = simp (c .enum-told2 .given .1, ← c .before .before .judge-cart .ensures)
 
 returns-2 : tie.Need-returns-2
 unfolding sceneFault
-returns-2 c = simp (lt-leb _ _ (c .if1 .taken), c .before .enum-told .given .1, ← c .before .before .before .judge-agent .ensures)
+returns-2 c = simp (lt-leb _ _ (c .if1 .taken), c .before .enum-told .given .1, ← c .before .before .before .judge-cart .ensures)
 
 returns-3 : tie.Need-returns-3
 unfolding sceneFault
-returns-3 c = simp (c .enum-told4 .given .1, ← c .before .before .judge-obstacles .ensures, le-leb _ _ (c .before .before .before .before .before .before .before .if1 .left), c .before .before .before .before .before .before .before .before .enum-told .given .1, ← c .before .before .before .before .before .before .before .before .before .before .judge-agent .ensures)
+returns-3 c = simp (c .enum-told4 .given .1, ← c .before .before .judge-obstacles .ensures, le-leb _ _ (c .before .before .before .before .before .before .before .if1 .left), c .before .before .before .before .before .before .before .before .enum-told .given .1, ← c .before .before .before .before .before .before .before .before .before .before .judge-cart .ensures)
 
 returns-4 : tie.Need-returns-4
 unfolding sceneFault
-returns-4 c = simp (lt-leb _ _ (c .if2 .taken), c .before .enum-told3 .given .1, ← c .before .before .before .judge-obstacles .ensures, le-leb _ _ (c .before .before .before .before .before .before .before .before .if1 .left), c .before .before .before .before .before .before .before .before .before .enum-told .given .1, ← c .before .before .before .before .before .before .before .before .before .before .before .judge-agent .ensures)
+returns-4 c = simp (lt-leb _ _ (c .if2 .taken), c .before .enum-told3 .given .1, ← c .before .before .before .judge-obstacles .ensures, le-leb _ _ (c .before .before .before .before .before .before .before .before .if1 .left), c .before .before .before .before .before .before .before .before .before .enum-told .given .1, ← c .before .before .before .before .before .before .before .before .before .before .before .judge-cart .ensures)
 
 part-judge-lines-end : tie.Need-part-judge-lines-end
 part-judge-lines-end c =
@@ -35,7 +35,7 @@ part-judge-lines-end c =
 
 returns-5 : tie.Need-returns-5
 unfolding sceneFault
-returns-5 c = simp (le-leb _ _ (c .before .before .before .before .if2 .left), c .before .before .before .before .before .enum-told3 .given .1, ← c .before .before .before .before .before .before .before .judge-obstacles .ensures, le-leb _ _ (c .before .before .before .before .before .before .before .before .before .before .before .before .if1 .left), c .before .before .before .before .before .before .before .before .before .before .before .before .before .enum-told .given .1, ← c .before .before .before .before .before .before .before .before .before .before .before .before .before .before .before .judge-agent .ensures)
+returns-5 c = simp (le-leb _ _ (c .before .before .before .before .if2 .left), c .before .before .before .before .before .enum-told3 .given .1, ← c .before .before .before .before .before .before .before .judge-obstacles .ensures, le-leb _ _ (c .before .before .before .before .before .before .before .before .before .before .before .before .if1 .left), c .before .before .before .before .before .before .before .before .before .before .before .before .before .enum-told .given .1, ← c .before .before .before .before .before .before .before .before .before .before .before .before .before .before .before .judge-cart .ensures)
     (let s = c .before .before .before .before .before .before .before .before .before .before .before .before .before .before .before .before .args .scene in
     let e : 4 * s .neighbours - 0 ≡ 4 * s .neighbours = omega arith in
     c .judge-lines .ensures ∙ ap (λ (k : ℕ). linesFault (linesOf (take k (s .lines)))) e ∙ ap linesFault (lines-take (s .lines) (s .neighbours)))

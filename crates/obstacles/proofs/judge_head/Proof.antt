@@ -1,8 +1,8 @@
--- `dodgy_2d::judge::judge_head` meets its contract. Assumes nothing.
-use Rattle.dodgy_2d.specs.Scenes.{headFault}
+-- `obstacles::judge_head` meets its contract. Assumes nothing.
+use Rattle.obstacles.specs.ObstacleFaults.{headFault}
 use borrow.Author.Needs.{needs}
-use Rattle.dodgy_2d.proofs.judge.judge_head.Statement.{statement}
-use Rattle.dodgy_2d.proofs.judge.judge_head.Tie as tie
+use Rattle.obstacles.proofs.judge_head.Statement.{statement}
+use Rattle.obstacles.proofs.judge_head.Tie as tie
 
 returns : tie.Need-returns
 unfolding headFault

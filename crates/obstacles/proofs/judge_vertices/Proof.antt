@@ -1,0 +1,46 @@
+-- `obstacles::judge_vertices` meets its contract. The invariant: the vertices before i pass, and so are there. Assumes nothing.
+use Prim.Native.Nat.{_-_, _*_, _≤_}
+use mathlib.Core.Path.{_≡_, sym, _∙_}
+use native.Mathlib.Omega.{arith}
+use native.Mathlib.Nat.{sub-zero}
+use denote.Ref.{now}
+use lib.ListN.{length, drop}
+use Rattle.obstacles.specs.ObstacleFaults.{verticesFault}
+use Rattle.obstacles.proofs.ObstacleFaults.{vertex-on, vertex-stop, vertices-done, next-lent}
+use borrow.Author.Needs.{needs}
+use Rattle.obstacles.proofs.judge_vertices.Statement.{statement}
+use Rattle.obstacles.proofs.judge_vertices.Tie as tie
+
+abbrev Inv-loop : tie.InvT-loop
+Inv-loop vertices count i₀ i = (i ≤ count) × (2 * i ≤ length vertices) × (verticesFault count vertices ≡ verticesFault (count - i) (drop (2 * i) vertices))
+
+abbrev μ-loop : tie.MeasureT-loop
+μ-loop vertices count i₀ i = count - i
+
+loop-holds : tie.Need-loop-holds Inv-loop μ-loop
+loop-holds c = (omega arith, omega arith, rw sub-zero)
+
+returns : tie.Need-returns Inv-loop μ-loop
+returns c =
+    let a = c .before .before .before .before .before .before .args in
+    let l = c .before .before .before .before .loop in
+    let step = rw (c .enum-told2 .given .1) at (c .before .before .judge-vertex .ensures) in
+    rw (c .enum-told2 .given .1) (sym (l .inv .2 ∙ vertex-stop (now (a .vertices)) (a .count) (l .i) _ (omega arith) step))
+
+loop-again : tie.Need-loop-again Inv-loop μ-loop
+loop-again c =
+    let a = c .before .before .before .before .before .before .args in
+    let l = c .before .before .before .before .loop in
+    let step = rw (c .enum-told .given .1) at (c .before .before .judge-vertex .ensures) in
+    (omega arith, next-lent (now (a .vertices)) (a .count) (l .i) (l .inv .1) step, l .inv .2 ∙ vertex-on (now (a .vertices)) (a .count) (l .i) (omega arith) step)
+
+returns-2 : tie.Need-returns-2 Inv-loop μ-loop
+returns-2 c =
+    let a = c .before .before .before .args in
+    let l = c .before .loop in
+    sym (l .inv .2 ∙ vertices-done (now (a .vertices)) (a .count) (l .i) (omega arith))
+
+pub judge-vertices-spec : {M : Type 1} → statement M
+judge-vertices-spec =
+    tie.close (tie.spec Inv-loop μ-loop loop-holds (λ c κs. search needs) (λ c. search needs) (λ c. search needs) returns
+    (λ c. search needs) (λ c. search needs) loop-again returns-2)
