@@ -7,12 +7,15 @@ use crate::records::answers::name_of;
 use crate::records::Records;
 use crate::words::hex_bytes;
 
-/// Prints how many answers there are of each kind. Fails where any differ, with the first one's index and, if `scenes` are given, its scene.
+/// Prints how many answers there are of each kind. Fails where there are none, and where any differ, with the first one's index and, if `scenes` are given, its scene.
 pub fn compare_files(answers: &str, others: &str, scenes: Option<&str>) -> Result<(), String> {
     let read = |file: &str| fs::read(file).map_err(|fault| format!("{file}: {fault}"));
     let (answers, others) = (read(answers)?, read(others)?);
     let scenes = scenes.map_or(Ok(Vec::new()), read)?;
     let pairs = pairs(&answers, &others);
+    if pairs.is_empty() {
+        return Err("no answers to compare".to_string());
+    }
     print_counts(&pairs)?;
     let differing = |(answer, other): &Pair| answer.map(settled) != other.map(settled);
     let count = pairs.iter().filter(|pair| differing(pair)).count();
