@@ -17,9 +17,8 @@ pub fn compare_files(answers: &str, others: &str, scenes: Option<&str>) -> Resul
         return Err("no answers to compare".to_string());
     }
     print_counts(&pairs)?;
-    let differing = |(answer, other): &Pair| answer.map(settled) != other.map(settled);
-    let count = pairs.iter().filter(|pair| differing(pair)).count();
-    if let Some(first) = pairs.iter().position(differing) {
+    let count = pairs.iter().filter(|pair| differ(pair)).count();
+    if let Some(first) = pairs.iter().position(differ) {
         let (answer, other) = pairs[first];
         let [answer, other, scene] = [answer, other, Records(&scenes).nth(first)].map(shown);
         return Err(format!(
@@ -32,6 +31,15 @@ pub fn compare_files(answers: &str, others: &str, scenes: Option<&str>) -> Resul
         pairs.len()
     );
     Ok(())
+}
+
+/// The place of the first answers that differ.
+pub fn first_difference(answers: &[u8], others: &[u8]) -> Option<usize> {
+    pairs(answers, others).iter().position(differ)
+}
+
+fn differ((answer, other): &Pair) -> bool {
+    answer.map(settled) != other.map(settled)
 }
 
 /// The answers at one place; none behind the end of the shorter file.

@@ -17,6 +17,7 @@ mod records;
 mod scale;
 mod scene_vectors;
 mod scenes;
+mod speed;
 mod words;
 
 use std::process::ExitCode;
@@ -30,7 +31,8 @@ const USAGE: &str = "usage: oracle self-check
        oracle lists|edges SEED COUNT|SECONDSs FILE
        oracle scenes SEED COUNT|SECONDSs SCENES ANSWERS
        oracle agree ANSWERS OTHER_ANSWERS [SCENES]
-       oracle answer SCENES ANSWERS";
+       oracle answer SCENES ANSWERS
+       oracle speed FEED FOLDER";
 
 fn main() -> ExitCode {
     let arguments: Vec<String> = env::args().skip(1).collect();
@@ -59,6 +61,7 @@ fn main() -> ExitCode {
         ["agree", answers, others] => agree::compare_files(answers, others, None),
         ["agree", answers, others, scenes] => agree::compare_files(answers, others, Some(scenes)),
         ["answer", scenes, answers] => plain_answers::write_file(scenes, answers),
+        ["speed", feed, room] => speed::measure(feed, room),
         _ => Err(USAGE.to_string()),
     };
     match outcome {

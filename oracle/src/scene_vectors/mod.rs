@@ -129,11 +129,28 @@ pub fn at_scale(random: &mut Random) -> Result<Parts, String> {
     let case = if random.one_in(RECORDS) {
         ask_record(faulty::spoiled(random))?
     } else {
-        let (make, ..) = PARTS[random.place_by(&PARTS.map(|(.., count)| count))];
-        ask_scene(make(random))?
+        ask_scene(drawn(random))?
     };
     let answer = case.answer().record();
     Ok(vec![case.record, answer])
+}
+
+/// A scene of any kind, by how many there are of it in the set.
+pub fn drawn(random: &mut Random) -> Scene {
+    let (make, ..) = PARTS[random.place_by(&PARTS.map(|(.., count)| count))];
+    make(random)
+}
+
+/// A scene with about as much in it as there may be.
+pub fn full(random: &mut Random) -> Scene {
+    random.pick(&[
+        crowded::many_obstacles as MakeScene,
+        crowded::many_vertices,
+        crowded::one_large,
+        crowded::many_lines,
+        crowded::longest,
+        crowded::all_lines,
+    ])(random)
 }
 
 /// A scene whose neighbours are agents.
@@ -186,6 +203,10 @@ fn refused(record: Vec<u8>, number: u32) -> Case {
 }
 
 impl Case {
+    pub fn record(&self) -> &[u8] {
+        &self.record
+    }
+
     pub fn answer(&self) -> Answer {
         match &self.outcome {
             Outcome::Passed(_, passes) => passes.answer(),

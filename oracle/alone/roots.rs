@@ -1,5 +1,7 @@
 //! `compare`: every pattern of f32 through `arithmetic::sqrt` and through the processor's own root. `times`: what one call of each takes.
 
+mod processor_time;
+
 use std::env;
 use std::hint::black_box;
 use std::process::ExitCode;
@@ -100,30 +102,7 @@ fn behind(root: fn(f32) -> f32, numbers: &[f32]) {
     black_box(last);
 }
 
-/// Of one call, by the processor time of this thread.
 fn nanoseconds(all: impl Fn()) -> f64 {
     let turns = CALLS / 4096;
-    let before = processor_time();
-    for _ in 0..turns {
-        all();
-    }
-    (processor_time() - before) as f64 / (turns * 4096) as f64
-}
-
-fn processor_time() -> i64 {
-    #[repr(C)]
-    struct Timespec {
-        seconds: i64,
-        nanoseconds: i64,
-    }
-    extern "C" {
-        fn clock_gettime(clock: i32, time: *mut Timespec) -> i32;
-    }
-    const THREAD: i32 = 3;
-    let mut time = Timespec {
-        seconds: 0,
-        nanoseconds: 0,
-    };
-    unsafe { clock_gettime(THREAD, &mut time) };
-    time.seconds * 1_000_000_000 + time.nanoseconds
+    processor_time::of_one(turns * 4096, || (0..turns).for_each(|_| all()))
 }
