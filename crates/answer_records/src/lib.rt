@@ -1,10 +1,8 @@
 // Answer records (01, "Records (ours)"): an outcome in 18 bytes or a refusal in 4, written to lent bytes and read from them.
 use admission::Judged;
 ghost use mathlib.Core.Path.{_≡_};
-ghost use Prim.Native.Nat.{_+_, _≤_, _<_};
+ghost use Prim.Native.Nat.{_<_};
 ghost use lib.ListN.{length};
-ghost use lib.Seq.{sets};
-ghost use Rattle.fields.specs.Bytes.{bigEndian};
 ghost use Rattle.admission.specs.Faults.{faultOf};
 ghost use Rattle.answer_records.specs.Answers.{answerBytes, refusalBytes, laid, writtenOf};
 ghost use Rattle.answer_records.specs.Replies.{isLength, lengthOfCode, answerFault, outcomeIn, saidOf, answerIn};
@@ -51,13 +49,13 @@ pub fn write_answer(buffer: &mut [u8], answer: Answer) -> Judged
     if buffer.len() < Answer::BYTES {
         return Judged::Fault(10);
     }
-    put_pair(buffer, 0, Answer::LENGTH);
+    words::put_pair(buffer, 0, Answer::LENGTH);
     buffer[2] = Answer::VERSION;
     buffer[3] = answer.code;
-    put_word(buffer, 4, answer.x);
-    put_word(buffer, 8, answer.y);
-    put_pair(buffer, 12, answer.failed);
-    put_word(buffer, 14, answer.probes);
+    words::put_word(buffer, 4, answer.x);
+    words::put_word(buffer, 8, answer.y);
+    words::put_pair(buffer, 12, answer.failed);
+    words::put_word(buffer, 14, answer.probes);
     Judged::Fine
 }
 
@@ -69,7 +67,7 @@ pub fn write_refusal(buffer: &mut [u8], number: u8) -> Judged
     if buffer.len() < Answer::REFUSAL_BYTES {
         return Judged::Fault(10);
     }
-    put_pair(buffer, 0, Answer::REFUSAL_LENGTH);
+    words::put_pair(buffer, 0, Answer::REFUSAL_LENGTH);
     buffer[2] = Answer::VERSION;
     buffer[3] = std::num::wrapping_add_u8(Answer::REFUSED, number);
     Judged::Fine
@@ -139,20 +137,4 @@ fn outcome_in(bytes: &[u8]) -> Answer
         failed: words::pair_at(bytes, 12),
         probes: words::word_at(bytes, 14),
     }
-}
-
-fn put_pair(buffer: &mut [u8], at: usize, x: u16)
-    requires { ⌜ at + 2 ≤ length (now buffer) ⌝ }
-    ensures { λ _. ⌜ now (buffer .exit) ≡ sets (now (buffer .entry)) at (bigEndian 2 x) ⌝ }
-{
-    buffer[at] = (x / 0x100 % 0x100) as u8;
-    buffer[at + 1] = (x % 0x100) as u8;
-}
-
-fn put_word(buffer: &mut [u8], at: usize, x: u32)
-    requires { ⌜ at + 4 ≤ length (now buffer) ⌝ }
-    ensures { λ _. ⌜ now (buffer .exit) ≡ sets (now (buffer .entry)) at (bigEndian 4 x) ⌝ }
-{
-    put_pair(buffer, at, (x / 0x1_0000) as u16);
-    put_pair(buffer, at + 2, (x % 0x1_0000) as u16);
 }

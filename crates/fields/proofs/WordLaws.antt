@@ -1,15 +1,15 @@
--- What tests of the length say of a number's bytes, in the words of code: of one byte, two, four. Assumes nothing.
+-- What tests of the length say of a number's bytes, in the words of code: of one byte, two, four; and the bytes that code stores. Assumes nothing.
 use Prim.Native.Nat.{ℕ, suc, _+_, _*_, _≤_, _<_}
 use native.Mathlib.Omega.{arith}
-use native.Mathlib.Nat.{add-assoc}
+use native.Mathlib.Nat.{add-assoc, div-one}
 use native.Mathlib.Numerals.{add-one}
 use mathlib.Core.Path.{_≡_, sym, ap, _∙_}
 use mathlib.Core.List.{List}
 use lib.ListN.{length, take, drop, getD}
 use lib.Seq.{drop-cons}
 use borrow.Author.Tests.{lt-leb, le-leb}
-use Rattle.words.specs.Words.{pairOf, wordOf}
-use Rattle.fields.specs.Bytes.{bigEndianNumber, bigEndianFrom}
+use Rattle.words.specs.Words.{pairOf, wordOf, pairBytes, wordBytes}
+use Rattle.fields.specs.Bytes.{bigEndianNumber, bigEndianFrom, bigEndian}
 use Rattle.fields.specs.Got.{refused, got, word}
 
 -- one byte more
@@ -41,3 +41,12 @@ module _ (s : List ℕ) (at : ℕ) where
   word-there h =
       let e : wordOf s at ≡ bigEndianNumber (take 4 (drop at s)) = sym (number-step 0 3 s at (omega arith) ∙ number-step _ 2 s (at + 1) (omega arith) ∙ number-step _ 1 s (at + 1 + 1) (omega arith) ∙ number-step _ 0 s (at + 1 + 1 + 1) (omega arith) ∙ simp add-assoc (omega arith)) in
       rw (le-leb (at + 4) (length s) h) (ap (λ (n : ℕ). got n (at + 4)) e)
+
+-- the bytes that `words` stores
+pub pair-stored : (x : ℕ) → pairBytes x ≡ bigEndian 2 x
+unfolding pairBytes bigEndian
+pair-stored x = rw div-one
+
+pub word-stored : (x : ℕ) → wordBytes x ≡ bigEndian 4 x
+unfolding wordBytes bigEndian
+word-stored x = rw div-one

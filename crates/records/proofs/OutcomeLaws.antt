@@ -3,12 +3,13 @@ use Prim.Native.Nat.{ℕ, _+_, _%_, _^_, _≤_, _<_}
 use native.Mathlib.Omega.{arith}
 use native.Mathlib.Nat.{mod-eq-of-lt}
 use mathlib.Core.Path.{_≡_, refl}
-use mathlib.Core.Bool.{true, false}
+use mathlib.Core.Bool.{Bool, true, false}
 use mathlib.Core.List.{List}
 use lib.Ieee.{Float, binary32, fits, isNan, toBits}
 use lib.Ieee.Bits.{toBits-lt}
 use Rattle.arithmetic.specs.Binary32.{if_then_else_}
 use Rattle.arithmetic.proofs.Choice.{if-all}
+use Rattle.words.proofs.Laws.{nan-pattern}
 use Rattle.admission.specs.Faults.{fine}
 use Rattle.common.specs.declared.Vec2.{Vec2}
 use Rattle.linear_programming.specs.Whole.{Failed, noLine, failedLine, Outcome, stands, refusal, solving, relaxing, rigidFailure}
@@ -38,13 +39,18 @@ pattern-fits x =
     if-all (Below (2 ^ 32)) (isNan x) quiet bits .low
 
 -- an f32's bits are four bytes
-pub pattern-whole : (x : Float) → fits binary32 x ≡ true → toBits binary32 x % 2 ^ 32 ≡ toBits binary32 x
+pattern-whole : (x : Float) → fits binary32 x ≡ true → toBits binary32 x % 2 ^ 32 ≡ toBits binary32 x
 pattern-whole x h = mod-eq-of-lt (toBits-lt binary32 x (rw h tt))
 
--- so its pattern is its bits
-pub pattern-bits : (x : Float) → fits binary32 x ≡ true → isNan x ≡ false → one.patternOf x ≡ toBits binary32 x
-unfolding one.patternOf if_then_else_
-pattern-bits x h n = rw n (pattern-whole x h)
+-- so its pattern is its bits, those of the quiet NaN too
+pattern-by : (x : Float) → fits binary32 x ≡ true → (b : Bool) → isNan x ≡ b → (if b then 0x7FC0_0000 else toBits binary32 x % 2 ^ 32) ≡ toBits binary32 x
+unfolding if_then_else_
+pattern-by x h true n = nan-pattern x n
+pattern-by x h false n = pattern-whole x h
+
+pub pattern-bits : (x : Float) → fits binary32 x ≡ true → one.patternOf x ≡ toBits binary32 x
+unfolding one.patternOf
+pattern-bits x h = pattern-by x h (isNan x) refl
 
 place-fits : (f : Failed) → one.placeIn f < 2 ^ 16
 place-fits noLine = omega arith

@@ -13,30 +13,6 @@ returns c = no-room _ _ (c .if1 .taken)
 slice-write-buffer-2 : tie.Need-slice-write-buffer-2
 slice-write-buffer-2 c = simp length-set (omega arith)
 
-put-word-requires : tie.Need-put-word-requires
-put-word-requires c κs = simp length-set (omega arith)
-
-put-word-requires-2 : tie.Need-put-word-requires-2
-put-word-requires-2 c κs =
-    let first = c .before .before .before in
-    let named = first .before .before .before .before in
-    omega (arith, simp length-set at (first .put-word .kept .0), named .put-pair .kept .0, named .before .before .if1 .left)
-
-put-pair-requires-2 : tie.Need-put-pair-requires-2
-put-pair-requires-2 c κs =
-    let second = c .before .before .before in
-    let first = second .before .before .before .before in
-    let named = first .before .before .before .before in
-    omega (arith, second .put-word2 .kept .0, simp length-set at (first .put-word .kept .0), named .put-pair .kept .0, named .before .before .if1 .left)
-
-put-word-requires-3 : tie.Need-put-word-requires-3
-put-word-requires-3 c κs =
-    let failed = c .before .before .before in
-    let second = failed .before .before .before .before in
-    let first = second .before .before .before .before in
-    let named = first .before .before .before .before in
-    omega (arith, failed .put-pair2 .kept .0, second .put-word2 .kept .0, simp length-set at (first .put-word .kept .0), named .put-pair .kept .0, named .before .before .if1 .left)
-
 same-length : tie.Need-same-length
 same-length c =
     let probes = c .before .before in
@@ -59,5 +35,5 @@ returns-2 c =
 
 pub write-answer-spec : {M : Type 1} → statement M
 write-answer-spec =
-    tie.close (tie.spec returns (λ c κs. search needs) (λ c. search needs) slice-write-buffer-2 put-word-requires put-word-requires-2
-    put-pair-requires-2 put-word-requires-3 same-length returns-2)
+    tie.close (tie.spec returns (λ c κs. search needs) (λ c. search needs) slice-write-buffer-2 (λ c κs. search needs) (λ c κs. search needs)
+    (λ c κs. search needs) (λ c κs. search needs) same-length returns-2)

@@ -1,10 +1,19 @@
 -- `records::outcome::write_outcome` meets its contract. Assumes nothing.
+use mathlib.Core.Path.{sym, _∙_}
 use borrow.Author.Needs.{needs}
+use Rattle.records.proofs.OutcomeLaws.{pattern-bits}
 use Rattle.records.proofs.outcome.write_outcome.Statement.{statement}
 use Rattle.records.proofs.outcome.write_outcome.Tie as tie
 
 returns : tie.Need-returns
-returns c = rw (c .before .before .before .before .before .before .before .before .outcome .given .1, ← c .before .before .before .before .before .before .pattern .ensures, ← c .before .before .before .before .before .pattern2 .ensures, ← c .before .before .before .before .failed-place .ensures) (c .before .before .write-answer .ensures)
+returns c =
+    let known = c .before .before .before .before .before .before .before .known-told .given in
+    rw (
+      c .before .before .before .before .before .before .before .before .outcome .given .1,
+      ← (c .before .before .before .before .before .before .pattern .ensures ∙ sym (pattern-bits _ (known .1 .0 .1))),
+      ← (c .before .before .before .before .before .pattern2 .ensures ∙ sym (pattern-bits _ (known .1 .1 .0 .1))),
+      ← c .before .before .before .before .failed-place .ensures,
+    ) (c .before .before .write-answer .ensures)
 
 returns-2 : tie.Need-returns-2
 returns-2 c = simp (c .before .outcome2 .given .1)
