@@ -19,6 +19,7 @@ mod scene_vectors;
 mod scenes;
 mod speed;
 mod words;
+mod writings;
 
 use std::process::ExitCode;
 use std::{env, fs};
@@ -27,12 +28,13 @@ use scene_vectors::Set;
 
 const USAGE: &str = "usage: oracle self-check
        oracle vectors common|lists|cuts|edges FILE
-       oracle vectors scenes|bad_records RECORDS ANSWERS
+       oracle vectors scenes|bad_records|writings RECORDS ANSWERS
        oracle lists|edges SEED COUNT|SECONDSs FILE
-       oracle scenes SEED COUNT|SECONDSs SCENES ANSWERS
+       oracle scenes|writings SEED COUNT|SECONDSs RECORDS ANSWERS
        oracle agree ANSWERS OTHER_ANSWERS [SCENES]
        oracle answer SCENES ANSWERS
-       oracle speed FEED FOLDER";
+       oracle speed FEED FOLDER
+       oracle written_again SCENES";
 
 fn main() -> ExitCode {
     let arguments: Vec<String> = env::args().skip(1).collect();
@@ -49,6 +51,7 @@ fn main() -> ExitCode {
         ["vectors", "bad_records", records, answers] => {
             write_set(records, answers, bad_records::set())
         }
+        ["vectors", "writings", records, answers] => write_set(records, answers, writings::set()),
         ["lists", seed, until, file] => {
             scale::write([seed, until], &[file], list_vectors::at_scale)
         }
@@ -58,10 +61,14 @@ fn main() -> ExitCode {
         ["scenes", seed, until, scenes, answers] => {
             scale::write([seed, until], &[scenes, answers], scene_vectors::at_scale)
         }
+        ["writings", seed, until, calls, answers] => {
+            scale::write([seed, until], &[calls, answers], writings::at_scale)
+        }
         ["agree", answers, others] => agree::compare_files(answers, others, None),
         ["agree", answers, others, scenes] => agree::compare_files(answers, others, Some(scenes)),
         ["answer", scenes, answers] => plain_answers::write_file(scenes, answers),
         ["speed", feed, room] => speed::measure(feed, room),
+        ["written_again", scenes] => writings::written_again(scenes),
         _ => Err(USAGE.to_string()),
     };
     match outcome {

@@ -139,29 +139,29 @@ module _ (s : List ℕ) where
 
 -- ---- how long a record is
 
-length-number : (x : Float) → length (numberBytes x) ≡ 4
+pub length-number : (x : Float) → length (numberBytes x) ≡ 4
 unfolding numberBytes
 length-number x = length-big-endian 4 (toBits binary32 x)
 
-length-vector : (v : Vec2) → length (vectorBytes v) ≡ 8
+pub length-vector : (v : Vec2) → length (vectorBytes v) ≡ 8
 unfolding vectorBytes
 length-vector v = length-append (numberBytes (v .x)) (numberBytes (v .y)) ∙ rw (length-number (v .x), length-number (v .y))
 
 -- things of k bytes each
-length-each : {A : Type 0} (bytes : A → List ℕ) (k : ℕ) → ((a : A) → length (bytes a) ≡ k) → (l : List A) → length (each bytes l) ≡ k * length l
+pub length-each : {A : Type 0} (bytes : A → List ℕ) (k : ℕ) → ((a : A) → length (bytes a) ≡ k) → (l : List A) → length (each bytes l) ≡ k * length l
 unfolding each
 length-each bytes k h [] = rw mul-zero
 length-each bytes k h (a ∷ l) = length-append (bytes a) (each bytes l) ∙ rw (h a, length-each bytes k h l) (omega (arith, mul-suc k (length l)))
 
-length-cart : (x : Cart) → length (cartBytes x) ≡ 36
+pub length-cart : (x : Cart) → length (cartBytes x) ≡ 36
 unfolding cartBytes
 length-cart x = simp (length-append, length-vector, length-number)
 
-length-line : (l : Line) → length (lineBytes l) ≡ 16
+pub length-line : (l : Line) → length (lineBytes l) ≡ 16
 unfolding lineBytes
 length-line l = simp (length-append, length-vector)
 
-length-obstacle : (o : Obstacle) → length (obstacleBytes o) ≡ 2 + 8 * sizeOf o
+pub length-obstacle : (o : Obstacle) → length (obstacleBytes o) ≡ 2 + 8 * sizeOf o
 unfolding obstacleBytes
 length-obstacle o = simp (length-append, length-big-endian, length-each vectorBytes 8 length-vector)
 

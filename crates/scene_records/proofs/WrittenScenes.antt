@@ -61,7 +61,7 @@ pub record Typed (c : Scene) : Type 0 where
   pub lineNumbers : All Fit (c .lines)
 
 -- numbers by fours
-fit-lines : (xs : List Float) → All Fit xs → All FitLine (linesOf xs)
+pub fit-lines : (xs : List Float) → All Fit xs → All FitLine (linesOf xs)
 unfolding linesOf
 fit-lines [] h = none
 fit-lines (a ∷ []) h = none
@@ -71,10 +71,10 @@ fit-lines (a ∷ b ∷ c ∷ d ∷ xs) (more p (more q (more r (more t h)))) = m
 
 -- ---- without a fault, each rule passed
 
-good : (passes : Float → Bool) (x : Float) (r : ℕ) → Fit x → must (passes x) r ≡ fine → Good passes x
+pub good : (passes : Float → Bool) (x : Float) (r : ℕ) → Fit x → must (passes x) r ≡ fine → Good passes x
 good passes x r f e = record { fit = f; pass = must-fine (passes x) r e }
 
-good-vector : (v : Vec2) → FitVector v → vectorFault v ≡ fine → GoodVector (within reach) v
+pub good-vector : (v : Vec2) → FitVector v → vectorFault v ≡ fine → GoodVector (within reach) v
 unfolding vectorFault
 good-vector v f e =
     let a = ⊳-fine (must (within reach (v .x)) 6) e in
@@ -97,7 +97,7 @@ good-cart c t e =
       limit = good (inside 0ᶠ longest) (c .limit) 6 (t .limit) (g .1);
     }
 
-good-vertices : (n : ℕ) (xs : List Float) → All Fit xs → verticesFault n xs ≡ fine → Every (λ (u : Unit {0}). GoodVector (within reach)) (λ u v. u) tt (verticesOf (take (2 * n) xs))
+pub good-vertices : (n : ℕ) (xs : List Float) → All Fit xs → verticesFault n xs ≡ fine → Every (λ (u : Unit {0}). GoodVector (within reach)) (λ u v. u) tt (verticesOf (take (2 * n) xs))
 unfolding verticesOf numberFault vertexFault verticesFault
 good-vertices zero xs h e = tt
 good-vertices (suc n) [] h e = absurd (no-fault 2 (sym e))
@@ -129,7 +129,7 @@ good-obstacles total (k ∷ hs) xs l h e =
       rw size (good-obstacles (total + k .count) hs (drop (2 * k .count) xs) behind (all-drop (2 * k .count) h) (vertices-fine .1)),
     )
 
-good-line : (l : Line) → FitLine l → lineFault l ≡ fine → GoodLine l
+pub good-line : (l : Line) → FitLine l → lineFault l ≡ fine → GoodLine l
 unfolding lineFault
 good-line l f e =
     let a = ⊳-fine (must (within lineReach (l .point .x)) 6) e in
@@ -142,21 +142,21 @@ good-line l f e =
       band = must-fine (inside bandLow bandHigh (lengthSquaredOf (l .direction))) 7 (d .1);
     }
 
-good-lines : (ls : List Line) → All FitLine ls → linesFault ls ≡ fine → Every (λ (u : Unit {0}). GoodLine) (λ u l. u) tt ls
+pub good-lines : (ls : List Line) → All FitLine ls → linesFault ls ≡ fine → Every (λ (u : Unit {0}). GoodLine) (λ u l. u) tt ls
 unfolding linesFault
 good-lines [] h e = tt
 good-lines (l ∷ ls) (more p h) e = let a = ⊳-fine (lineFault l) e in (good-line l p (a .0), good-lines ls h (a .1))
 
 -- ---- counts
 
-heads-long : (ks cs : List ℕ) (n : ℕ) → length ks ≡ n → length cs ≡ n → length (headsOf ks cs) ≡ n
+pub heads-long : (ks cs : List ℕ) (n : ℕ) → length ks ≡ n → length cs ≡ n → length (headsOf ks cs) ≡ n
 unfolding headsOf
 heads-long [] cs n p q = p
 heads-long (k ∷ ks) [] n p q = q
 heads-long (k ∷ ks) (c ∷ cs) zero p q = absurd (omega arith)
 heads-long (k ∷ ks) (c ∷ cs) (suc n) p q = ap suc (heads-long ks cs n (omega arith) (omega arith))
 
-with-long : (hs : List Head) (xs : List Float) → length (withVertices hs xs) ≡ length hs
+pub with-long : (hs : List Head) (xs : List Float) → length (withVertices hs xs) ≡ length hs
 unfolding withVertices
 with-long [] xs = refl
 with-long (h ∷ hs) xs = ap suc (with-long hs (drop (2 * h .count) xs))

@@ -28,6 +28,12 @@ impl SceneRead {
     pub const VERSION: u8 = 1;
 }
 
+// How many bytes were written, the length field included; or the number of the first fault, and nothing was written.
+pub enum SceneWritten {
+    Length(usize),
+    Refused(u8),
+}
+
 // Where reading goes on; or the number of the first fault, behind which nothing more is read.
 pub(crate) enum Cursor {
     At(usize),
@@ -63,12 +69,12 @@ pub(crate) struct LineRead {
 }
 
 // The cart with what it wishes for.
-pub(crate) struct Cart {
-    pub(crate) agent: Agent,
-    pub(crate) margin: f32,
-    pub(crate) horizon: f32,
-    pub(crate) wish: Vec2,
-    pub(crate) limit: f32,
+pub struct Cart {
+    pub agent: Agent,
+    pub margin: f32,
+    pub horizon: f32,
+    pub wish: Vec2,
+    pub limit: f32,
 }
 
 impl Cart {

@@ -111,7 +111,7 @@ impl Fields<'_> {
     }
 }
 
-fn must(rule: bool, number: u32) -> Result<(), u32> {
+pub fn must(rule: bool, number: u32) -> Result<(), u32> {
     if rule {
         Ok(())
     } else {
