@@ -5,7 +5,7 @@ pub mod StepLaws
 pub mod WorkLaws
 pub mod CutLaws
 pub mod LoopLaws
-pub mod KeptLaws
+pub mod EndLaws
 pub mod RunLaws
 pub mod RoomLaws
 pub mod TurnLaws

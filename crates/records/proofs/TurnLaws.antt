@@ -8,17 +8,19 @@ use mathlib.Core.Bool.{true, false, false≢true}
 use mathlib.Core.List.{List, [], _∷_, _++_}
 use lib.Dec.{leb}
 use lib.ListN.{length, take, drop, length-drop, length-append}
-use lib.Seq.{take-add, take-at, take-all, take-append-le, drop-at, length-take-le}
-use borrow.Rule.Slice.PartMut.{midOf, postOf, putMid, same-len-mid}
+use lib.Seq.{take-add, take-at, drop-at, length-take-le}
+use borrow.Rule.Slice.PartMut.{midOf, putMid, same-len-mid}
 use borrow.Author.Tests.{leb-true, le-leb}
 use Rattle.arithmetic.specs.Binary32.{if_then_else_}
 use Rattle.arithmetic.proofs.Choice.{if-all, and-left, and-right}
 use Rattle.admission.specs.Faults.{fitsBehind}
+use Rattle.kept.specs.Kept.{shifted}
+use Rattle.kept.proofs.KeptLaws.{kept-stays}
 use Rattle.answer_records.specs.Answers.{longestAnswer}
 use Rattle.records.specs.declared.Place.{Place}
 use Rattle.records.specs.declared.Stream.{Stream}
 use Rattle.records.specs.Steps.{Put, put, putAt}
-use Rattle.records.specs.Streams.{unlimited, Worked, worked, Standing, standing, standingBy, workedOver, lastAnswer, shifted}
+use Rattle.records.specs.Streams.{unlimited, Worked, worked, Standing, standing, standingBy, workedOver, lastAnswer}
 use Rattle.records.specs.Turns.{Turned, goingOn, turned, Lent, lent, lentBy, hasRoomFor, closed, turnOver, Ready, Follows}
 use Rattle.scene_records.specs.Records.{longestRest}
 use Rattle.records.proofs.RunLaws.{used-within, kept-short}
@@ -149,10 +151,6 @@ module _ (input output held out : List ℕ) (before t : Stream) (read : ℕ) (e 
 
 mid-length : (n : ℕ) (l : List ℕ) → length (midOf n (length l - n) l) ≡ length l - n
 mid-length n l = length-take-le (length l - n) (drop n l) (rw length-drop (omega arith))
-
--- a read behind what is kept leaves it as it is
-kept-stays : (n : ℕ) (l part : List ℕ) → n ≤ length l → take n (putMid n (length l - n) l part) ≡ take n l
-kept-stays n l part h = take-append-le n (take n l) (part ++ postOf n (length l - n) l) (rw (length-take-le n l h) (omega arith)) ∙ take-all n (take n l) (rw (length-take-le n l h) (omega arith))
 
 lent-parts : (l : Turned) (input output held out : List ℕ) (t : Stream) → lent t held out ≡ lentBy l input output →
     (take (t .put) out ≡ l .answers) × (take (t .kept) held ≡ l .kept) × (t .skip ≡ l .skip) × (t .more ≡ l .more)

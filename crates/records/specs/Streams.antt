@@ -88,9 +88,3 @@ answersFrom skip s = ended s (worked unlimited skip s)
 -- what the program answers to its whole input; "no input, no output"
 abbrev pub answersTo : List ℕ → List ℕ
 answersTo = answersFrom 0
-
--- ---- what is kept for the next read
-
--- n bytes from a place on, moved to the start
-abbrev pub shifted : ℕ → ℕ → List ℕ → List ℕ
-shifted from n l = take n (drop from l) ++ drop n l

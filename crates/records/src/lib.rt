@@ -8,7 +8,6 @@ ghost use Rattle.records.specs.Answered.{answerTo};
 ghost use Rattle.records.specs.Turns.{lent, turnOver};
 
 mod flow;
-mod kept;
 mod outcome;
 mod parts;
 mod steps;
@@ -109,8 +108,7 @@ pub fn turn(input: &mut [u8], output: &mut [u8], before: Stream, read: usize) ->
     }
     let there = kept + read;
     let place = flow::work(&input[0..there], output, before.skip);
-    let left = there - place.used;
-    kept::shift(input, place.used, left);
+    let left = kept::keep(input, place.used, there);
     Stream {
         put: place.put,
         kept: left,

@@ -1,9 +1,11 @@
 -- `records::turn` meets its contract. Assumes nothing.
 use borrow.Author.Needs.{needs}
 use native.Mathlib.Omega.{arith}
-use mathlib.Core.Path.{sym, _∙_}
+use mathlib.Core.Path.{sym, ap, _∙_}
 use borrow.Author.Tests.{not-true, not-false}
 use denote.Ref.{now}
+use Rattle.kept.specs.Kept.{Kept}
+use Rattle.kept.proofs.KeptLaws.{kept-there}
 use Rattle.records.proofs.TurnLaws.{has-room, no-turn, last-turn, used-there, whole-turn}
 use Rattle.records.proofs.turn.Statement.{statement}
 use Rattle.records.proofs.turn.Tie as tie
@@ -26,28 +28,18 @@ add-there c = omega (arith, has-room _ _ _ _ (sym (c .before .before .is-room .e
 part-work-end : tie.Need-part-work-end
 part-work-end c = omega (arith, has-room _ _ _ _ (sym (c .before .before .before .is-room .ensures) ∙ not-false _ (c .before .before .if1 .left)) .1)
 
-sub-left : tie.Need-sub-left
-sub-left c =
-    let t = c .before .before .before .before .before .before .before in
-    let a = t .before .before .before .before .before .args in
-    used-there (now (a .input)) (now (a .output)) (a .before) (a .read) (sym (t .before .before .is-room .ensures) ∙ not-false _ (t .before .if1 .left)) (t .if2 .left) _ _ (c .before .before .before .work .ensures)
-
-shift-requires : tie.Need-shift-requires
-shift-requires c κs =
-    let d = c .before .before .before .before in
+returns-3 : tie.Need-returns-3
+returns-3 c =
+    let d = c .before .before .before .before .before .before in
     let t = d .before .before .before .before in
     let a = t .before .before .before .before .before .args in
     let room = sym (t .before .before .is-room .ensures) ∙ not-false _ (t .before .if1 .left) in
-    omega (arith, has-room _ _ _ _ room .1, used-there (now (a .input)) (now (a .output)) (a .before) (a .read) room (t .if2 .left) _ _ (d .work .ensures))
-
-returns-3 : tie.Need-returns-3
-returns-3 c =
-    let d = c .before .before .before .before .before .before .before in
-    let t = d .before .before .before .before in
-    let a = t .before .before .before .before .before .args in
-    rw (c .before .before .shift .ensures) (whole-turn (now (a .input)) (now (a .output)) (a .before) (a .read) (sym (t .before .before .is-room .ensures) ∙ not-false _ (t .before .if1 .left)) (t .if2 .left) _ _ (d .work .ensures))
+    let used = used-there (now (a .input)) (now (a .output)) (a .before) (a .read) room (t .if2 .left) _ _ (d .work .ensures) in
+    let moved = c .before .before .keep .ensures ∙ kept-there _ _ (now (a .input)) used (omega (arith, has-room _ _ _ _ room .1)) in
+    rw (ap (λ (k : Kept). k .count) moved, ap (λ (k : Kept). k .contents) moved)
+    (whole-turn (now (a .input)) (now (a .output)) (a .before) (a .read) room (t .if2 .left) _ _ (d .work .ensures))
 
 pub turn-spec : {M : Type 1} → statement M
 turn-spec =
     tie.close (tie.spec (λ c κs. search needs) returns finish-requires (λ c. search needs) returns-2 add-there (λ c. search needs) (λ c. search needs)
-    part-work-end (λ c κs. search needs) sub-left shift-requires (λ c. search needs) (λ c. search needs) returns-3)
+    part-work-end (λ c κs. search needs) (λ c κs. search needs) (λ c. search needs) (λ c. search needs) returns-3)

@@ -1,6 +1,6 @@
 -- `records::flow::finish` meets its contract. Assumes nothing.
 use borrow.Author.Needs.{needs}
-use Rattle.records.proofs.KeptLaws.{nothing-left, some-left}
+use Rattle.records.proofs.EndLaws.{nothing-left, some-left}
 use Rattle.records.proofs.flow.finish.Statement.{statement}
 use Rattle.records.proofs.flow.finish.Tie as tie
 

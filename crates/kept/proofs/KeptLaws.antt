@@ -1,22 +1,16 @@
--- Laws of the end of the input and of what is kept for the next read. Assumes nothing.
-use Prim.Native.Nat.{ℕ, suc, _+_, _≤_, _<_}
+-- Bytes moved to a buffer's start, one behind the other, and what a read behind them leaves. Assumes nothing.
+use Prim.Native.Nat.{ℕ, suc, _+_, _-_, _≤_, _<_}
 use native.Mathlib.Omega.{arith}
 use native.Mathlib.Numerals.{add-one}
 use native.Mathlib.Nat.{add-comm}
 use mathlib.Core.Path.{_≡_, sym, ap, _∙_}
-use mathlib.Core.List.{List, append-assoc}
+use mathlib.Core.List.{List, _++_, append-assoc}
 use lib.ListN.{length, take, drop, getD, set, length-append, length-drop}
-use lib.Seq.{take-suc, take-at, drop-at, drop-drop, getD-drop, getD-append-add, set-split, length-take-le}
-use borrow.Author.Tests.{eq-eqb, ne-eqb}
+use lib.Seq.{take-suc, take-at, take-all, take-append-le, drop-at, drop-drop, getD-drop, getD-append-add, set-split, length-take-le}
+use borrow.Rule.Slice.PartMut.{postOf, putMid}
+use borrow.Author.Tests.{le-ltb}
 use Rattle.arithmetic.specs.Binary32.{if_then_else_}
-use Rattle.admission.specs.Faults.{Fault}
-use Rattle.fields.specs.Bytes.{bigEndian}
-use Rattle.answer_records.specs.Answers.{longestAnswer, refusalBytes, Written, written, laid}
-use Rattle.answer_records.proofs.WrittenLaws.{laid-there}
-use Rattle.records.specs.Steps.{put, putAt}
-use Rattle.records.specs.Streams.{lastAnswer, shifted}
-
--- ---- bytes moved to the start
+use Rattle.kept.specs.Kept.{Kept, kept, shifted, keptOver}
 
 module _ (from i : ℕ) (l : List ℕ) (fits : from + suc i ≤ length l) where
   moved : length (take i (drop from l)) ≡ i
@@ -36,13 +30,11 @@ module _ (from i : ℕ) (l : List ℕ) (fits : from + suc i ≤ length l) where
       rw (← add-one) (sym (drop-drop 1 i (shifted from i l)) ∙ rw (drop-at (take i (drop from l)) (drop i l) i moved) (drop-drop 1 i l)) in
       rw (set-split (shifted from i l) i (getD (shifted from i l) (from + i) 0) there, unmoved, take-at (take i (drop from l)) (drop i l) i moved, behind, add-one, take-suc (drop from l) i 0 next, append-assoc)
 
--- ---- the end of the input
+-- the places of a buffer
+pub kept-there : (from end : ℕ) (l : List ℕ) → from ≤ end → end ≤ length l → keptOver from end l ≡ kept (end - from) (shifted from (end - from) l)
+unfolding keptOver if_then_else_
+kept-there from end l h k = rw (le-ltb end from h, le-ltb (length l) end k)
 
-module _ (left : ℕ) (out : List ℕ) where
-  pub nothing-left : left ≡ 0 → put 0 out ≡ putAt 0 (lastAnswer left) out
-  unfolding lastAnswer if_then_else_
-  nothing-left e = rw (eq-eqb left 0 e)
-
-  pub some-left : (left ≡ 0 → ⊥) → longestAnswer ≤ length out → (f : Fault) (l : List ℕ) → written f l ≡ laid (refusalBytes 2) out → put 4 l ≡ putAt 0 (lastAnswer left) out
-  unfolding lastAnswer if_then_else_ refusalBytes bigEndian
-  some-left some h f l w = rw (ne-eqb left 0 some) (ap (λ (x : Written). put 4 (x .contents)) (w ∙ laid-there (refusalBytes 2) out (omega arith)))
+-- a read behind what is kept leaves it as it is
+pub kept-stays : (n : ℕ) (l part : List ℕ) → n ≤ length l → take n (putMid n (length l - n) l part) ≡ take n l
+kept-stays n l part h = take-append-le n (take n l) (part ++ postOf n (length l - n) l) (rw (length-take-le n l h) (omega arith)) ∙ take-all n (take n l) (rw (length-take-le n l h) (omega arith))

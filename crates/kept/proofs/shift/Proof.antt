@@ -1,12 +1,12 @@
--- `records::kept::shift` meets its contract. Assumes nothing.
+-- `kept::shift` meets its contract. Assumes nothing.
 use Prim.Native.Nat.{suc, _+_, _-_, _≤_}
 use native.Mathlib.Omega.{arith}
 use mathlib.Core.Path.{_≡_, refl}
 use lib.ListN.{length, length-set}
-use Rattle.records.specs.Streams.{shifted}
-use Rattle.records.proofs.KeptLaws.{shift-next}
-use Rattle.records.proofs.kept.shift.Statement.{statement}
-use Rattle.records.proofs.kept.shift.Tie as tie
+use Rattle.kept.specs.Kept.{shifted}
+use Rattle.kept.proofs.KeptLaws.{shift-next}
+use Rattle.kept.proofs.shift.Statement.{statement}
+use Rattle.kept.proofs.shift.Tie as tie
 
 abbrev Inv-loop : tie.InvT-loop
 Inv-loop buffer₀ from count i₀ buffer i = (i ≤ count) × (length buffer ≡ length buffer₀) × (buffer ≡ shifted from i buffer₀)

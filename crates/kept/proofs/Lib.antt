@@ -1,0 +1,2 @@
+-- The laws of `kept` that other crates may cite.
+pub mod KeptLaws
