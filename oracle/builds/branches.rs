@@ -3,6 +3,8 @@
 
 use std::cell::Cell;
 
+use super::causes;
+
 /// The solver's tolerance for parallel lines, 0.00001.
 const TOLERANCE: f32 = f32::from_bits(0x3727_C5AC);
 
@@ -73,12 +75,14 @@ fn take_if(test: bool, branch: Branch) {
 }
 
 pub fn circle(discriminant: f32) {
+    causes::circle(discriminant < 0.0);
     take_if(discriminant < 0.0, Branch::OutsideCircle);
     take_if(discriminant == 0.0, Branch::TouchesCircle);
 }
 
 pub fn earlier_line(determinant: f32, numerator: f32) {
     let size = determinant.abs();
+    causes::earlier_line(size <= TOLERANCE && numerator < 0.0);
     if size <= TOLERANCE {
         take(if numerator < 0.0 {
             Branch::ParallelFails
@@ -104,6 +108,7 @@ pub fn cut(determinant: f32, left: f32, right: f32, t: f32) {
 }
 
 pub fn ends(left: f32, right: f32) {
+    causes::ends(left > right);
     take_if(left > right, Branch::Crossed);
 }
 

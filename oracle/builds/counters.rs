@@ -4,10 +4,12 @@
 use std::cell::Cell;
 
 pub mod branches;
+mod causes;
 pub mod edge_branches;
 pub mod passes;
 
 pub use branches::{taken, Branch, Branches};
+pub use causes::Cause;
 pub use edge_branches::{taken as edges_taken, EdgeBranch, EdgeBranches};
 
 #[derive(Clone, Copy, PartialEq, Debug)]
@@ -16,6 +18,8 @@ pub struct Counts {
     pub probes: u32,
     /// The line at which the 2D pass over the whole list failed, rigidly or not.
     pub failed_line: Option<usize>,
+    /// What closed that line's interval.
+    pub cause: Option<Cause>,
     /// The penetration at the end of relaxation; none where nothing was relaxed.
     pub penetration: Option<f32>,
     pub inner_solves_begun: u32,
@@ -25,6 +29,7 @@ pub struct Counts {
 const NOTHING_COUNTED: Counts = Counts {
     probes: 0,
     failed_line: None,
+    cause: None,
     penetration: None,
     inner_solves_begun: 0,
     inner_solves_succeeded: 0,
@@ -48,14 +53,19 @@ pub fn reset() {
 fn start_counting() {
     COUNTS.set(NOTHING_COUNTED);
     branches::reset();
+    causes::reset();
 }
 
 pub fn probe() {
     update(|counts| counts.probes += 1);
 }
 
+/// The one-line solve that failed last is that line's.
 pub fn failed_line(index: usize) {
-    update(|counts| counts.failed_line = Some(index));
+    update(|counts| {
+        counts.failed_line = Some(index);
+        counts.cause = causes::last();
+    });
 }
 
 pub fn penetration(penetration: f32) {

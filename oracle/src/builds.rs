@@ -1,6 +1,6 @@
 //! Both builds asked with the same types, those of the plain one.
 
-use counters::{Branches, Counts};
+use counters::{Branches, Cause, Counts};
 use glam::Vec2;
 
 use crate::line_lists::LineList;
@@ -74,6 +74,11 @@ fn shown(answer: Answer) -> String {
 
 fn check_counts(list: &LineList, answer: Answer, counts: &Counts) -> Result<(), &'static str> {
     let lines = list.lines.len() as u32;
+    match (counts.failed_line, counts.cause) {
+        (None, None) | (Some(_), Some(Cause::Circle)) => {}
+        (Some(line), Some(Cause::Parallel(index) | Cause::Crossing(index))) if index < line => {}
+        _ => return Err("the cause names an earlier line, exactly where a line failed"),
+    }
     let failed_rigidly = counts
         .failed_line
         .is_some_and(|index| index < list.rigid_count);

@@ -24,12 +24,12 @@ mod writings;
 use std::process::ExitCode;
 use std::{env, fs};
 
-use scene_vectors::Set;
+use scene_vectors::{failures, Set};
 
 const USAGE: &str = "usage: oracle self-check
-       oracle vectors common|lists|cuts|edges FILE
+       oracle vectors common|lists|cuts|edges|failures FILE
        oracle vectors scenes|bad_records|writings RECORDS ANSWERS
-       oracle lists|edges SEED COUNT|SECONDSs FILE
+       oracle lists|edges|failures SEED COUNT|SECONDSs FILE
        oracle scenes|writings SEED COUNT|SECONDSs RECORDS ANSWERS
        oracle agree ANSWERS OTHER_ANSWERS [SCENES]
        oracle answer SCENES ANSWERS
@@ -45,6 +45,7 @@ fn main() -> ExitCode {
         ["vectors", "lists", file] => write_covered(file, list_vectors::bytes()),
         ["vectors", "cuts", file] => write_covered(file, cut_vectors::bytes()),
         ["vectors", "edges", file] => write_covered(file, edge_vectors::bytes()),
+        ["vectors", "failures", file] => write_covered(file, failures::bytes()),
         ["vectors", "scenes", records, answers] => {
             write_set(records, answers, scene_vectors::set())
         }
@@ -57,6 +58,9 @@ fn main() -> ExitCode {
         }
         ["edges", seed, until, file] => {
             scale::write([seed, until], &[file], edge_vectors::at_scale)
+        }
+        ["failures", seed, until, file] => {
+            scale::write([seed, until], &[file], failures::at_scale)
         }
         ["scenes", seed, until, scenes, answers] => {
             scale::write([seed, until], &[scenes, answers], scene_vectors::at_scale)

@@ -76,6 +76,11 @@ impl Words {
         self.number(vector.y);
     }
 
+    /// Bytes as they stand.
+    pub fn record(&mut self, bytes: &[u8]) {
+        self.bytes.extend_from_slice(bytes);
+    }
+
     pub fn into_bytes(self) -> Vec<u8> {
         self.bytes
     }

@@ -14,6 +14,7 @@ use Rattle.common.specs.Vectors.{vec, longest}
 use Rattle.lines.specs.declared.Line.{Line}
 use Rattle.lines.specs.Lines.{line, linesOf, numbersOf}
 use Rattle.lines.specs.LineFaults.{linesFault}
+use Rattle.linear_programming.specs.OneLine.{Cause, circle, parallel, crossing}
 use Rattle.linear_programming.specs.Whole.{Outcome, stands, refusal, solving, relaxing, rigidFailure, Failed, noLine, failedLine}
 use Rattle.linear_programming.specs.Admit.{wishFault, judgedList, listCall}
 use Rattle.linear_programming.proofs.Computed.{computed as solved, +, −}
@@ -60,8 +61,8 @@ obstacle kind margin vs = numbers kind (length vs) (corners vs) margin (+ 1)
 
 -- ---- the table
 
-abbrev at : ℕ → Failed
-at k = failedLine (record { index = k })
+abbrev at : ℕ → Cause → Failed
+at k cause = failedLine (record { index = k; cause = cause })
 
 abbrev o : Vec2
 o = vec (+ 0) (+ 0)
@@ -97,6 +98,25 @@ turned = vec (+ 1) (+ 1) ∷ vec (− 1) (+ 1) ∷ []
 abbrev tooFast : Float
 tooFast = bits 0x4480_0001
 
+-- met by no value that the circle and A leave
+abbrev below : Line
+below = line (vec (+ 0) (− 3)) (vec (− 1) (+ 0))
+
+-- met by the origin and A's values
+abbrev lower : Line
+lower = line (vec (+ 0) (− 2)) right
+
+-- 1.5
+abbrev threeHalves : Float
+threeHalves = bits 0x3FC0_0000
+
+-- above 1.5, and to the right of 1.5: each meets the circle, but not within the other
+abbrev high : Line
+high = line (vec (+ 0) threeHalves) right
+
+abbrev aside : Line
+aside = line (vec threeHalves (+ 0)) (vec (+ 0) (− 1))
+
 pub table : List Case
 table =
     -- P1, P2
@@ -106,12 +126,16 @@ table =
     ∷ (list 0 o (+ 2) (A ∷ []) gives ends (stands (solving (vec (+ 0) (+ 1))) noLine 1))
     ∷ (list 0 right (+ 2) (line o right ∷ []) gives ends (stands (solving right) noLine 1))
     -- P5, P6
-    ∷ (list 1 o (+ 2) (far ∷ []) gives ends (stands (rigidFailure 0 o) (at 0) 1))
-    ∷ (list 0 o (+ 2) (far ∷ []) gives ends (stands (relaxing (vec (− 0) (+ 2)) (+ 1)) (at 0) 2))
+    ∷ (list 1 o (+ 2) (far ∷ []) gives ends (stands (rigidFailure 0 o) (at 0 circle) 1))
+    ∷ (list 0 o (+ 2) (far ∷ []) gives ends (stands (relaxing (vec (− 0) (+ 2)) (+ 1)) (at 0 circle) 2))
     -- P7, P8, P9
-    ∷ (list 0 o (+ 2) (A ∷ B ∷ []) gives ends (stands (relaxing (vec (− 2) (+ 0)) (+ 1)) (at 1) 5))
-    ∷ (list 1 o (+ 2) (A ∷ B ∷ []) gives ends (stands (relaxing (vec −√3 (+ 1)) (+ 2)) (at 1) 5))
-    ∷ (list 2 o (+ 2) (A ∷ B ∷ []) gives ends (stands (rigidFailure 1 (vec (+ 0) (+ 1))) (at 1) 3))
+    ∷ (list 0 o (+ 2) (A ∷ B ∷ []) gives ends (stands (relaxing (vec (− 2) (+ 0)) (+ 1)) (at 1 (parallel 0)) 5))
+    ∷ (list 1 o (+ 2) (A ∷ B ∷ []) gives ends (stands (relaxing (vec −√3 (+ 1)) (+ 2)) (at 1 (parallel 0)) 5))
+    ∷ (list 2 o (+ 2) (A ∷ B ∷ []) gives ends (stands (rigidFailure 1 (vec (+ 0) (+ 1))) (at 1 (parallel 0)) 3))
+    -- a line that the circle leaves nothing of, though a parallel one does not either; the index in the whole list; ends that cross
+    ∷ (list 2 o (+ 2) (A ∷ below ∷ []) gives ends (stands (rigidFailure 1 (vec (+ 0) (+ 1))) (at 1 circle) 2))
+    ∷ (list 3 o (+ 2) (lower ∷ A ∷ B ∷ []) gives ends (stands (rigidFailure 2 (vec (+ 0) (+ 1))) (at 2 (parallel 1)) 6))
+    ∷ (list 2 o (+ 2) (high ∷ aside ∷ []) gives ends (stands (rigidFailure 1 (vec (+ 0) threeHalves)) (at 1 (crossing 0)) 3))
     -- P10
     ∷ (root (fin false 1 (negsuc 147)) gives is (fin false 1 (negsuc 73)))
     ∷ (root (− 0) gives is (− 0))

@@ -1,8 +1,10 @@
-// Runs 01's bench cases, P1 to P12 and the limits of its last row, with a horizon out of range and a number left over, through the code: the cases that proofs/Table.antt claims of the definitions. A case that is wrong is told by its number.
+// Runs 01's bench cases, P1 to P12 and the limits of its last row, with three more causes of a failure, a horizon out of range and a number left over,
+// through the code: the cases that proofs/Table.antt claims of the definitions. A case that is wrong is told by its number.
 use admission::Judged;
 use common::Vec2;
 use edges::Agent;
 use linear_programming::Answer;
+use linear_programming::Cause;
 use linear_programming::FailedLine;
 use linear_programming::Phase;
 use lines::Line;
@@ -11,10 +13,45 @@ use verdict::Tally;
 
 // ---- whether an answer is the one that a case names, zeros of either sign equal
 
-fn is_failed(failed: FailedLine, k: usize) -> bool {
+fn is_by_circle(cause: Cause) -> bool {
+    match cause {
+        Cause::Circle => true,
+        Cause::Parallel(_) => false,
+        Cause::Crossing(_) => false,
+    }
+}
+
+fn is_by_parallel(cause: Cause, k: usize) -> bool {
+    match cause {
+        Cause::Circle => false,
+        Cause::Parallel(i) => i == k,
+        Cause::Crossing(_) => false,
+    }
+}
+
+fn is_by_crossing(cause: Cause, k: usize) -> bool {
+    match cause {
+        Cause::Circle => false,
+        Cause::Parallel(_) => false,
+        Cause::Crossing(i) => i == k,
+    }
+}
+
+fn is_cause(cause: Cause, told: Cause) -> bool {
+    match told {
+        Cause::Circle => is_by_circle(cause),
+        Cause::Parallel(k) => is_by_parallel(cause, k),
+        Cause::Crossing(k) => is_by_crossing(cause, k),
+    }
+}
+
+fn is_failed(failed: FailedLine, k: usize, cause: Cause) -> bool {
     match failed {
         FailedLine::NoLine => false,
-        FailedLine::At(failure) => failure.index == k,
+        FailedLine::At(failure) => {
+            let told = failure.cause;
+            (failure.index == k) & is_cause(cause, told)
+        }
     }
 }
 
@@ -31,24 +68,32 @@ fn is_met(answer: Answer, x: f32, y: f32, probes: u32) -> bool {
     (px == x) & (py == y) & (n == probes)
 }
 
-fn is_relaxed(answer: Answer, x: f32, y: f32, depth: f32, k: usize, probes: u32) -> bool {
+fn is_relaxed(
+    answer: Answer,
+    x: f32,
+    y: f32,
+    depth: f32,
+    k: usize,
+    cause: Cause,
+    probes: u32,
+) -> bool {
     let Answer::Stands(phase, failed, n) = answer else {
         return false;
     };
     let Phase::Relaxing(px, py, penetration) = phase else {
         return false;
     };
-    (px == x) & (py == y) & (penetration == depth) & is_failed(failed, k) & (n == probes)
+    (px == x) & (py == y) & (penetration == depth) & is_failed(failed, k, cause) & (n == probes)
 }
 
-fn is_rigid(answer: Answer, k: usize, x: f32, y: f32, probes: u32) -> bool {
+fn is_rigid(answer: Answer, k: usize, cause: Cause, x: f32, y: f32, probes: u32) -> bool {
     let Answer::Stands(phase, failed, n) = answer else {
         return false;
     };
     let Phase::RigidFailure(at, px, py) = phase else {
         return false;
     };
-    (at == k) & (px == x) & (py == y) & is_failed(failed, k) & (n == probes)
+    (at == k) & (px == x) & (py == y) & is_failed(failed, k, cause) & (n == probes)
 }
 
 fn is_refused(answer: Answer, number: u8) -> bool {
@@ -84,19 +129,51 @@ fn single_lines(t: Tally) -> Tally {
     let p4 = linear_programming::solve_linear_program(&through, 0, 2.0, right);
     t.with(is_met(solved(&a, 0), 0.0, 1.0, 1), 3)
         .with(is_met(p4, 1.0, 0.0, 1), 4)
-        .with(is_rigid(solved(&far, 1), 0, 0.0, 0.0, 1), 5)
-        .with(is_relaxed(solved(&far, 0), 0.0, 2.0, 1.0, 0, 2), 6)
+        .with(is_rigid(solved(&far, 1), 0, Cause::Circle, 0.0, 0.0, 1), 5)
+        .with(
+            is_relaxed(solved(&far, 0), 0.0, 2.0, 1.0, 0, Cause::Circle, 2),
+            6,
+        )
 }
 
 fn two_lines(t: Tally) -> Tally {
     let both = [0.0, 1.0, 1.0, 0.0, 0.0, -1.0, -1.0, 0.0];
     let minus_root_3 = words::number(0xbfdd_b3d7);
-    t.with(is_relaxed(solved(&both, 0), -2.0, 0.0, 1.0, 1, 5), 7)
+    let cause = Cause::Parallel(0);
+    t.with(is_relaxed(solved(&both, 0), -2.0, 0.0, 1.0, 1, cause, 5), 7)
         .with(
-            is_relaxed(solved(&both, 1), minus_root_3, 1.0, 2.0, 1, 5),
+            is_relaxed(solved(&both, 1), minus_root_3, 1.0, 2.0, 1, cause, 5),
             8,
         )
-        .with(is_rigid(solved(&both, 2), 1, 0.0, 1.0, 3), 9)
+        .with(is_rigid(solved(&both, 2), 1, cause, 0.0, 1.0, 3), 9)
+}
+
+// The causes beyond P5 to P9, told as 901 to 903: the circle before a parallel line, the index in the whole list, ends that cross.
+fn causes(t: Tally) -> Tally {
+    let missed = [0.0, 1.0, 1.0, 0.0, 0.0, -3.0, -1.0, 0.0];
+    let three = [
+        0.0,
+        -2.0,
+        1.0,
+        0.0,
+        0.0,
+        1.0,
+        1.0,
+        0.0,
+        0.0,
+        -1.0,
+        -1.0,
+        0.0,
+    ];
+    let crossed = [0.0, 1.5, 1.0, 0.0, 1.5, 0.0, 0.0, -1.0];
+    let second = Cause::Parallel(1);
+    let first = Cause::Crossing(0);
+    t.with(
+            is_rigid(solved(&missed, 2), 1, Cause::Circle, 0.0, 1.0, 2),
+            901,
+        )
+        .with(is_rigid(solved(&three, 3), 2, second, 0.0, 1.0, 6), 902)
+        .with(is_rigid(solved(&crossed, 2), 1, first, 0.0, 1.5, 3), 903)
 }
 
 // Stores one line more than a list may have: each goes through (0, -1) in the direction (1, 0), and the origin meets it.
@@ -193,6 +270,6 @@ fn points(t: Tally) -> Tally {
 }
 
 fn main() {
-    let lists = limits(two_lines(single_lines(starts(Tally::NONE))));
+    let lists = limits(causes(two_lines(single_lines(starts(Tally::NONE)))));
     points(walls(roots(lists))).tell(b"bench cases");
 }

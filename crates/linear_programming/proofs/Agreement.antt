@@ -1,14 +1,22 @@
 -- Enums of the code there and back: what one says can be turned back, so two answers that one promise allows are the same. Assumes nothing.
 use mathlib.Core.Path.{_≡_, refl}
 use Rattle.arithmetic.proofs.Agree.{agree-read}
+use Rattle.linear_programming.specs.declared.Cause.{Cause as CauseCode}
+use Rattle.linear_programming.specs.declared.Cause.the-variants as causes
 use Rattle.linear_programming.specs.declared.Phase.{Phase as PhaseCode}
 use Rattle.linear_programming.specs.declared.Phase.the-variants as phase
 use Rattle.linear_programming.specs.declared.FailedLine.{FailedLine}
 use Rattle.linear_programming.specs.declared.FailedLine.the-variants as failed-line
 use Rattle.linear_programming.specs.declared.Answer.{Answer}
 use Rattle.linear_programming.specs.declared.Answer.the-variants as answer
+use Rattle.linear_programming.specs.OneLine.{Cause, circle, parallel, crossing}
 use Rattle.linear_programming.specs.Whole.{Phase, solving, relaxing, rigidFailure, Failed, noLine, failedLine, Outcome}
-use Rattle.linear_programming.specs.Read.{phaseOf, phaseAs, failedOf, failedAs, outcomeOf, answerAs}
+use Rattle.linear_programming.specs.Read.{causeOf, causeAs, phaseOf, phaseAs, failedOf, failedAs, outcomeOf, answerAs}
+
+cause-back : (c : CauseCode) → causeAs (causeOf c) ≡ c
+cause-back causes.Circle = refl
+cause-back (causes.Parallel i) = refl
+cause-back (causes.Crossing i) = refl
 
 pub phase-back : (p : PhaseCode) → phaseAs (phaseOf p) ≡ p
 phase-back (phase.Solving x y) = refl
@@ -17,7 +25,12 @@ phase-back (phase.RigidFailure k x y) = refl
 
 pub failed-back : (f : FailedLine) → failedAs (failedOf f) ≡ f
 failed-back failed-line.NoLine = refl
-failed-back (failed-line.At f) = refl
+failed-back (failed-line.At f) = rw (cause-back (f .cause))
+
+cause-there : (c : Cause) → causeOf (causeAs c) ≡ c
+cause-there circle = refl
+cause-there (parallel i) = refl
+cause-there (crossing i) = refl
 
 pub phase-there : (p : Phase) → phaseOf (phaseAs p) ≡ p
 phase-there (solving p) = refl
@@ -26,7 +39,7 @@ phase-there (rigidFailure k p) = refl
 
 pub failed-there : (f : Failed) → failedOf (failedAs f) ≡ f
 failed-there noLine = refl
-failed-there (failedLine f) = refl
+failed-there (failedLine f) = rw (cause-there (f .cause))
 
 answer-back : (a : Answer) → answerAs (outcomeOf a) ≡ a
 answer-back (answer.Stands p f n) = rw (phase-back p, failed-back f)

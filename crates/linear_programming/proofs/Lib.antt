@@ -9,6 +9,7 @@ pub mod Variants
 pub mod Steps
 pub mod WholeLaws
 pub mod WholeProbes
+pub mod CauseLaws
 pub mod ResumeLaws
 pub mod Bounds
 pub mod Agreement

@@ -51,7 +51,7 @@ unfailed k unfailed-refused = never
 solved-fails : (o : Objective) (k : ℕ) (p : Vec2) (n : ℕ) (q : Found) → FailsAt k (solved o k p n q)
 unfolding solved
 solved-fails o k p n (at q m) = unfailed k (judged-unfailed o q (n + m))
-solved-fails o k p n (fails m) = there refl
+solved-fails o k p n (fails m cause) = there refl
 solved-fails o k p n refuses = never
 
 pub pass-fails : (o : Objective) (limit : Float) (e : List Line) (own : Line) (p : Vec2) (n : ℕ) → FailsAt (length e) (passLine o limit e own (feasible p n))

@@ -36,7 +36,7 @@ judged-counts (along d) q n b h = counts h
 solved-counts : (o : Objective) (j : ℕ) (p : Vec2) (n i : ℕ) {q : Found} → Solves (0 + i) q → Counts (n + i) (solved o j p n q)
 unfolding solved
 solved-counts o j p n i (solves {q}) = judged-counts o q (n + (0 + i)) (n + i) (omega arith)
-solved-counts o j p n i (stops {n = m} h) = counts-failed {n = n + m} (omega arith)
+solved-counts o j p n i (stops {n = m} h by) = counts-failed {n = n + m} (omega arith)
 solved-counts o j p n i stops-refused = counts-none
 
 pub pass-counts : (o : Objective) (limit : Float) (e : List Line) (own : Line) (p : Vec2) (n : ℕ) → Counts (n + 1 + length e) (passLine o limit e own (feasible p n))
@@ -69,7 +69,7 @@ next-product k = omega (arith, mul-add (k + 1) (k + 1) 1, add-mul k 1 (k + 1))
 solved-takes : (o : Objective) (j k : ℕ) (p : Vec2) (n : ℕ) → k ≤ n → 2 * n ≤ k * (k + 1) → {q : Found} → Solves (0 + k) q → Takes (k + 1) (solved o j p (n + 1) q)
 unfolding solved
 solved-takes o j k p n a b solves = judged-takes o (k + 1) _ (n + 1 + (0 + k)) (omega arith) (omega (arith, next-product k))
-solved-takes o j k p n a b (stops {n = m} h) = takes-failed {n = n + 1 + m} (omega (arith, next-product k))
+solved-takes o j k p n a b (stops {n = m} h by) = takes-failed {n = n + 1 + m} (omega (arith, next-product k))
 solved-takes o j k p n a b stops-refused = takes-none
 
 line-takes : (o : Objective) (limit : Float) (e : List Line) (own : Line) (s : Pass) → Takes (length e) s → Takes (length (e ++ (own ∷ []))) (passLine o limit e own s)

@@ -46,7 +46,7 @@ judged-after (along d) p n m = refl
 solved-after : (o : Objective) (k : ℕ) (p : Vec2) (n m : ℕ) (f : Found) → solved o k p (n + m) f ≡ passAfter n (solved o k p m f)
 unfolding solved
 solved-after o k p n m (at q i) = rw add-assoc (judged-after o q n (m + i))
-solved-after o k p n m (fails i) = rw add-assoc refl
+solved-after o k p n m (fails i cause) = rw add-assoc refl
 solved-after o k p n m refuses = refl
 
 pass-after : (o : Objective) (limit : Float) (n : ℕ) (e : List Line) (own : Line) (s : Pass) → passLine o limit e own (passAfter n s) ≡ passAfter n (passLine o limit e own s)

@@ -23,7 +23,7 @@ use Rattle.linear_programming.proofs.OneLineLaws.{Solves, solves, stops
 -- neither a point nor a failure
 pub refuses-left : (a : AlongLine) → OneOf (1 ∷ 2 ∷ []) (tagOf along-type a) → OneOf (0 ∷ 2 ∷ []) (tagOf along-type a) → a ≡ along-line.Refuses
 refuses-left (along-line.At p n) h k = absurd (⊎-elim (λ (e : _≡_ {A = ℕ} 0 1). omega arith) (λ (e : _≡_ {A = ℕ} 0 2). omega arith) h)
-refuses-left (along-line.Fails n) h k = absurd (⊎-elim (λ (e : _≡_ {A = ℕ} 1 0). omega arith) (λ (e : _≡_ {A = ℕ} 1 2). omega arith) k)
+refuses-left (along-line.Fails n cause) h k = absurd (⊎-elim (λ (e : _≡_ {A = ℕ} 1 0). omega arith) (λ (e : _≡_ {A = ℕ} 1 2). omega arith) k)
 refuses-left along-line.Refuses h k = refl
 
 -- a one-line solve looks at no more lines than there are
@@ -32,7 +32,7 @@ looked-most o limit own e a h = most a (rw (← h) at (line-solves o limit own e
   where
     most : (a : AlongLine) → Solves (0 + length e) (foundOf a) → lookedOf a ≤ length e
     most (along-line.At p n) solves = omega arith
-    most (along-line.Fails n) (stops l) = omega arith
+    most (along-line.Fails n cause) (stops l by) = omega arith
     most along-line.Refuses s = omega arith
 
 -- a pass that failed or was refused stays so

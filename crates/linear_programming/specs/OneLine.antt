@@ -15,10 +15,16 @@ pub data Objective : Type 0 where
   toward : Vec2 → Objective
   along : Vec2 → Objective
 
+-- what leaves nothing of a line: the circle, or the earlier line at an index, by its wrong side where it is parallel or by the ends that cross there
+pub data Cause : Type 0 where
+  circle : Cause
+  parallel : ℕ → Cause
+  crossing : ℕ → Cause
+
 -- the interval left on a line, with the earlier lines looked at so far; or none
 pub data Interval : Type 0 where
   between : Float → Float → ℕ → Interval
-  empty : ℕ → Interval
+  empty : ℕ → Cause → Interval
 
 -- "a = line point · direction; disc = a·a + limit·limit − line point · line point; disc < 0 fails. Interval −a − √disc to −a + √disc"
 unfoldable pub chord : Float → Line → Interval
@@ -26,31 +32,31 @@ chord limit own =
     let a = dotOf (own .point) (own .direction) in
     let disc = a ⊗ a ⊕ limit ⊗ limit ⊖ dotOf (own .point) (own .point) in
     let root = sqrtOf disc in
-    if disc <ᶠ 0ᶠ then empty 0 else between (neg a ⊖ root) (neg a ⊕ root) 0
+    if disc <ᶠ 0ᶠ then empty 0 circle else between (neg a ⊖ root) (neg a ⊕ root) 0
 
--- one more line looked at: it fails there, or the ends are as the line left them
-unfoldable pub unlessFails : Bool → Float → Float → ℕ → Interval
-unlessFails b left right n = if b then empty (n + 1) else between left right (n + 1)
+-- one more line looked at: it fails there, by a cause, or the ends are as the line left them
+unfoldable pub unlessFails : Bool → Cause → Float → Float → ℕ → Interval
+unlessFails b cause left right n = if b then empty (n + 1) cause else between left right (n + 1)
 
--- "t = num / det caps the right end if det ≥ 0, raises the left end if not; left > right fails"
+-- "t = num / det caps the right end if det ≥ 0, raises the left end if not; left > right fails". The line's index is the count of those looked at before it
 unfoldable pub cut : Float → Float → ℕ → Float → Float → Interval
 cut left right n det t =
     let capped = minOf right t in
     let raised = maxOf left t in
-    if 0ᶠ ≤ᶠ det then unlessFails (capped <ᶠ left) left capped n else unlessFails (right <ᶠ raised) raised right n
+    if 0ᶠ ≤ᶠ det then unlessFails (capped <ᶠ left) (crossing n) left capped n else unlessFails (right <ᶠ raised) (crossing n) raised right n
 
 -- one earlier line narrows the interval on `own`. "|det| ≤ 0.00001: fails if num < 0, else skipped"
 unfoldable pub narrow : Line → Interval → Line → Interval
-narrow own (empty n) it = empty n
+narrow own (empty n cause) it = empty n cause
 narrow own (between left right n) it =
     let det = determinantOf (own .direction) (it .direction) in
     let num = determinantOf (it .direction) (subOf (own .point) (it .point)) in
-    if absOf det ≤ᶠ epsilon then unlessFails (num <ᶠ 0ᶠ) left right n else cut left right n det (num ⊘ det)
+    if absOf det ≤ᶠ epsilon then unlessFails (num <ᶠ 0ᶠ) (parallel n) left right n else cut left right n det (num ⊘ det)
 
--- what a solve of one line finds, with its probes: a point, a failure, or refusal 8
+-- what a solve of one line finds, with its probes: a point, a failure with its cause, or refusal 8
 pub data Found : Type 0 where
   at : Vec2 → ℕ → Found
-  fails : ℕ → Found
+  fails : ℕ → Cause → Found
   refuses : Found
 
 -- "line point + t · direction"
@@ -59,7 +65,7 @@ pointOn own t = addOf (own .point) (mulOf (own .direction) t)
 
 -- t from the objective; "at the clamp to a wish, not (t_left ≤ t_right)" is refusal 8
 unfoldable pub choose : Objective → Line → Interval → Found
-choose o own (empty n) = fails n
+choose o own (empty n cause) = fails n cause
 choose (toward wish) own (between left right n) =
     let t = clampOf (dotOf (own .direction) (subOf wish (own .point))) left right in
     if left ≤ᶠ right then at (pointOn own t) n else refuses

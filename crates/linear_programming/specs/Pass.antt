@@ -9,16 +9,17 @@ use Rattle.common.specs.declared.Vec2.{Vec2}
 use Rattle.common.specs.Vectors.{subOf, mulOf, determinantOf, lengthSquaredOf, normalizeOf}
 use Rattle.lines.specs.declared.Line.{Line}
 use Rattle.linear_programming.specs.Walk.{walk}
-use Rattle.linear_programming.specs.OneLine.{Objective, toward, along, Found, at, fails, refuses, oneLine}
+use Rattle.linear_programming.specs.OneLine.{Objective, toward, along, Cause, Found, at, fails, refuses, oneLine}
 
 -- "the wish, or, if its squared length > limit², its normalized form times the limit"; along a direction "its start is direction times limit"
 unfoldable pub start : Objective → Float → Vec2
 start (toward wish) limit = if limit ⊗ limit <ᶠ lengthSquaredOf wish then mulOf (normalizeOf wish) limit else wish
 start (along d) limit = mulOf d limit
 
--- the line that a pass failed at
+-- the line that a pass failed at, and what left nothing of it
 pub record Failure : Type 0 where
   pub index : ℕ
+  pub cause : Cause
 
 -- the pass so far: the point now; or the line it failed at, with the point before it; each with the probes; or a refusal
 pub data Pass : Type 0 where
@@ -37,7 +38,7 @@ judged (along d) p n = feasible p n
 -- what the solve of line k leaves, p the point before it and n the probes up to it, its comparison counted
 unfoldable pub solved : Objective → ℕ → Vec2 → ℕ → Found → Pass
 solved o k p n (at q m) = judged o q (n + m)
-solved o k p n (fails m) = failed (record { index = k }) p (n + m)
+solved o k p n (fails m cause) = failed (record { index = k; cause = cause }) p (n + m)
 solved o k p n refuses = refused 8
 
 -- "A line is met if determinant(direction, point now − line point) > 0. Exactly 0 is solved again."

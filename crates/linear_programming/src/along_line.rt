@@ -1,5 +1,6 @@
 // The one-line solve: the best value on a line within the circle and the earlier lines.
 use crate::AlongLine;
+use crate::Cause;
 use crate::Interval;
 use crate::OptimalValue;
 use common::Vec2;
@@ -10,7 +11,7 @@ ghost use mathlib.Core.List.{foldl};
 ghost use lib.ListN.{length, take};
 ghost use Rattle.lines.specs.Lines.{mostLines, linesOf};
 ghost use Rattle.linear_programming.specs.OneLine.{between, chord, unlessFails, cut, narrow, pointOn, choose, oneLine};
-ghost use Rattle.linear_programming.specs.Read.{objectiveOf, intervalOf, foundOf};
+ghost use Rattle.linear_programming.specs.Read.{objectiveOf, causeOf, intervalOf, foundOf};
 
 // Where the line lies within the circle.
 fn circle_interval(line: Line, radius: f32) -> Interval
@@ -20,19 +21,19 @@ fn circle_interval(line: Line, radius: f32) -> Interval
     let discriminant = line_dot_product * line_dot_product + radius * radius
         - line.point.dot(line.point);
     if discriminant < 0.0 {
-        return Interval::Empty(0);
+        return Interval::Empty(0, Cause::Circle);
     }
     let root = arithmetic::sqrt(discriminant);
     Interval::Between(-line_dot_product - root, -line_dot_product + root, 0)
 }
 
-// One more line looked at: the interval is empty where that fails, else its ends are as the line left them.
-fn unless_fails(fails: bool, left: f32, right: f32, looked: u32) -> Interval
+// One more line looked at: the interval is empty where that fails, by `cause`, else its ends are as the line left them.
+fn unless_fails(fails: bool, cause: Cause, left: f32, right: f32, looked: u32) -> Interval
     requires { ⌜ looked < mostLines ⌝ }
-    ensures { λ r. ⌜ intervalOf r ≡ unlessFails fails left right looked ⌝ }
+    ensures { λ r. ⌜ intervalOf r ≡ unlessFails fails (causeOf cause) left right looked ⌝ }
 {
     if fails {
-        return Interval::Empty(looked + 1);
+        return Interval::Empty(looked + 1, cause);
     }
     Interval::Between(left, right, looked + 1)
 }
@@ -44,10 +45,22 @@ fn cut_at(left: f32, right: f32, looked: u32, direction_determinant: f32, t: f32
 {
     if direction_determinant >= 0.0 {
         let capped = arithmetic::min(right, t);
-        return unless_fails(left > capped, left, capped, looked);
+        return unless_fails(
+            left > capped,
+            Cause::Crossing(looked as usize),
+            left,
+            capped,
+            looked,
+        );
     }
     let raised = arithmetic::max(left, t);
-    unless_fails(raised > right, raised, right, looked)
+    unless_fails(
+        raised > right,
+        Cause::Crossing(looked as usize),
+        raised,
+        right,
+        looked,
+    )
 }
 
 // One earlier line narrows the interval; one that is nearly parallel leaves it as it is, or fails where `line` lies on its wrong side.
@@ -58,7 +71,13 @@ fn narrow_by(line: Line, left: f32, right: f32, looked: u32, constraint: Line) -
     let direction_determinant = common::determinant(line.direction, constraint.direction);
     let numerator = common::determinant(constraint.direction, line.point.sub(constraint.point));
     if admission::is_within(Line::EPSILON, direction_determinant) {
-        return unless_fails(numerator < 0.0, left, right, looked);
+        return unless_fails(
+            numerator < 0.0,
+            Cause::Parallel(looked as usize),
+            left,
+            right,
+            looked,
+        );
     }
     cut_at(
         left,
@@ -130,10 +149,10 @@ pub(crate) fn solve_linear_program_along_line(
     ensures { λ r. ⌜ foundOf r ≡ oneLine (objectiveOf «optimal_value») radius line (take count (linesOf (now (lines .entry)))) ⌝ }
 {
     let Interval::Between(left, right, _) = circle_interval(line, radius) else {
-        return AlongLine::Fails(0);
+        return AlongLine::Fails(0, Cause::Circle);
     };
     match narrow_all(line, left, right, lines, count) {
-        Interval::Empty(looked) => AlongLine::Fails(looked),
+        Interval::Empty(looked, cause) => AlongLine::Fails(looked, cause),
         Interval::Between(t_left, t_right, looked) => best_on(
             line,
             t_left,

@@ -20,22 +20,30 @@ pub(crate) enum OptimalValue {
     Direction(f32, f32),
 }
 
-// The interval left on a line, with the earlier lines looked at; or none.
+// What left nothing of a line: the circle, or the earlier line at an index, by its wrong side where it is parallel or by the ends that crossed there.
+pub enum Cause {
+    Circle,
+    Parallel(usize),
+    Crossing(usize),
+}
+
+// The interval left on a line, with the earlier lines looked at; or none, with what closed it.
 pub(crate) enum Interval {
     Between(f32, f32, u32),
-    Empty(u32),
+    Empty(u32, Cause),
 }
 
 // What a one-line solve finds, with its probes.
 pub(crate) enum AlongLine {
     At(Vec2, u32),
-    Fails(u32),
+    Fails(u32, Cause),
     Refuses,
 }
 
-// The line that a 2D pass failed at.
+// The line that a 2D pass failed at, and what left nothing of it.
 pub struct Failure {
     pub index: usize,
+    pub cause: Cause,
 }
 
 // The 2D pass so far, with its probes: the point now; the line it failed at and the point before it; or a refusal.

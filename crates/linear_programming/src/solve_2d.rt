@@ -75,11 +75,11 @@ fn pass_line(
         optimal_value,
     );
     let AlongLine::At(best_value, looked) = along else {
-        let AlongLine::Fails(looked) = along else {
+        let AlongLine::Fails(looked, cause) = along else {
             return LinearProgram2D::Refused(8);
         };
         let counted = probes + 1 + looked;
-        return LinearProgram2D::Infeasible(Failure { index }, point, counted);
+        return LinearProgram2D::Infeasible(Failure { index, cause }, point, counted);
     };
     judge_point(optimal_value, best_value, probes + 1 + looked)
 }

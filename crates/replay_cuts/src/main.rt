@@ -230,7 +230,7 @@ fn compared(feeding: Feeding, fed: Fed, expected: Judged, count: usize, answers:
         & (session.count == count)
         & is_standing(
             answers,
-            (24 * feeding.place) as u16,
+            (28 * feeding.place) as u16,
             phase,
             failed,
             session.probes,
@@ -261,7 +261,7 @@ fn same_judgement(judged: Judged, expected: Judged) -> bool
 
 // How many bytes a head says are behind it: the list's numbers, and an answer for none and for each line.
 fn rest_length(head: &[u8]) -> usize {
-    10 * (words::word_at(head, 0) as usize) + 24
+    11 * (words::word_at(head, 0) as usize) + 28
 }
 
 // One record more: read, and compared.
@@ -282,8 +282,8 @@ fn turn(walk: Walk, head: &mut [u8], rest: &mut [u8]) -> Walk
 fn walked(start: Walk) -> Walk {
     let mut walk = start;
     let mut head: [u8; 20] = [0; 20];
-    // The longest rest: 256 lines, 40 bytes each, and an answer.
-    let mut rest: [u8; 10264] = [0; 10264];
+    // The longest rest: 256 lines, 44 bytes each, and an answer.
+    let mut rest: [u8; 11292] = [0; 11292];
     while walk.left > 0 {
         walk = turn(walk, &mut head, &mut rest);
     }

@@ -44,7 +44,7 @@ fn is_answer(bytes: &[u8], at: u16, answer: Answer) -> bool
 
 // How many bytes a head says are behind it: the list's numbers and an answer.
 fn rest_length(head: &[u8]) -> usize {
-    4 * (words::word_at(head, 0) as usize) + 24
+    4 * (words::word_at(head, 0) as usize) + 28
 }
 
 // One record more: read, and compared.
@@ -66,7 +66,7 @@ fn walked(start: Walk) -> Walk {
     let mut walk = start;
     let mut head: [u8; 20] = [0; 20];
     // The longest rest: 320 lines and an answer.
-    let mut rest: [u8; 5144] = [0; 5144];
+    let mut rest: [u8; 5148] = [0; 5148];
     while walk.left > 0 {
         walk = turn(walk, &mut head, &mut rest);
     }

@@ -1,11 +1,13 @@
-// How lines stand against an answer, six words from a place on: kind (0 solving, 1 relaxing, 2 rigid failure, 100 + the number of a refusal), point (2), penetration, failed line, probes.
+// How lines stand against an answer, seven words from a place on: kind (0 solving, 1 relaxing, 2 rigid failure, 100 + the number of a refusal),
+// point (2), penetration, failed line, its cause, probes.
+use linear_programming::Cause;
 use linear_programming::FailedLine;
 use linear_programming::Phase;
 use replay_records::agrees;
 ghost use mathlib.Core.Path.{_≡_};
 ghost use Rattle.common.specs.Vectors.{vec};
-ghost use Rattle.linear_programming.specs.Read.{phaseOf, failedOf};
-ghost use Rattle.replay_standings.specs.Standings.{isFailed, isTold, isStanding};
+ghost use Rattle.linear_programming.specs.Read.{causeOf, phaseOf, failedOf};
+ghost use Rattle.replay_standings.specs.Standings.{isCause, isFailed, isTold, isStanding};
 
 // Whether phase, failed line and probes are those of the answer at the place. A rigid failure's own index is the failed line, too.
 pub fn is_standing(bytes: &[u8], at: u16, phase: Phase, failed: FailedLine, probes: u32) -> bool
@@ -23,7 +25,7 @@ pub fn is_standing(bytes: &[u8], at: u16, phase: Phase, failed: FailedLine, prob
     }
 }
 
-// Whether these are the six words of the answer at the place.
+// Whether these are the seven words of the answer at the place.
 pub fn is_told(
     bytes: &[u8],
     at: u16,
@@ -40,17 +42,34 @@ pub fn is_told(
         & agrees(x, words::word_at(bytes, at as usize + 4))
         & agrees(y, words::word_at(bytes, at as usize + 8))
         & agrees(penetration, words::word_at(bytes, at as usize + 12))
-        & is_failed(bytes, at as usize + 16, failed)
-        & (words::word_at(bytes, at as usize + 20) == probes)
+        & is_failed(
+            words::word_at(bytes, at as usize + 16),
+            words::word_at(bytes, at as usize + 20),
+            failed,
+        )
+        & (words::word_at(bytes, at as usize + 24) == probes)
 }
 
-// Whether the failed line is the one at the place, where FFFFFFFF stands for none.
-fn is_failed(bytes: &[u8], at: usize, failed: FailedLine) -> bool
-    ensures { λ r. ⌜ r ≡ isFailed (now (bytes .entry)) at (failedOf failed) ⌝ }
+// Whether the failed line and its cause are those of the two words, where FFFFFFFF stands for no line and 0 for no cause.
+pub fn is_failed(line: u32, word: u32, failed: FailedLine) -> bool
+    ensures { λ r. ⌜ r ≡ isFailed line word (failedOf failed) ⌝ }
 {
-    let word = words::word_at(bytes, at) as usize;
     match failed {
-        FailedLine::NoLine => word == 0xffff_ffff,
-        FailedLine::At(failure) => word == failure.index,
+        FailedLine::NoLine => (line == 0xffff_ffff) & (word == 0),
+        FailedLine::At(failure) => {
+            let cause = failure.cause;
+            (line as usize == failure.index) & is_cause(word, cause)
+        }
+    }
+}
+
+// Whether the cause is the one of the word: 1 the circle, 2 a parallel line, 3 ends that crossed, times 65,536, and the earlier line's index.
+fn is_cause(word: u32, cause: Cause) -> bool
+    ensures { λ r. ⌜ r ≡ isCause word (causeOf cause) ⌝ }
+{
+    match cause {
+        Cause::Circle => word == 65536,
+        Cause::Parallel(index) => (word / 65536 == 2) & ((word % 65536) as usize == index),
+        Cause::Crossing(index) => (word / 65536 == 3) & ((word % 65536) as usize == index),
     }
 }

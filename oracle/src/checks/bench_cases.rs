@@ -1,7 +1,7 @@
 //! P1 to P9 of the definition of the build, and one list whose inner solve fails.
 //! Numbers are compared by value, as that table has them: P6 ends in (-0, 2).
 
-use counters::Counts;
+use counters::{Cause, Counts};
 use dodgy_plain::debug::Line;
 use glam::Vec2;
 
@@ -65,31 +65,55 @@ fn cases() -> Vec<Case> {
             name: "P5",
             list: list((0.0, 0.0), 2.0, 1, vec![out_of_reach()]),
             answer: Err(Vec2::new(0.0, 0.0)),
-            counts: failed_rigidly(0, 1),
+            counts: failed_rigidly(0, Cause::Circle, 1),
         },
         Case {
             name: "P6",
             list: list((0.0, 0.0), 2.0, 0, vec![out_of_reach()]),
             answer: Ok(Vec2::new(0.0, 2.0)),
-            counts: relaxed(0, 1.0, 2, (1, 1)),
+            counts: relaxed(0, Cause::Circle, 1.0, 2, (1, 1)),
         },
         Case {
             name: "P7",
             list: list((0.0, 0.0), 2.0, 0, vec![ahead(), behind()]),
             answer: Ok(Vec2::new(-2.0, 0.0)),
-            counts: relaxed(1, 1.0, 5, (1, 1)),
+            counts: relaxed(1, Cause::Parallel(0), 1.0, 5, (1, 1)),
         },
         Case {
             name: "P8",
             list: list((0.0, 0.0), 2.0, 1, vec![ahead(), behind()]),
             answer: Ok(Vec2::new(minus_root_of_three, 1.0)),
-            counts: relaxed(1, 2.0, 5, (1, 1)),
+            counts: relaxed(1, Cause::Parallel(0), 2.0, 5, (1, 1)),
         },
         Case {
             name: "P9",
             list: list((0.0, 0.0), 2.0, 2, vec![ahead(), behind()]),
             answer: Err(Vec2::new(0.0, 1.0)),
-            counts: failed_rigidly(1, 3),
+            counts: failed_rigidly(1, Cause::Parallel(0), 3),
+        },
+        // The circle is judged before the parallel line, which would fail it too.
+        Case {
+            name: "circle before a parallel line",
+            list: list((0.0, 0.0), 2.0, 2, vec![ahead(), line((0.0, -3.0), (-1.0, 0.0))]),
+            answer: Err(Vec2::new(0.0, 1.0)),
+            counts: failed_rigidly(1, Cause::Circle, 2),
+        },
+        Case {
+            name: "a cause behind the first line",
+            list: list((0.0, 0.0), 2.0, 3, vec![line((0.0, -2.0), (1.0, 0.0)), ahead(), behind()]),
+            answer: Err(Vec2::new(0.0, 1.0)),
+            counts: failed_rigidly(2, Cause::Parallel(1), 6),
+        },
+        Case {
+            name: "ends that cross",
+            list: list(
+                (0.0, 0.0),
+                2.0,
+                2,
+                vec![line((0.0, 1.5), (1.0, 0.0)), line((1.5, 0.0), (0.0, -1.0))],
+            ),
+            answer: Err(Vec2::new(0.0, 1.5)),
+            counts: failed_rigidly(1, Cause::Crossing(0), 3),
         },
         // The second line's inner solve fails; the one line it looked at is a probe all the same.
         Case {
@@ -104,7 +128,7 @@ fn cases() -> Vec<Case> {
                 ],
             ),
             answer: Ok(Vec2::new(0.0, 0.0)),
-            counts: relaxed(0, 0.39999998, 4, (2, 1)),
+            counts: relaxed(0, Cause::Circle, 0.39999998, 4, (2, 1)),
         },
     ]
 }
@@ -129,24 +153,33 @@ fn solved(probes: u32) -> Counts {
     Counts {
         probes,
         failed_line: None,
+        cause: None,
         penetration: None,
         inner_solves_begun: 0,
         inner_solves_succeeded: 0,
     }
 }
 
-fn failed_rigidly(failed_line: usize, probes: u32) -> Counts {
+fn failed_rigidly(failed_line: usize, cause: Cause, probes: u32) -> Counts {
     Counts {
         failed_line: Some(failed_line),
+        cause: Some(cause),
         ..solved(probes)
     }
 }
 
 /// `inner_solves` are those begun and those that succeeded.
-fn relaxed(failed_line: usize, penetration: f32, probes: u32, inner_solves: (u32, u32)) -> Counts {
+fn relaxed(
+    failed_line: usize,
+    cause: Cause,
+    penetration: f32,
+    probes: u32,
+    inner_solves: (u32, u32),
+) -> Counts {
     Counts {
         probes,
         failed_line: Some(failed_line),
+        cause: Some(cause),
         penetration: Some(penetration),
         inner_solves_begun: inner_solves.0,
         inner_solves_succeeded: inner_solves.1,

@@ -1,6 +1,6 @@
 //! What the lists must show: a table of rows, each with how many lists show it. No row may be 0.
 
-use counters::Branch;
+use counters::{Branch, Cause};
 use glam::Vec2;
 
 use super::call::Call;
@@ -47,6 +47,11 @@ const ROWS: &[(&str, Test)] = &[
     ("one-line solve: left end raised", Took(Branch::LeftRaised)),
     ("one-line solve: ends crossed, fails", Took(Branch::Crossed)),
     ("one-line solve: zeros of unlike sign at an end", Took(Branch::UnlikeZeros)),
+    ("failed line: the circle", Of(|_, s| s.counts.cause == Some(Cause::Circle))),
+    ("failed line: a parallel line that is not the first", Of(|_, s| matches!(s.counts.cause, Some(Cause::Parallel(1..))))),
+    ("failed line: ends crossed at a line that is not the first", Of(|_, s| matches!(s.counts.cause, Some(Cause::Crossing(1..))))),
+    ("failed line: the circle, and a later inner solve fails", Of(|_, s| s.counts.cause == Some(Cause::Circle) && inner_solve_fails(s))),
+    ("failed line: an earlier line, and a later inner solve fails", Of(|_, s| s.counts.cause != Some(Cause::Circle) && inner_solve_fails(s))),
     ("wish clamped to the left end", Took(Branch::ClampedLeft)),
     ("wish clamped to the right end", Took(Branch::ClampedRight)),
     ("wish between the ends", Took(Branch::NotClamped)),
@@ -58,7 +63,7 @@ const ROWS: &[(&str, Test)] = &[
     ("relaxation: line passed over", Took(Branch::PassedOver)),
     ("relaxation: passed over with the very penetration", Took(Branch::PassedOverExactly)),
     ("relaxation: inner solve succeeds", Of(|_, s| s.counts.inner_solves_succeeded > 0)),
-    ("relaxation: inner solve fails", Of(|_, s| s.counts.inner_solves_succeeded < s.counts.inner_solves_begun)),
+    ("relaxation: inner solve fails", Of(|_, s| inner_solve_fails(s))),
     ("relaxation: penetration below 0", Of(|_, s| s.counts.penetration.is_some_and(|depth| depth < 0.0))),
     ("relaxation: penetration falls", Took(Branch::PenetrationFalls)),
     ("tightened line skipped", Took(Branch::TightenedSkipped)),
@@ -141,6 +146,10 @@ fn passes(test: &Test, case: &Case) -> bool {
 
 fn fails_at(solved: &Solved, line: i64) -> bool {
     solved.counts.failed_line.is_some_and(|k| k as i64 == line)
+}
+
+fn inner_solve_fails(solved: &Solved) -> bool {
+    solved.counts.inner_solves_succeeded < solved.counts.inner_solves_begun
 }
 
 fn point(solved: &Solved) -> Vec2 {

@@ -1,7 +1,8 @@
 //! The vectors of the whole linear program: line lists, each with its answer, one record after the other.
 //! A record: how many numbers, rigid count, limit, wish (2 words); the numbers, four a line; then the answer:
 //! kind (0 solving, 1 relaxing, 2 rigid failure, 100 + number for a refusal), point (2 words), penetration,
-//! failed line, probes. Where there is none: 0, and FFFFFFFF for the failed line.
+//! failed line, its cause (65536 the circle, 131072 + index a parallel line, 196608 + index ends that crossed there), probes.
+//! Where there is none: 0, and FFFFFFFF for the failed line.
 //! Answers to admitted lists are the Rust's: the point of the plain build, which the counted one must give too, the rest
 //! of the counted one. Refusals are those of judge.rs. coverage.rs says what the lists must show, all of it.
 
@@ -14,7 +15,7 @@ pub mod refused;
 
 use std::panic;
 
-use counters::Branch;
+use counters::{Branch, Cause};
 use glam::Vec2;
 
 use crate::builds::{solve_both, Solved};
@@ -108,7 +109,7 @@ fn write_record(words: &mut Words, case: &Case) {
     match &case.outcome {
         Outcome::Solved(solved) => write_solved(words, solved),
         Outcome::Refused(faults) => {
-            write_answer(words, REFUSED + faults[0], Vec2::ZERO, 0.0, NO_LINE, 0)
+            write_answer(words, REFUSED + faults[0], Vec2::ZERO, 0.0, None, 0)
         }
     }
 }
@@ -134,8 +135,8 @@ pub fn write_solved(words: &mut Words, solved: &Solved) {
     };
     let point = Vec2::new(settled(solved, point.x), settled(solved, point.y));
     let penetration = settled(solved, counts.penetration.unwrap_or(0.0));
-    let failed_line = counts.failed_line.map_or(NO_LINE, |index| index as u32);
-    write_answer(words, kind, point, penetration, failed_line, counts.probes);
+    let failure = counts.failed_line.zip(counts.cause);
+    write_answer(words, kind, point, penetration, failure, counts.probes);
 }
 
 /// The Rust leaves open which of two zeros of unlike sign its `min` and `max` take, and machines differ.
@@ -153,13 +154,26 @@ fn write_answer(
     kind: u32,
     point: Vec2,
     penetration: f32,
-    line: u32,
+    failure: Option<(usize, Cause)>,
     probes: u32,
 ) {
     words.word(kind);
     words.bits(point.x);
     words.bits(point.y);
     words.bits(penetration);
-    words.word(line);
+    write_failure(words, failure);
     words.word(probes);
+}
+
+pub fn write_failure(words: &mut Words, failure: Option<(usize, Cause)>) {
+    words.word(failure.map_or(NO_LINE, |(line, _)| line as u32));
+    words.word(failure.map_or(0, |(_, cause)| cause_word(cause)));
+}
+
+fn cause_word(cause: Cause) -> u32 {
+    match cause {
+        Cause::Circle => 1 << 16,
+        Cause::Parallel(index) => (2 << 16) + index as u32,
+        Cause::Crossing(index) => (3 << 16) + index as u32,
+    }
 }

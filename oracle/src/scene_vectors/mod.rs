@@ -6,6 +6,7 @@
 
 mod coverage;
 mod crowded;
+pub mod failures;
 mod faulty;
 mod layouts;
 mod named;

@@ -23,7 +23,7 @@ use Rattle.common.proofs.VectorSizes.{Inside, roomier, inside-finite, add-insid
 use Rattle.common.proofs.NormalizedSize.{inverse-within}
 use Rattle.lines.specs.declared.Line.{Line}
 use Rattle.lines.specs.Lines.{epsilon}
-use Rattle.linear_programming.specs.OneLine.{Objective, toward, along, Interval, between, empty, chord, unlessFails, cut, narrow, Found, at, fails, pointOn, choose, oneLine}
+use Rattle.linear_programming.specs.OneLine.{Objective, toward, along, Cause, crossing, Interval, between, empty, chord, unlessFails, cut, narrow, Found, at, fails, pointOn, choose, oneLine}
 use Rattle.linear_programming.specs.Pass.{start, Failure, Pass, feasible, failed, finitePoint, judged, solved, passLine, pass}
 use Rattle.linear_programming.proofs.WalkLaws.{walk-keeps-over}
 
@@ -41,11 +41,11 @@ epsilon-over = over (lit≤ tt)
 -- the ends are within 2 ^ k and in order, or the interval is gone
 pub data Good (k : ℕ) : Interval → Type 0 where
   good : {l r : Float} {n : ℕ} → Within k l → Within k r → (l ≤ᶠ r) ≡ true → Good k (between l r n)
-  gone : {n : ℕ} → Good k (empty n)
+  gone : {n : ℕ} {cause : Cause} → Good k (empty n cause)
 
-crossed-good : {k : ℕ} {l r : Float} (n : ℕ) → Within k l → Within k r → Good k (unlessFails (r <ᶠ l) l r n)
+crossed-good : {k : ℕ} {l r : Float} (cause : Cause) (n : ℕ) → Within k l → Within k r → Good k (unlessFails (r <ᶠ l) cause l r n)
 unfolding unlessFails
-crossed-good {k} {l} {r} n h g = if-case (Good k) (r <ᶠ l) (λ t. gone) (λ t. good h g (not-lt-le h g t))
+crossed-good {k} {l} {r} cause n h g = if-case (Good k) (r <ᶠ l) (λ t. gone) (λ t. good h g (not-lt-le h g t))
 
 -- ---- what one line finds
 
@@ -57,7 +57,7 @@ pub data Aimed : Objective → Type 0 where
 -- a point within 2 ^ k, or a failure; no refusal
 data Lands (k : ℕ) : Found → Type 0 where
   lands : {q : Vec2} {n : ℕ} → Inside k q → Lands k (at q n)
-  misses : {n : ℕ} → Lands k (fails n)
+  misses : {n : ℕ} {cause : Cause} → Lands k (fails n cause)
 
 -- and so of what a pass leaves
 pub data Goes (k : ℕ) : Pass → Type 0 where
@@ -102,7 +102,7 @@ module _ (p : ℕ) (P : (177 ≤ p) × (p ≤ 199)) where
       (λ e. if-all (Good (p + 20)) _ gone (good h g t))
       (λ e.
       let a = not-le-apart (determinantOf (own .direction) (it .direction)) (within-finite d) epsilon-over e in
-      if-all (Good (p + 20)) _ (crossed-good n h (min-within g (q a))) (crossed-good n (max-within h (q a)) g))
+      if-all (Good (p + 20)) _ (crossed-good (crossing n) n h (min-within g (q a))) (crossed-good (crossing n) n (max-within h (q a)) g))
 
   chord-good : (limit : Float) (own : Line) → Within 159 limit → LineIn p own → Good (p + 20) (chord limit own)
   unfolding chord

@@ -6,7 +6,7 @@ use Rattle.replay_lists.proofs.walked.Statement.{statement}
 use Rattle.replay_lists.proofs.walked.Tie as tie
 
 abbrev Inv-loop : tie.InvT-loop
-Inv-loop walk₀ head₀ rest₀ walk head rest = (length head ≡ 20) × (length rest ≡ 5144)
+Inv-loop walk₀ head₀ rest₀ walk head rest = (length head ≡ 20) × (length rest ≡ 5148)
 
 abbrev μ-loop : tie.MeasureT-loop
 μ-loop walk₀ head₀ rest₀ walk head rest = walk .left

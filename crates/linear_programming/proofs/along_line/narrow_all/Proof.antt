@@ -29,7 +29,7 @@ returns c =
     let a = c .before .before .before .before .before .before .before .args in
     let l = c .before .before .before .before .before .loop in
     let step = rw (c .enum-told .given .1, c .before .before .before .line-at .ensures) at (c .before .before .narrow-by .ensures) in
-    rw (c .enum-told .given .1) (sym (l .inv .2 ∙ fold-stop (narrow (a .line)) (linesOf (now (a .lines))) (a .count) (l .i) (lines-fit (now (a .lines)) (a .count) (omega arith)) offLine (omega arith) (sym step) (empty-stays (a .line) _)))
+    rw (c .enum-told .given .1) (sym (l .inv .2 ∙ fold-stop (narrow (a .line)) (linesOf (now (a .lines))) (a .count) (l .i) (lines-fit (now (a .lines)) (a .count) (omega arith)) offLine (omega arith) (sym step) (empty-stays (a .line) _ _)))
 
 loop-again : tie.Need-loop-again Inv-loop μ-loop
 loop-again c =

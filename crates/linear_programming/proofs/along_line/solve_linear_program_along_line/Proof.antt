@@ -9,7 +9,7 @@ use Rattle.linear_programming.proofs.along_line.solve_linear_program_al
 use Rattle.linear_programming.proofs.along_line.solve_linear_program_along_line.Tie as tie
 
 returns : tie.Need-returns
-returns c = missed _ _ _ _ _ (rw (c .enum-told .given .1) at (c .before .before .circle-interval .ensures))
+returns c = missed _ _ _ _ _ _ (rw (c .enum-told .given .1) at (c .before .before .circle-interval .ensures))
 
 returns-2 : tie.Need-returns-2
 unfolding choose
