@@ -25,7 +25,7 @@ pub const MARK: &str = "counters::";
 
 const PROBE: &str = " counters::probe();";
 
-const HOOKS: [Hook; 16] = [
+const HOOKS: [Hook; 17] = [
     Hook {
         name: "a line is compared with the point now in the 2D solve, inner or not",
         before: "  for (index, constraint) in constraints.iter().enumerate() {",
@@ -41,6 +41,12 @@ const HOOKS: [Hook; 16] = [
     Hook {
         name: "an earlier line is looked at in a one-line solve",
         before: "  for constraint in constraints {",
+        inserted: PROBE,
+        after: "\n",
+    },
+    Hook {
+        name: "a previous line is examined while a tightened list is built",
+        before: "    for previous_constraint in &constraints[rigid_constraint_count..index] {",
         inserted: PROBE,
         after: "\n",
     },

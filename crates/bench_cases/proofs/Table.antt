@@ -110,6 +110,17 @@ lower = line (vec (+ 0) (− 2)) right
 abbrev threeHalves : Float
 threeHalves = bits 0x3FC0_0000
 
+-- below −1.5
+abbrev lowered : Line
+lowered = line (vec (+ 0) (bits 0xBFC0_0000)) (vec (− 1) (+ 0))
+
+-- (−1.9843135, −0.25), and 1.25
+abbrev left-over : Vec2
+left-over = vec (bits 0xBFFD_FDFC) (bits 0xBE80_0000)
+
+abbrev fiveQuarters : Float
+fiveQuarters = bits 0x3FA0_0000
+
 -- above 1.5, and to the right of 1.5: each meets the circle, but not within the other
 abbrev high : Line
 high = line (vec (+ 0) threeHalves) right
@@ -129,13 +140,15 @@ table =
     ∷ (list 1 o (+ 2) (far ∷ []) gives ends (stands (rigidFailure 0 o) (at 0 circle) 1))
     ∷ (list 0 o (+ 2) (far ∷ []) gives ends (stands (relaxing (vec (− 0) (+ 2)) (+ 1)) (at 0 circle) 2))
     -- P7, P8, P9
-    ∷ (list 0 o (+ 2) (A ∷ B ∷ []) gives ends (stands (relaxing (vec (− 2) (+ 0)) (+ 1)) (at 1 (parallel 0)) 5))
+    ∷ (list 0 o (+ 2) (A ∷ B ∷ []) gives ends (stands (relaxing (vec (− 2) (+ 0)) (+ 1)) (at 1 (parallel 0)) 6))
     ∷ (list 1 o (+ 2) (A ∷ B ∷ []) gives ends (stands (relaxing (vec −√3 (+ 1)) (+ 2)) (at 1 (parallel 0)) 5))
     ∷ (list 2 o (+ 2) (A ∷ B ∷ []) gives ends (stands (rigidFailure 1 (vec (+ 0) (+ 1))) (at 1 (parallel 0)) 3))
     -- a line that the circle leaves nothing of, though a parallel one does not either; the index in the whole list; ends that cross
     ∷ (list 2 o (+ 2) (A ∷ below ∷ []) gives ends (stands (rigidFailure 1 (vec (+ 0) (+ 1))) (at 1 circle) 2))
     ∷ (list 3 o (+ 2) (lower ∷ A ∷ B ∷ []) gives ends (stands (rigidFailure 2 (vec (+ 0) (+ 1))) (at 2 (parallel 1)) 6))
     ∷ (list 2 o (+ 2) (high ∷ aside ∷ []) gives ends (stands (rigidFailure 1 (vec (+ 0) threeHalves)) (at 1 (crossing 0)) 3))
+    -- the second relaxed line examines the two before it, one skipped and one kept
+    ∷ (list 0 o (+ 2) (A ∷ B ∷ lowered ∷ []) gives ends (stands (relaxing left-over fiveQuarters) (at 1 (parallel 0)) 10))
     -- P10
     ∷ (root (fin false 1 (negsuc 147)) gives is (fin false 1 (negsuc 73)))
     ∷ (root (− 0) gives is (− 0))

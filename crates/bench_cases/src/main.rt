@@ -1,5 +1,5 @@
-// Runs 01's bench cases, P1 to P12 and the limits of its last row, with three more causes of a failure, a horizon out of range and a number left over,
-// through the code: the cases that proofs/Table.antt claims of the definitions. A case that is wrong is told by its number.
+// Runs 01's bench cases, P1 to P12 and the limits of its last row, with three more causes of a failure, the probes of two relaxed lines, a horizon out of
+// range and a number left over, through the code: the cases that proofs/Table.antt claims of the definitions. A case that is wrong is told by its number.
 use admission::Judged;
 use common::Vec2;
 use edges::Agent;
@@ -140,7 +140,7 @@ fn two_lines(t: Tally) -> Tally {
     let both = [0.0, 1.0, 1.0, 0.0, 0.0, -1.0, -1.0, 0.0];
     let minus_root_3 = words::number(0xbfdd_b3d7);
     let cause = Cause::Parallel(0);
-    t.with(is_relaxed(solved(&both, 0), -2.0, 0.0, 1.0, 1, cause, 5), 7)
+    t.with(is_relaxed(solved(&both, 0), -2.0, 0.0, 1.0, 1, cause, 6), 7)
         .with(
             is_relaxed(solved(&both, 1), minus_root_3, 1.0, 2.0, 1, cause, 5),
             8,
@@ -174,6 +174,30 @@ fn causes(t: Tally) -> Tally {
         )
         .with(is_rigid(solved(&three, 3), 2, second, 0.0, 1.0, 6), 902)
         .with(is_rigid(solved(&crossed, 2), 1, first, 0.0, 1.5, 3), 903)
+}
+
+// Two relaxed lines, told as 904: the second one examines the two before it, one skipped and one kept.
+fn examined(t: Tally) -> Tally {
+    let list = [
+        0.0,
+        1.0,
+        1.0,
+        0.0,
+        0.0,
+        -1.0,
+        -1.0,
+        0.0,
+        0.0,
+        -1.5,
+        -1.0,
+        0.0,
+    ];
+    let x = words::number(0xbffd_fdfc);
+    let cause = Cause::Parallel(0);
+    t.with(
+        is_relaxed(solved(&list, 0), x, -0.25, 1.25, 1, cause, 10),
+        904,
+    )
 }
 
 // Stores one line more than a list may have: each goes through (0, -1) in the direction (1, 0), and the origin meets it.
@@ -270,6 +294,6 @@ fn points(t: Tally) -> Tally {
 }
 
 fn main() {
-    let lists = limits(causes(two_lines(single_lines(starts(Tally::NONE)))));
+    let lists = limits(examined(causes(two_lines(single_lines(starts(Tally::NONE))))));
     points(walls(roots(lists))).tell(b"bench cases");
 }

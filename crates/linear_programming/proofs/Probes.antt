@@ -5,7 +5,7 @@ use mathlib.Core.Path.{_≡_}
 use mathlib.Core.List.{List, [], _∷_, _++_}
 use native.Mathlib.Omega.{arith}
 use native.Mathlib.Nat.{mul-le-mul, add-mul, mul-add}
-use lib.ListN.{length, length-append}
+use lib.ListN.{length, length-drop, length-append}
 use lib.Ieee.{Float}
 use Rattle.arithmetic.proofs.Choice.{if-all}
 use Rattle.common.specs.declared.Vec2.{Vec2}
@@ -131,7 +131,7 @@ replaced-counts own p depth n b (counts-failed {n = m} h) = counts-relaxed {n = 
 replaced-counts own p depth n b counts-none = counts-relaxed-none
 
 build-most : (rigid : ℕ) (e : List Line) → buildProbes rigid e ≤ length e
-build-most rigid e = omega arith
+build-most rigid e = rw length-drop (omega arith)
 
 pub looser : {a b : ℕ} → a ≤ b → {s : Relaxed} → CountsRelaxed a s → CountsRelaxed b s
 looser h (counts-relaxed {n = n} k) = counts-relaxed {n = n} (omega arith)

@@ -1,14 +1,14 @@
 -- Laws of the tightened list: one line more, as the loop adds it; how long it is; a rigid count beyond the list. Assumes nothing.
-use Prim.Native.Nat.{ℕ, _+_, _≤_, min}
+use Prim.Native.Nat.{ℕ, _+_, _-_, _≤_, min}
 use mathlib.Core.Path.{_≡_, refl, sym, _∙_, ap}
 use mathlib.Core.List.{List, [], _∷_, _++_, foldl}
 use native.Mathlib.Omega.{arith}
 use native.Mathlib.Nat.{le-refl}
-use lib.ListN.{length, length-append, take, drop, take-append-drop}
+use lib.ListN.{length, length-append, length-drop, take, drop, take-append-drop}
 use lib.Ieee.{Float}
 use Rattle.lines.specs.declared.Line.{Line}
 use Rattle.lines.proofs.Fold.{take-lesser, drop-lesser}
-use Rattle.linear_programming.specs.Relax.{Tight, kept, skipped, tighten, behind, tightenNext, tightened, relaxRefused, relaxLine}
+use Rattle.linear_programming.specs.Relax.{Tight, kept, skipped, tighten, behind, tightenNext, tightened, buildProbes, relaxRefused, relaxLine}
 
 module _ (own : Line) (made : List Line) (prev : Line) where
   pub next-kept : (l : Line) → kept l ≡ tighten own prev → tightenNext own made prev ≡ made ++ (l ∷ [])
@@ -23,6 +23,10 @@ module _ (own : Line) (made : List Line) (prev : Line) where
 pub lesser-rigid : (rigid : ℕ) (own : Line) (e : List Line) {index r : ℕ} → length e ≡ index → r ≡ min rigid index → tightened r own e ≡ tightened rigid own e
 unfolding tightened
 lesser-rigid rigid own e n h = rw (h, ← n, take-lesser rigid e, drop-lesser rigid e)
+
+-- the lines behind the rigid ones are those examined
+pub examined : (rigid : ℕ) (e : List Line) {index r : ℕ} → length e ≡ index → r ≡ min rigid index → index - r ≡ buildProbes rigid e
+examined rigid e n h = rw (h, ← n, ← drop-lesser rigid e, length-drop)
 
 -- a refusal of relaxation stays
 pub relax-refused-stays : (rigid : ℕ) (limit : Float) (r : ℕ) (e : List Line) (own : Line) → relaxLine rigid limit e own (relaxRefused r) ≡ relaxRefused r

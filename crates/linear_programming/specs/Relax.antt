@@ -2,7 +2,7 @@
 use Prim.Native.Nat.{ℕ, _+_}
 use mathlib.Core.Bool.{_&&_}
 use mathlib.Core.List.{List, [], _∷_, _++_, foldl}
-use lib.ListN.{take, drop}
+use lib.ListN.{length, take, drop}
 use lib.Ieee.{Float}
 use Rattle.arithmetic.specs.Binary32.{_⊘_, _<ᶠ_, _≤ᶠ_, 0ᶠ, halfᶠ, if_then_else_, finite}
 use Rattle.arithmetic.specs.Ends.{absOf}
@@ -52,10 +52,9 @@ tightenNext own made prev = behind made (tighten own prev)
 unfoldable pub tightened : ℕ → Line → List Line → List Line
 tightened rigid own earlier = foldl (tightenNext own) (take rigid earlier) (drop rigid earlier)
 
--- the probes of building that list: 01 counts none, since a probe is a comparison with the point now or an earlier line looked at in a one-line solve. One
--- definition, so that T-05 changes one place
+-- the probes of building that list: one for every previous line that is examined, skipped or kept; the rigid ones are copied, not examined
 abbrev pub buildProbes : ℕ → List Line → ℕ
-buildProbes rigid earlier = 0
+buildProbes rigid earlier = length (drop rigid earlier)
 
 -- ---- relaxation
 

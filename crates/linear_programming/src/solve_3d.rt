@@ -135,7 +135,7 @@ fn after_inner(
     probes: u32,
     inner: LinearProgram2D,
 ) -> LinearProgram3D
-    requires { ⌜ (probes ≤ 16777216) × (probesOf inner ≤ 32640) ⌝ }
+    requires { ⌜ (probes ≤ 16777471) × (probesOf inner ≤ 32640) ⌝ }
     ensures { λ r. ⌜ relaxedOf r ≡ replaced constraint value penetration probes (passOf inner) ⌝ }
 {
     match inner {
@@ -172,10 +172,13 @@ fn relax_line(
     if depth_in(constraint, value) <= penetration {
         return LinearProgram3D::Relaxed(value, penetration, probes + 1);
     }
+    let copied = lesser(rigid, index);
     let mut tight = [0.0f32; 1020];
-    let count = tighten_into(lines, lesser(rigid, index), index, constraint, &mut tight);
+    let count = tighten_into(lines, copied, index, constraint, &mut tight);
     let inner = solve_tightened(tight, count, radius, constraint.direction.perp());
-    after_inner(constraint, value, penetration, probes + 1, inner)
+    // every line behind the copied ones was examined
+    let counted = probes + 1 + (index - copied) as u32;
+    after_inner(constraint, value, penetration, counted, inner)
 }
 
 // The lines from `from` up to `count`, after those before them left `value` and `penetration`.

@@ -77,7 +77,7 @@ fn cases() -> Vec<Case> {
             name: "P7",
             list: list((0.0, 0.0), 2.0, 0, vec![ahead(), behind()]),
             answer: Ok(Vec2::new(-2.0, 0.0)),
-            counts: relaxed(1, Cause::Parallel(0), 1.0, 5, (1, 1)),
+            counts: relaxed(1, Cause::Parallel(0), 1.0, 6, (1, 1)),
         },
         Case {
             name: "P8",
@@ -115,7 +115,7 @@ fn cases() -> Vec<Case> {
             answer: Err(Vec2::new(0.0, 1.5)),
             counts: failed_rigidly(1, Cause::Crossing(0), 3),
         },
-        // The second line's inner solve fails; the one line it looked at is a probe all the same.
+        // The second line's inner solve fails; the line that it looked at and the one examined for its list are probes all the same.
         Case {
             name: "failing inner solve",
             list: list(
@@ -128,7 +128,7 @@ fn cases() -> Vec<Case> {
                 ],
             ),
             answer: Ok(Vec2::new(0.0, 0.0)),
-            counts: relaxed(0, Cause::Circle, 0.39999998, 4, (2, 1)),
+            counts: relaxed(0, Cause::Circle, 0.39999998, 5, (2, 1)),
         },
     ]
 }

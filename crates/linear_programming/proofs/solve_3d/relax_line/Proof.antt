@@ -1,16 +1,15 @@
 -- `linear_programming::solve_3d::relax_line` meets its contract. Assumes nothing.
 use mathlib.Core.Path.{_∙_}
 use native.Mathlib.Omega.{arith}
-use native.Mathlib.Nat.{add-zero}
 use denote.Ref.{now}
-use lib.ListN.{length-take}
+use lib.ListN.{take, length-take}
 use lib.Seq.{length-take-le}
 use Rattle.arithmetic.specs.Binary32.{if_then_else_}
 use Rattle.lines.specs.Lines.{linesOf}
 use Rattle.linear_programming.specs.Relax.{relaxLine}
 use Rattle.linear_programming.proofs.Probes.{inner-solve-most}
 use Rattle.lines.proofs.Rows.{lines-fit}
-use Rattle.linear_programming.proofs.TightLaws.{lesser-rigid}
+use Rattle.linear_programming.proofs.TightLaws.{lesser-rigid, examined}
 use borrow.Author.Needs.{needs}
 use Rattle.linear_programming.proofs.solve_3d.relax_line.Statement.{statement}
 use Rattle.linear_programming.proofs.solve_3d.relax_line.Tie as tie
@@ -31,7 +30,7 @@ returns-2 c =
     let short = length-take-le (a .index) (linesOf (now (a .lines))) (lines-fit (now (a .lines)) (a .index) (omega arith)) in
     let list = c .before .before .before .before .tighten-into .ensures .2 ∙ lesser-rigid _ _ _ short (c .before .before .before .before .before .before .lesser .ensures) in
     simp (
-      add-zero,
+      ← examined (a .rigid) (take (a .index) (linesOf (now (a .lines)))) short (c .before .before .before .before .before .before .lesser .ensures),
       ← c .after-inner .ensures,
       ← c .before .solve-tightened .ensures,
       ← c .before .before .perp .ensures,
@@ -44,4 +43,5 @@ returns-2 c =
 pub relax-line-spec : {M : Type 1} → statement M
 relax-line-spec =
     tie.close (tie.spec (λ c κs. search needs) (λ c κs. search needs) (λ c. search needs) returns (λ c κs. search needs) (λ c. search needs)
-    (λ c κs. search needs) (λ c κs. search needs) (λ c κs. search needs) (λ c. search needs) after-inner-requires returns-2)
+    (λ c κs. search needs) (λ c κs. search needs) (λ c κs. search needs) (λ c. search needs) (λ c. search needs) (λ c. search needs)
+    (λ c. search needs) after-inner-requires returns-2)
