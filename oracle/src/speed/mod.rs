@@ -17,8 +17,8 @@ use crate::records::Records;
 /// Kind, size, how many scenes are made, and how often these are repeated.
 const KINDS: [(&str, usize, usize, usize); 14] = [
     ("tiny", 0, 1_000, 600),
-    ("plain", 0, 20_000, 5),
-    ("heavy", 0, 20_000, 8),
+    ("plain", 0, 20_000, 20),
+    ("heavy", 0, 20_000, 32),
     ("full", 0, 600, 12),
     ("again", 4, 500, 600),
     ("again", 16, 500, 150),
