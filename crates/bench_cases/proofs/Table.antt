@@ -14,7 +14,7 @@ use Rattle.common.specs.Vectors.{vec, longest}
 use Rattle.lines.specs.declared.Line.{Line}
 use Rattle.lines.specs.Lines.{line, linesOf, numbersOf}
 use Rattle.lines.specs.LineFaults.{linesFault}
-use Rattle.linear_programming.specs.OneLine.{Cause, circle, parallel, crossing}
+use Rattle.one_line.specs.OneLine.{Cause, circle, parallel, crossing}
 use Rattle.linear_programming.specs.Whole.{Outcome, stands, refusal, solving, relaxing, rigidFailure, Failed, noLine, failedLine}
 use Rattle.linear_programming.specs.Admit.{wishFault, judgedList, listCall}
 use Rattle.linear_programming.proofs.Computed.{computed as solved, +, −}

@@ -4,11 +4,11 @@ use admission::Judged;
 use common::Vec2;
 use edges::Agent;
 use linear_programming::Answer;
-use linear_programming::Cause;
 use linear_programming::FailedLine;
 use linear_programming::Phase;
 use lines::Line;
 use obstacles::ObstacleLines;
+use one_line::Cause;
 use verdict::Tally;
 
 // ---- whether an answer is the one that a case names, zeros of either sign equal

@@ -9,14 +9,14 @@ use Rattle.arithmetic.specs.Binary32.{0ᶠ}
 use Rattle.arithmetic.proofs.Choice.{if-all}
 use Rattle.common.specs.declared.Vec2.{Vec2}
 use Rattle.lines.specs.declared.Line.{Line}
-use Rattle.linear_programming.specs.Walk.{walk}
-use Rattle.linear_programming.specs.OneLine.{Objective, toward, Found}
-use Rattle.linear_programming.specs.Pass.{Failure, Pass, feasible, failed, refused, solved, passLine, pass}
-use Rattle.linear_programming.specs.Relax.{Relaxed, relaxed, relaxRefused, relaxLine}
+use Rattle.pass_2d.specs.Walk.{walk}
+use Rattle.one_line.specs.OneLine.{Objective, toward, Found}
+use Rattle.pass_2d.specs.Pass.{Failure, Pass, feasible, failed, refused, solved, passLine, pass}
+use Rattle.relaxation.specs.Relax.{Relaxed, relaxed, relaxRefused, relaxLine}
 use Rattle.linear_programming.specs.Whole.{Phase, noLine, failedLine, Outcome, stands, refusal, relaxedOutcome, afterPass, wholeList}
-use Rattle.linear_programming.proofs.WalkLaws.{walk-keeps}
-use Rattle.linear_programming.proofs.OneLineLaws.{Earlier, Solves, solves, stops, stops-refused, line-solves}
-use Rattle.linear_programming.proofs.PassLaws.{Unfailed, unfailed-feasible, unfailed-refused, judged-unfailed}
+use Rattle.pass_2d.proofs.WalkLaws.{walk-keeps}
+use Rattle.one_line.proofs.OneLineLaws.{Earlier, Solves, solves, stops, stops-refused, line-solves}
+use Rattle.pass_2d.proofs.PassLaws.{Unfailed, unfailed-feasible, unfailed-refused, judged-unfailed}
 
 -- ---- a pass
 

@@ -3,9 +3,9 @@ use Prim.Native.Nat.{ℕ}
 use lib.IntN.{pos}
 use lib.Ieee.{Float, binary32, ofInt, neg}
 use Rattle.lines.proofs.Computed.{computed as numbers}
-use Rattle.linear_programming.specs.OneLine.{chord, unlessFails, cut, narrow, pointOn, choose, oneLine}
-use Rattle.linear_programming.specs.Pass.{start, finitePoint, judged, solved, passLine, pass}
-use Rattle.linear_programming.specs.Relax.{tightAt, midpoint, intersection, tighten, tightenNext, tightened, depthIn, replaced, relaxLine}
+use Rattle.one_line.specs.OneLine.{chord, unlessFails, cut, narrow, pointOn, choose, oneLine}
+use Rattle.pass_2d.specs.Pass.{start, finitePoint, judged, solved, passLine, pass}
+use Rattle.relaxation.specs.Relax.{tightAt, midpoint, intersection, tighten, tightenNext, tightened, depthIn, replaced, relaxLine}
 use Rattle.linear_programming.specs.Whole.{afterPass, wholeList}
 
 unfoldable pub computed : Unit {0}

@@ -1,11 +1,5 @@
--- The laws of `linear_programming`: of walks, of each step, of the whole list, and what it never refuses.
-pub mod WalkLaws
-pub mod OneLineLaws
-pub mod PassLaws
-pub mod TightLaws
-pub mod Probes
+-- The laws of `linear_programming`: of rules before an outcome, of the whole list line by line, and what it never refuses.
 pub mod JudgeLaws
-pub mod Variants
 pub mod Steps
 pub mod WholeLaws
 pub mod WholeProbes

@@ -1,23 +1,25 @@
--- The rules taken up again are the rules line by line: the probes taken before are only added, so that they may be counted from 0;
--- and a place behind the last line is as good as the end. Assumes nothing.
-use Prim.Native.Nat.{ℕ, _+_, min}
+-- The rules taken up again are the rules line by line: the probes taken before are only added, so that they may be counted from 0. Assumes nothing.
+use Prim.Native.Nat.{ℕ, _+_, _≤_}
 use mathlib.Core.Path.{_≡_, refl, sym, _∙_, ap}
 use mathlib.Core.Bool.{Bool, true, false}
 use mathlib.Core.List.{List, _++_}
 use native.Mathlib.Nat.{add-zero, add-assoc}
-use lib.ListN.{length}
+use lib.ListN.{length, take, drop}
 use lib.Seq.{take-at, drop-at}
 use lib.Ieee.{Float}
 use Rattle.arithmetic.specs.Binary32.{0ᶠ, if_then_else_}
 use Rattle.common.specs.declared.Vec2.{Vec2}
 use Rattle.lines.specs.declared.Line.{Line}
-use Rattle.lines.proofs.Fold.{take-lesser, drop-lesser}
-use Rattle.linear_programming.specs.OneLine.{Objective, toward, along, Found, at, fails, refuses, oneLine}
-use Rattle.linear_programming.specs.Pass.{Pass, feasible, failed, refused, judged, solved, passLine}
-use Rattle.linear_programming.specs.Relax.{Relaxed, relaxed, relaxRefused, buildProbes, replaced, relaxLine}
+use Rattle.lines.specs.Lines.{mostLines}
+use Rattle.one_line.specs.OneLine.{Objective, toward, along, Found, at, fails, refuses, oneLine}
+use Rattle.pass_2d.specs.Pass.{Pass, feasible, failed, refused, judged, solved, passLine}
+use Rattle.relaxation.specs.Relax.{Relaxed, relaxed, relaxRefused, buildProbes, replaced, relaxLine}
+use Rattle.relaxation.specs.Calls.{resumedRelaxation}
+use Rattle.relaxation.proofs.CallLaws.{few-relaxed}
+use Rattle.pass_2d.specs.Walk.{walk}
 use Rattle.linear_programming.specs.Whole.{Phase, solving, relaxing, rigidFailure, Failed, noLine, failedLine, Outcome, stands, refusal, relaxedOutcome, wholeList}
 use Rattle.linear_programming.specs.Resume.{addProbes, resumed}
-use Rattle.linear_programming.proofs.WalkLaws.{walk-through}
+use Rattle.pass_2d.proofs.WalkLaws.{walk-through}
 use Rattle.linear_programming.proofs.Steps.{entered, advance, feed, feed-rigid, feed-relaxed, pass-feed, batch-whole}
 use Rattle.linear_programming.proofs.WholeLaws.{Agrees, agree-solving, agree-relaxing, agree-rigid, whole-agrees}
 
@@ -71,6 +73,16 @@ relaxed-after : (n : ℕ) (f : Failed) (s : Relaxed) → relaxedOutcome f (relax
 relaxed-after n f (relaxed p depth m) = refl
 relaxed-after n f (relaxRefused r) = refl
 
+-- relaxation as it is called, counted from 0, behind the n probes that a pass took
+module _ (rigid : ℕ) (limit : Float) (l : List Line) (short : length l ≤ mostLines) (from : ℕ) (p : Vec2) (depth : Float) (f : Failed) (n : ℕ) where
+  pub relaxed-behind : (s : Relaxed) → s ≡ resumedRelaxation rigid limit l from p depth →
+      addProbes n (relaxedOutcome f s) ≡ relaxedOutcome f (walk (relaxLine rigid limit) (take from l) (drop from l) (relaxed p depth n))
+  relaxed-behind s e =
+      ap (λ (t : Relaxed). addProbes n (relaxedOutcome f t)) (e ∙ few-relaxed rigid limit l short from p depth)
+      ∙ sym (relaxed-after n f (walk (relaxLine rigid limit) (take from l) (drop from l) (relaxed p depth 0)))
+      ∙ ap (relaxedOutcome f) (sym (walk-through (relaxLine rigid limit) (relaxLine rigid limit) (relaxedAfter n) (relax-after rigid limit n) (take from l) (drop from l) (relaxed p depth 0))
+      ∙ ap (λ (k : ℕ). walk (relaxLine rigid limit) (take from l) (drop from l) (relaxed p depth k)) (add-zero n))
+
 -- ---- and of the rules line by line
 
 module _ (rigid : ℕ) (wish : Vec2) (limit : Float) (n : ℕ) where
@@ -123,11 +135,3 @@ module _ (rigid : ℕ) (wish : Vec2) (limit : Float) (l m : List Line) where
   pub resumed-whole : {ph : Phase} {f : Failed} {n : ℕ} → wholeList rigid wish limit l ≡ stands ph f n → addProbes n (resumed rigid wish limit (l ++ m) (length l) ph f) ≡ wholeList rigid wish limit (l ++ m)
   resumed-whole {ph} {f} {n} e =
       sym (resumed-feed ph f n (agrees-paired (rw e at (whole-agrees rigid wish limit l)))) ∙ rw (← e) (batch-whole rigid wish limit l m)
-
--- a place behind the last line leaves nothing to do, as the end does
-pub resumed-lesser : (rigid : ℕ) (wish : Vec2) (limit : Float) (l : List Line) (from : ℕ) (ph : Phase) (f : Failed) {count place : ℕ} → length l ≡ count → place ≡ min from count →
-    resumed rigid wish limit l place ph f ≡ resumed rigid wish limit l from ph f
-unfolding resumed
-resumed-lesser rigid wish limit l from (solving p) f n e = rw (e, ← n, take-lesser from l, drop-lesser from l)
-resumed-lesser rigid wish limit l from (relaxing p depth) f n e = rw (e, ← n, take-lesser from l, drop-lesser from l)
-resumed-lesser rigid wish limit l from (rigidFailure k p) f n e = refl

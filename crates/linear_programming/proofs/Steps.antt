@@ -11,13 +11,13 @@ use lib.Ieee.{Float}
 use Rattle.arithmetic.specs.Binary32.{0ᶠ, if_then_else_}
 use Rattle.common.specs.declared.Vec2.{Vec2}
 use Rattle.lines.specs.declared.Line.{Line}
-use Rattle.linear_programming.specs.Walk.{walk}
-use Rattle.linear_programming.specs.OneLine.{toward}
-use Rattle.linear_programming.specs.Pass.{Pass, feasible, failed, refused, start, passLine, pass}
-use Rattle.linear_programming.specs.Relax.{Relaxed, relaxed, relaxRefused, relaxLine}
+use Rattle.pass_2d.specs.Walk.{walk}
+use Rattle.one_line.specs.OneLine.{toward}
+use Rattle.pass_2d.specs.Pass.{Pass, feasible, failed, refused, start, passLine, pass}
+use Rattle.relaxation.specs.Relax.{Relaxed, relaxed, relaxRefused, relaxLine}
 use Rattle.linear_programming.specs.Whole.{solving, relaxing, rigidFailure, Failed, noLine, failedLine, Outcome, stands, refusal, relaxedOutcome, afterPass, wholeList}
-use Rattle.linear_programming.proofs.WalkLaws.{walk-append, walk-stays, walk-through}
-use Rattle.linear_programming.proofs.PassLaws.{pass-failed, pass-refused, FailsAt, still, there, never, Unfailed, unfailed-feasible, unfailed-refused, judged-unfailed, pass-fails}
+use Rattle.pass_2d.proofs.WalkLaws.{walk-append, walk-stays, walk-through}
+use Rattle.pass_2d.proofs.PassLaws.{pass-failed, pass-refused, FailsAt, still, there, never, Unfailed, unfailed-feasible, unfailed-refused, judged-unfailed, pass-fails}
 
 -- ---- one line
 

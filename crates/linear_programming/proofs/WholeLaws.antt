@@ -8,12 +8,12 @@ use Rattle.arithmetic.specs.Binary32.{0ᶠ}
 use Rattle.arithmetic.proofs.Choice.{if-all}
 use Rattle.common.specs.declared.Vec2.{Vec2}
 use Rattle.lines.specs.declared.Line.{Line}
-use Rattle.linear_programming.specs.OneLine.{toward}
-use Rattle.linear_programming.specs.Pass.{Failure, Pass, feasible, failed, refused, pass}
-use Rattle.linear_programming.specs.Relax.{Relaxed, relaxed, relaxRefused, relaxLine}
+use Rattle.one_line.specs.OneLine.{toward}
+use Rattle.pass_2d.specs.Pass.{Failure, Pass, feasible, failed, refused, pass}
+use Rattle.relaxation.specs.Relax.{Relaxed, relaxed, relaxRefused, relaxLine}
 use Rattle.linear_programming.specs.Whole.{Phase, solving, relaxing, rigidFailure, Failed, noLine, failedLine, Outcome, stands, refusal, relaxedOutcome, afterPass, wholeList}
-use Rattle.linear_programming.proofs.WalkLaws.{walk-keeps}
-use Rattle.linear_programming.proofs.PassLaws.{Unfailed, unfailed-feasible, unfailed-refused, judged-unfailed}
+use Rattle.pass_2d.proofs.WalkLaws.{walk-keeps}
+use Rattle.pass_2d.proofs.PassLaws.{Unfailed, unfailed-feasible, unfailed-refused, judged-unfailed}
 use Rattle.linear_programming.proofs.Steps.{entered, advance, feed, feed-refusal, whole-feed, batch-whole}
 
 -- the failed line is f, or nothing stands

@@ -1,22 +1,22 @@
 -- The probes of whole lists: a list that never fails takes n to n(n+1)/2, and every total fits 32 bits. Assumes nothing.
 use Prim.Native.Nat.{ℕ, _+_, _*_, _≤_}
 use mathlib.Core.Path.{_≡_, refl}
-use mathlib.Core.List.{List, [], _∷_, _++_}
+use mathlib.Core.List.{List}
 use native.Mathlib.Omega.{arith}
-use lib.ListN.{length, length-append, take, drop, take-append-drop}
+use lib.ListN.{length, take, drop, take-append-drop}
 use lib.Ieee.{Float}
 use Rattle.arithmetic.specs.Binary32.{0ᶠ}
 use Rattle.arithmetic.proofs.Choice.{if-all}
 use Rattle.common.specs.declared.Vec2.{Vec2}
 use Rattle.lines.specs.declared.Line.{Line}
 use Rattle.lines.specs.Lines.{mostLines}
-use Rattle.linear_programming.specs.Walk.{walk}
-use Rattle.linear_programming.specs.OneLine.{toward}
-use Rattle.linear_programming.specs.Pass.{Pass, feasible, failed, refused, pass}
-use Rattle.linear_programming.specs.Relax.{Relaxed, relaxed, relaxRefused, relaxLine}
+use Rattle.pass_2d.specs.Walk.{walk}
+use Rattle.one_line.specs.OneLine.{toward}
+use Rattle.pass_2d.specs.Pass.{Pass, feasible, failed, refused, pass}
+use Rattle.relaxation.specs.Relax.{Relaxed, relaxed, relaxRefused, relaxLine}
 use Rattle.linear_programming.specs.Whole.{Phase, solving, relaxing, rigidFailure, Failed, failedLine, Outcome, stands, refusal, relaxedOutcome, afterPass, wholeList}
-use Rattle.linear_programming.proofs.WalkLaws.{walk-grows}
-use Rattle.linear_programming.proofs.Probes.{Takes, takes, takes-failed, takes-none, pass-takes, pass-probes, bound-grows, CountsRelaxed, counts-relaxed, counts-relaxed-none, looser, relax-counts}
+use Rattle.pass_2d.proofs.Probes.{Takes, takes, takes-failed, takes-none, pass-takes, pass-probes, bound-grows}
+use Rattle.relaxation.proofs.RelaxedProbes.{CountsRelaxed, counts-relaxed, counts-relaxed-none, looser, walk-counts}
 
 -- ---- a list that never fails
 
@@ -58,22 +58,6 @@ relaxed-totals f (counts-relaxed h) = totals h
 relaxed-totals f counts-relaxed-none = totals-none
 
 module _ (rigid : ℕ) (limit : Float) where
-  line-counts : (b : ℕ) (e : List Line) (own : Line) (s : Relaxed) → (length e ≤ mostLines → CountsRelaxed (b + 32896 * length e) s) →
-      length (e ++ (own ∷ [])) ≤ mostLines → CountsRelaxed (b + 32896 * length (e ++ (own ∷ []))) (relaxLine rigid limit e own s)
-  unfolding relaxLine
-  line-counts b e own s h short =
-      let k : length (e ++ (own ∷ [])) ≡ length e + 1 = length-append e (own ∷ []) in
-      rw k (counted-on (h (omega arith)) (omega arith))
-    where
-      counted-on : {t : Relaxed} → CountsRelaxed (b + 32896 * length e) t → length e ≤ 255 → CountsRelaxed (b + 32896 * (length e + 1)) (relaxLine rigid limit e own t)
-      counted-on (counts-relaxed {p} {depth} {n} d) room = looser {a = n + 32896} (omega arith) (relax-counts rigid limit e own room p depth n)
-      counted-on counts-relaxed-none room = counts-relaxed-none
-
-  -- relaxation over l behind e, of a pass that took b
-  walk-counts : (b : ℕ) (e l : List Line) (s : Relaxed) → length (e ++ l) ≤ mostLines → CountsRelaxed b s → CountsRelaxed (b + 32896 * length (e ++ l)) (walk (relaxLine rigid limit) e l s)
-  walk-counts b e l s short d =
-      walk-grows (relaxLine rigid limit) (λ i t. length i ≤ mostLines → CountsRelaxed (b + 32896 * length i) t) (line-counts b) e l s (λ room. looser (omega arith) d) short
-
   after-totals : (lines : List Line) → length lines ≤ mostLines → {q : Pass} → Takes (length lines) q → Totals 16777216 (afterPass rigid limit lines q)
   unfolding afterPass
   after-totals lines short (takes {n = n} a b) = totals {n = n} (omega (arith, bound-grows mostLines (length lines) n short b))
@@ -82,7 +66,7 @@ module _ (rigid : ℕ) (limit : Float) where
       let whole = take-append-drop (f .index) lines in
       if-all (Totals 16777216) _ (totals (omega arith))
       (relaxed-totals (failedLine f) (looser {a = 32896 + 32896 * length lines} (omega arith)
-      (rw whole at (walk-counts 32896 (take (f .index) lines) (drop (f .index) lines) (relaxed p 0ᶠ n) (rw whole short) (counts-relaxed most)))))
+      (rw whole at (walk-counts rigid limit 32896 (take (f .index) lines) (drop (f .index) lines) (relaxed p 0ᶠ n) (rw whole short) (counts-relaxed most)))))
   after-totals lines short takes-none = totals-none
 
 -- at most 2 ^ 24, so no total comes near 2 ^ 32

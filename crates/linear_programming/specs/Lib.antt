@@ -1,8 +1,4 @@
 -- The definitions that the contracts of `linear_programming` cite, in the order of 01's "Rules of the solve".
-pub mod Walk
-pub mod OneLine
-pub mod Pass
-pub mod Relax
 pub mod Whole
 pub mod Admit
 pub mod Resume

@@ -7,10 +7,10 @@ use lib.Ieee.{Float}
 use Rattle.common.specs.declared.Vec2.{Vec2}
 use Rattle.lines.specs.declared.Line.{Line}
 use Rattle.lines.specs.Lines.{mostLines}
-use Rattle.linear_programming.specs.Walk.{walk}
-use Rattle.linear_programming.specs.OneLine.{toward}
-use Rattle.linear_programming.specs.Pass.{feasible, passLine}
-use Rattle.linear_programming.specs.Relax.{relaxed, relaxLine}
+use Rattle.pass_2d.specs.Walk.{walk}
+use Rattle.one_line.specs.OneLine.{toward}
+use Rattle.pass_2d.specs.Pass.{feasible, passLine}
+use Rattle.relaxation.specs.Relax.{relaxed, relaxLine}
 use Rattle.linear_programming.specs.Whole.{Phase, solving, relaxing, rigidFailure, Failed, Outcome, stands, refusal, relaxedOutcome, afterPass}
 use Rattle.admission.specs.Faults.{must}
 use Rattle.linear_programming.specs.Admit.{_⟫_}

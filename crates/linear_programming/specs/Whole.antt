@@ -8,10 +8,10 @@ use lib.Ieee.{Float}
 use Rattle.arithmetic.specs.Binary32.{0ᶠ, if_then_else_}
 use Rattle.common.specs.declared.Vec2.{Vec2}
 use Rattle.lines.specs.declared.Line.{Line}
-use Rattle.linear_programming.specs.Walk.{walk}
-use Rattle.linear_programming.specs.OneLine.{toward}
-use Rattle.linear_programming.specs.Pass.{Failure, Pass, feasible, failed, refused, pass}
-use Rattle.linear_programming.specs.Relax.{Relaxed, relaxed, relaxRefused, relaxLine}
+use Rattle.pass_2d.specs.Walk.{walk}
+use Rattle.one_line.specs.OneLine.{toward}
+use Rattle.pass_2d.specs.Pass.{Failure, Pass, feasible, failed, refused, pass}
+use Rattle.relaxation.specs.Relax.{Relaxed, relaxed, relaxRefused, relaxLine}
 
 -- "solving with its point, relaxing with point and penetration, rigid failure with index and point"
 pub data Phase : Type 0 where

@@ -1,69 +1,16 @@
-// The linear program of a cart's velocity (the Rust's linear_programming.rs): the one-line, 2D and relaxation solves, and the single call over a list of lines.
+// The linear program of a cart's velocity (the Rust's linear_programming.rs): the whole-list rules, as the single call over a list of lines, and taken up
+// again at a line.
 use admission::Judged;
 use common::Vec2;
 use lines::Line;
+use pass_2d::Failure;
 ghost use mathlib.Core.Path.{_≡_};
-ghost use Prim.Native.Nat.{min};
 ghost use Rattle.linear_programming.specs.Admit.{listCall};
 ghost use Rattle.linear_programming.specs.Resume.{resumedCall};
 ghost use Rattle.linear_programming.specs.Read.{phaseOf, failedOf, outcomeOf};
 
-mod along_line;
 mod judge;
-mod solve_2d;
-mod solve_3d;
 mod solve_list;
-
-// What the best value is nearest to, or farthest along, by components.
-pub(crate) enum OptimalValue {
-    Point(f32, f32),
-    Direction(f32, f32),
-}
-
-// What left nothing of a line: the circle, or the earlier line at an index, by its wrong side where it is parallel or by the ends that crossed there.
-pub enum Cause {
-    Circle,
-    Parallel(usize),
-    Crossing(usize),
-}
-
-// The interval left on a line, with the earlier lines looked at; or none, with what closed it.
-pub(crate) enum Interval {
-    Between(f32, f32, u32),
-    Empty(u32, Cause),
-}
-
-// What a one-line solve finds, with its probes.
-pub(crate) enum AlongLine {
-    At(Vec2, u32),
-    Fails(u32, Cause),
-    Refuses,
-}
-
-// The line that a 2D pass failed at, and what left nothing of it.
-pub struct Failure {
-    pub index: usize,
-    pub cause: Cause,
-}
-
-// The 2D pass so far, with its probes: the point now; the line it failed at and the point before it; or a refusal.
-pub(crate) enum LinearProgram2D {
-    Feasible(Vec2, u32),
-    Infeasible(Failure, Vec2, u32),
-    Refused(u8),
-}
-
-// What a previous line becomes for a relaxed one.
-pub(crate) enum Tightened {
-    Kept(Line),
-    Skipped,
-}
-
-// Relaxation so far: point, penetration and probes; or a refusal.
-pub(crate) enum LinearProgram3D {
-    Relaxed(Vec2, f32, u32),
-    Refused(u8),
-}
 
 // The phase that a list ends in: its point, by components, with the penetration where it is relaxed and the failed line where that is rigid.
 pub enum Phase {
@@ -81,13 +28,6 @@ pub enum FailedLine {
 pub enum Answer {
     Stands(Phase, FailedLine, u32),
     Refused(u8),
-}
-
-// The lesser of two counts.
-pub(crate) fn lesser(a: usize, b: usize) -> usize
-    ensures { λ r. ⌜ r ≡ min a b ⌝ }
-{
-    if a < b { a } else { b }
 }
 
 // Solves a list of lines that is lent as numbers, four a line: the value nearest to the wish within the limit and the lines, the ones behind the
@@ -131,14 +71,5 @@ pub fn resume_linear_program(
     }
     let mut numbers = [0.0f32; 1024];
     solve_list::lay(lines, count, &mut numbers);
-    solve_list::resume(
-        &numbers,
-        count,
-        lesser(from, count),
-        rigid,
-        limit,
-        wish,
-        phase,
-        failed,
-    )
+    solve_list::resume(&numbers, count, from, rigid, limit, wish, phase, failed)
 }

@@ -1,28 +1,30 @@
 // The whole-list rules, from the start or taken up again at a line: the 2D pass, then relaxation from the line that it failed at.
 use crate::Answer;
 use crate::FailedLine;
-use crate::LinearProgram2D;
-use crate::LinearProgram3D;
-use crate::OptimalValue;
 use crate::Phase;
-use crate::solve_2d;
-use crate::solve_3d;
 use common::Vec2;
 use lines::Line;
+use one_line::OptimalValue;
+use pass_2d::LinearProgram2D;
+use relaxation::LinearProgram3D;
 ghost use mathlib.Core.Path.{_≡_};
-ghost use Prim.Native.Nat.{_*_, _≤_};
+ghost use Prim.Native.Nat.{_≤_};
 ghost use lib.ListN.{length, take};
 ghost use Rattle.lines.specs.Lines.{mostLines, linesOf};
 ghost use Rattle.linear_programming.specs.Whole.{relaxedOutcome, afterPass, wholeList};
-ghost use Rattle.linear_programming.specs.Resume.{resumed};
-ghost use Rattle.linear_programming.specs.Read.{passOf, relaxedOf, phaseOf, failedOf, outcomeOf, probesOf, indexOf};
+ghost use Rattle.linear_programming.specs.Resume.{resumed, addProbes};
+ghost use Rattle.pass_2d.specs.Read.{passOf, probesOf};
+ghost use Rattle.relaxation.specs.Read.{relaxedOf, countedOf};
+ghost use Rattle.linear_programming.specs.Read.{phaseOf, failedOf, outcomeOf};
 
-fn relaxed_answer(failed: FailedLine, relaxed: LinearProgram3D) -> Answer
-    ensures { λ r. ⌜ outcomeOf r ≡ relaxedOutcome (failedOf failed) (relaxedOf relaxed) ⌝ }
+// What relaxation leaves, behind the probes that the pass before it took.
+fn relaxed_answer(failed: FailedLine, probes: u32, relaxed: LinearProgram3D) -> Answer
+    requires { ⌜ (probes ≤ 65536) × (countedOf relaxed ≤ 8421376) ⌝ }
+    ensures { λ r. ⌜ outcomeOf r ≡ addProbes probes (relaxedOutcome (failedOf failed) (relaxedOf relaxed)) ⌝ }
 {
     match relaxed {
-        LinearProgram3D::Relaxed(p, depth, probes) => {
-            Answer::Stands(Phase::Relaxing(p.x, p.y, depth), failed, probes)
+        LinearProgram3D::Relaxed(p, depth, n) => {
+            Answer::Stands(Phase::Relaxing(p.x, p.y, depth), failed, probes + n)
         }
         LinearProgram3D::Refused(number) => Answer::Refused(number),
     }
@@ -36,7 +38,7 @@ fn after_pass(
     radius: f32,
     pass: LinearProgram2D,
 ) -> Answer
-    requires { ⌜ (count ≤ mostLines) × (4 * count ≤ length (now lines)) × (probesOf pass ≤ 65536) × (indexOf pass ≤ count) ⌝ }
+    requires { ⌜ (count ≤ mostLines) × (probesOf pass ≤ 65536) ⌝ }
     ensures { λ r. ⌜ outcomeOf r ≡ afterPass rigid radius (take count (linesOf (now (lines .entry)))) (passOf pass) ⌝ }
 {
     match pass {
@@ -49,7 +51,7 @@ fn after_pass(
                 let phase = Phase::RigidFailure(k, p.x, p.y);
                 return Answer::Stands(phase, FailedLine::At(failure), probes);
             }
-            let relaxed = solve_3d::solve_linear_program_3d(
+            let relaxed = relaxation::solve_linear_program_3d(
                 lines,
                 rigid,
                 k,
@@ -57,9 +59,8 @@ fn after_pass(
                 radius,
                 p,
                 0.0,
-                probes,
             );
-            relaxed_answer(FailedLine::At(failure), relaxed)
+            relaxed_answer(FailedLine::At(failure), probes, relaxed)
         }
         LinearProgram2D::Refused(number) => Answer::Refused(number),
     }
@@ -76,14 +77,14 @@ pub(crate) fn resume(
     phase: Phase,
     failed: FailedLine,
 ) -> Answer
-    requires { ⌜ (from ≤ count) × (count ≤ mostLines) × (4 * count ≤ length (now lines)) ⌝ }
+    requires { ⌜ count ≤ mostLines ⌝ }
     ensures { λ r. ⌜ outcomeOf r ≡ resumed rigid wish limit (take count (linesOf (now (lines .entry)))) from (phaseOf phase) (failedOf failed) ⌝ }
 {
     match phase {
         Phase::Solving(x, y) => {
             let optimal_value = OptimalValue::Point(wish.x, wish.y);
             let point = Vec2::new(x, y);
-            let pass = solve_2d::solve_linear_program_2d(
+            let pass = pass_2d::resume_linear_program_2d(
                 lines,
                 from,
                 count,
@@ -95,7 +96,7 @@ pub(crate) fn resume(
         }
         Phase::Relaxing(x, y, depth) => {
             let point = Vec2::new(x, y);
-            let relaxed = solve_3d::solve_linear_program_3d(
+            let relaxed = relaxation::solve_linear_program_3d(
                 lines,
                 rigid,
                 from,
@@ -103,9 +104,8 @@ pub(crate) fn resume(
                 limit,
                 point,
                 depth,
-                0,
             );
-            relaxed_answer(failed, relaxed)
+            relaxed_answer(failed, 0, relaxed)
         }
         Phase::RigidFailure(k, x, y) => Answer::Stands(Phase::RigidFailure(k, x, y), failed, 0),
     }
@@ -119,24 +119,12 @@ pub(crate) fn solve_from_start(
     limit: f32,
     wish: Vec2,
 ) -> Answer
-    requires { ⌜ (count ≤ mostLines) × (4 * count ≤ length (now lines)) ⌝ }
+    requires { ⌜ count ≤ mostLines ⌝ }
     ensures { λ r. ⌜ outcomeOf r ≡ wholeList rigid wish limit (take count (linesOf (now (lines .entry)))) ⌝ }
 {
-    let start = solve_2d::start_value(limit, OptimalValue::Point(wish.x, wish.y));
-    if solve_2d::is_finite_point(start) {
-        let phase = Phase::Solving(start.x, start.y);
-        return resume(
-            lines,
-            count,
-            0,
-            rigid,
-            limit,
-            wish,
-            phase,
-            FailedLine::NoLine,
-        );
-    }
-    Answer::Refused(9)
+    let optimal_value = OptimalValue::Point(wish.x, wish.y);
+    let pass = pass_2d::solve_linear_program_2d(lines, count, limit, optimal_value);
+    after_pass(lines, count, rigid, limit, pass)
 }
 
 // The first `count` lines laid out as numbers.

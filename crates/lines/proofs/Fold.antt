@@ -2,9 +2,10 @@
 use Prim.Native.Nat.{ℕ, zero, suc, _+_, _≤_, _<_, min}
 use mathlib.Core.Path.{_≡_, refl, _∙_, ap}
 use mathlib.Core.List.{List, [], _∷_, _++_, foldl}
+use native.Mathlib.Omega.{arith}
 use native.Mathlib.Nat.{zero-min, min-zero, suc-min-suc}
 use native.Mathlib.Numerals.{add-one}
-use lib.ListN.{length, take, drop, getD, set, drop-of-length-le}
+use lib.ListN.{length, length-take, take, drop, getD, set, drop-of-length-le}
 use lib.Seq.{drop-cons, getD-take, length-take-le, take-suc, take-suc-set}
 
 module _ {A : Type 0} (l : List A) (n i : ℕ) (fits : n ≤ length l) where
@@ -36,6 +37,13 @@ module _ {A : Type 0} where
   drop-lesser zero l = rw zero-min
   drop-lesser (suc i) [] = rw min-zero
   drop-lesser (suc i) (x ∷ xs) = rw suc-min-suc (drop-lesser i xs)
+
+  pub taken-most : (n : ℕ) (l : List A) {most : ℕ} → n ≤ most → length (take n l) ≤ most
+  taken-most n l h = rw (length-take n l) (omega arith)
+
+  -- so many elements as the first n of them are
+  pub count-taken : (n : ℕ) (l : List A) {r : ℕ} → r ≡ length (take n l) → take r l ≡ take n l
+  count-taken n l e = rw (e, length-take n l) (take-lesser n l)
 
 -- a state that no step changes
 pub fold-stays : {A S : Type 0} (f : S → A → S) (t : S) → ((x : A) → f t x ≡ t) → (l : List A) → foldl f t l ≡ t

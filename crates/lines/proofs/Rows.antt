@@ -4,7 +4,7 @@ use mathlib.Core.Path.{_≡_, refl, ap}
 use mathlib.Core.List.{List, [], _∷_, _++_}
 use native.Mathlib.Omega.{arith}
 use native.Mathlib.Numerals.{add-one, add-two, add-three}
-use lib.ListN.{length, take, getD, set}
+use lib.ListN.{length, length-take, take, getD, set}
 use lib.Seq.{take-length}
 use lib.Ieee.{Float, nan}
 use Rattle.common.specs.Vectors.{vec}
@@ -23,6 +23,10 @@ lines-long (w ∷ x ∷ y ∷ z ∷ r) = let h = lines-long r in omega arith
 -- where there are 4 n numbers there are n lines
 pub lines-fit : (b : List Float) (n : ℕ) → 4 * n ≤ length b → n ≤ length (linesOf b)
 lines-fit b n h = rw (lines-long b) (omega arith)
+
+-- and so many lines as the first n of them are have their numbers
+pub count-fits : (b : List Float) (n : ℕ) {r : ℕ} → r ≡ length (take n (linesOf b)) → 4 * r ≤ length b
+count-fits b n e = rw (e, length-take n (linesOf b), lines-long b) (omega arith)
 
 pub lines-take-all : (b : List Float) → take (length b / 4) (linesOf b) ≡ linesOf b
 lines-take-all b = rw (← lines-long b) (take-length (linesOf b))

@@ -6,7 +6,7 @@ use admission::is_inside;
 use admission::is_within;
 use common::Vec2;
 ghost use mathlib.Core.Path.{_≡_};
-ghost use lib.ListN.{getD};
+ghost use lib.ListN.{getD, length, take};
 ghost use Rattle.admission.specs.Faults.{faultOf};
 ghost use Rattle.lines.specs.Lines.{line as lineOf, linesOf, offLine, lineStored};
 ghost use Rattle.lines.specs.LineFaults.{lineFault, linesFault};
@@ -61,6 +61,17 @@ pub fn line_at(numbers: &[f32], i: usize) -> Line
         point: Vec2 { x: nan, y: nan },
         direction: Vec2 { x: nan, y: nan },
     }
+}
+
+// How many of the first `count` lines of a list there are, that is lent as numbers, four a line.
+pub fn count_given(numbers: &[f32], count: usize) -> usize
+    ensures { λ r. ⌜ r ≡ length (take count (linesOf (now (numbers .entry)))) ⌝ }
+{
+    let given = numbers.len() / 4;
+    if count < given {
+        return count;
+    }
+    given
 }
 
 // Stores a line at an index of a list that is lent as numbers, four a line; numbers without room for it stay as they are.

@@ -6,7 +6,7 @@ use lib.Dec.{eqb}
 use lib.Ieee.{Float, binary32, ofBits}
 use Rattle.words.specs.Words.{wordOf}
 use Rattle.common.specs.declared.Vec2.{Vec2}
-use Rattle.linear_programming.specs.OneLine.{Cause, circle, parallel, crossing}
+use Rattle.one_line.specs.OneLine.{Cause, circle, parallel, crossing}
 use Rattle.linear_programming.specs.Whole.{Phase, solving, relaxing, rigidFailure, Failed, noLine, failedLine}
 use Rattle.replay_records.specs.Answers.{agreesWith}
 

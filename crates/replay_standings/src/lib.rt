@@ -1,12 +1,13 @@
 // How lines stand against an answer, seven words from a place on: kind (0 solving, 1 relaxing, 2 rigid failure, 100 + the number of a refusal),
 // point (2), penetration, failed line, its cause, probes.
-use linear_programming::Cause;
 use linear_programming::FailedLine;
 use linear_programming::Phase;
+use one_line::Cause;
 use replay_records::agrees;
 ghost use mathlib.Core.Path.{_≡_};
 ghost use Rattle.common.specs.Vectors.{vec};
-ghost use Rattle.linear_programming.specs.Read.{causeOf, phaseOf, failedOf};
+ghost use Rattle.one_line.specs.Read.{causeOf};
+ghost use Rattle.linear_programming.specs.Read.{phaseOf, failedOf};
 ghost use Rattle.replay_standings.specs.Standings.{isCause, isFailed, isTold, isStanding};
 
 // Whether phase, failed line and probes are those of the answer at the place. A rigid failure's own index is the failed line, too.

@@ -12,7 +12,7 @@ use Rattle.common.specs.declared.Vec2.{Vec2}
 use Rattle.lines.specs.declared.Line.{Line}
 use Rattle.lines.specs.Lines.{mostLines, linesOf}
 use Rattle.lines.specs.LineFaults.{linesFault}
-use Rattle.linear_programming.specs.Pass.{Failure}
+use Rattle.pass_2d.specs.Pass.{Failure}
 use Rattle.linear_programming.specs.Whole.{Phase, Failed, failedLine, Outcome, stands, wholeList}
 use Rattle.admission.specs.Faults.{Fault, fine, must, _⊳_, faultOf}
 use Rattle.linear_programming.specs.Admit.{_⟫_, fours, wishFault, judgedList, listCall}

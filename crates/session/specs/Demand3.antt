@@ -8,7 +8,7 @@ use Rattle.admission.specs.Faults.{fine, faultOf}
 use Rattle.common.specs.declared.Vec2.{Vec2}
 use Rattle.lines.specs.declared.Line.{Line}
 use Rattle.lines.specs.Lines.{linesOf}
-use Rattle.linear_programming.specs.Pass.{Failure}
+use Rattle.pass_2d.specs.Pass.{Failure}
 use Rattle.linear_programming.specs.Whole.{failedLine, wholeList}
 use Rattle.linear_programming.specs.Admit.{listCall}
 use Rattle.linear_programming.specs.Read.{failedOf}

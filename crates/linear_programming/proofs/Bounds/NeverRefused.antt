@@ -20,13 +20,13 @@ use Rattle.common.proofs.VectorSizes.{Inside, roomier, inside-finite, add-insid
 use Rattle.lines.specs.declared.Line.{Line}
 use Rattle.lines.specs.Lines.{epsilon}
 use Rattle.lines.specs.LineFaults.{linesFault}
-use Rattle.linear_programming.specs.OneLine.{toward, along}
-use Rattle.linear_programming.specs.Pass.{Pass, finitePoint, pass}
-use Rattle.linear_programming.specs.Relax.{Tight, kept, skipped, tightAt, midpoint, intersection, tighten, behind, tightenNext, tightened, Relaxed, relaxed, depthIn, replaced, relaxLine}
+use Rattle.one_line.specs.OneLine.{toward, along}
+use Rattle.pass_2d.specs.Pass.{Pass, finitePoint, pass}
+use Rattle.relaxation.specs.Relax.{Tight, kept, skipped, tightAt, midpoint, intersection, tighten, behind, tightenNext, tightened, Relaxed, relaxed, depthIn, replaced, relaxLine}
 use Rattle.linear_programming.specs.Whole.{Phase, Failed, Outcome, stands, relaxedOutcome, afterPass, wholeList}
 use Rattle.admission.specs.Faults.{fine}
 use Rattle.linear_programming.specs.Admit.{wishFault}
-use Rattle.linear_programming.proofs.WalkLaws.{walk-keeps-over}
+use Rattle.pass_2d.proofs.WalkLaws.{walk-keeps-over}
 use Rattle.linear_programming.proofs.Bounds.SolveSizes.{LineIn, epsilon-over, Goes, start-inside, along-inside, on-line, pass-goes, aimed, pointed, goes, ends}
 use Rattle.linear_programming.proofs.Bounds.Admitted.{Admitted, wish-admitted, lines-admitted}
 use Rattle.linear_programming.proofs.Bounds.TightDirections.{not-parallel, not-one-way}

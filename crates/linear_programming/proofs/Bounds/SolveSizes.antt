@@ -23,9 +23,9 @@ use Rattle.common.proofs.VectorSizes.{Inside, roomier, inside-finite, add-insid
 use Rattle.common.proofs.NormalizedSize.{inverse-within}
 use Rattle.lines.specs.declared.Line.{Line}
 use Rattle.lines.specs.Lines.{epsilon}
-use Rattle.linear_programming.specs.OneLine.{Objective, toward, along, Cause, crossing, Interval, between, empty, chord, unlessFails, cut, narrow, Found, at, fails, pointOn, choose, oneLine}
-use Rattle.linear_programming.specs.Pass.{start, Failure, Pass, feasible, failed, finitePoint, judged, solved, passLine, pass}
-use Rattle.linear_programming.proofs.WalkLaws.{walk-keeps-over}
+use Rattle.one_line.specs.OneLine.{Objective, toward, along, Cause, crossing, Interval, between, empty, chord, unlessFails, cut, narrow, Found, at, fails, pointOn, choose, oneLine}
+use Rattle.pass_2d.specs.Pass.{start, Failure, Pass, feasible, failed, finitePoint, judged, solved, passLine, pass}
+use Rattle.pass_2d.proofs.WalkLaws.{walk-keeps-over}
 
 -- the point is at most 2 ^ p smallest values, the direction at most 2
 pub record LineIn (p : ℕ) (l : Line) : Type 0 where

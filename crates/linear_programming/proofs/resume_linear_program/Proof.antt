@@ -1,10 +1,6 @@
 -- `linear_programming::resume_linear_program` meets its contract. Assumes nothing.
-use mathlib.Core.Path.{_∙_}
-use native.Mathlib.Omega.{arith}
-use lib.Seq.{length-take-le}
 use borrow.Author.Tests.{le-leb, lt-leb}
 use Rattle.linear_programming.specs.Resume.{resumedCall}
-use Rattle.linear_programming.proofs.ResumeLaws.{resumed-lesser}
 use borrow.Author.Needs.{needs}
 use Rattle.linear_programming.proofs.resume_linear_program.Statement.{statement}
 use Rattle.linear_programming.proofs.resume_linear_program.Tie as tie
@@ -16,11 +12,10 @@ returns c = simp (lt-leb _ _ (c .if1 .taken))
 returns-2 : tie.Need-returns-2
 unfolding resumedCall
 returns-2 c =
-    let start = c .before .before .before .before .before .before in
-    let size = length-take-le (start .before .args .count) (start .before .args .lines) (omega arith) in
-    let stands = rw (c .before .before .before .before .lay .ensures .1) at (c .resume .ensures) in
-    simp (le-leb _ _ (start .if1 .left)) (stands ∙ resumed-lesser _ _ _ _ _ _ _ size (c .before .lesser .ensures))
+    let start = c .before .before .before .before .before in
+    let stands = rw (c .before .before .before .lay .ensures .1) at (c .resume .ensures) in
+    simp (le-leb _ _ (start .if1 .left)) stands
 
 pub resume-linear-program-spec : {M : Type 1} → statement M
 resume-linear-program-spec =
-    tie.close (tie.spec returns (λ c. search needs) (λ c κs. search needs) (λ c. search needs) (λ c κs. search needs) (λ c κs. search needs) returns-2)
+    tie.close (tie.spec returns (λ c. search needs) (λ c κs. search needs) (λ c. search needs) (λ c κs. search needs) returns-2)

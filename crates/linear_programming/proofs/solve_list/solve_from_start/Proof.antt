@@ -1,28 +1,28 @@
 -- `linear_programming::solve_list::solve_from_start` meets its contract. Assumes nothing.
-use mathlib.Core.List.{[]}
+use mathlib.Core.Path.{_∙_}
 use denote.Ref.{now}
-use lib.ListN.{take}
-use Rattle.arithmetic.specs.Binary32.{if_then_else_}
 use Rattle.lines.specs.Lines.{linesOf}
-use Rattle.linear_programming.specs.OneLine.{toward}
-use Rattle.linear_programming.specs.Pass.{judged, pass}
-use Rattle.linear_programming.specs.Whole.{afterPass, wholeList}
-use Rattle.linear_programming.specs.Resume.{resumed}
-use Rattle.linear_programming.proofs.PassLaws.{pass-refused}
+use Rattle.lines.proofs.Fold.{taken-most}
+use Rattle.pass_2d.proofs.CallLaws.{few-called, called-most}
+use Rattle.linear_programming.specs.Whole.{wholeList}
 use borrow.Author.Needs.{needs}
 use Rattle.linear_programming.proofs.solve_list.solve_from_start.Statement.{statement}
 use Rattle.linear_programming.proofs.solve_list.solve_from_start.Tie as tie
 
-returns : tie.Need-returns
-unfolding wholeList pass judged resumed if_then_else_
-returns c = simp (← c .resume .ensures, c .before .if1 .taken, ← c .before .before .is-finite-point .ensures, ← c .before .before .before .start-value .ensures)
+after-pass-requires : tie.Need-after-pass-requires
+after-pass-requires c κs =
+    let start = c .before .before in
+    let short = taken-most (start .args .count) (linesOf (now (start .args .lines))) (start .pre) in
+    (start .pre, called-most _ _ _ short (c .solve-linear-program-2d .result) (c .solve-linear-program-2d .ensures))
 
-returns-2 : tie.Need-returns-2
-unfolding wholeList pass judged afterPass if_then_else_
-returns-2 c =
-    let a = c .before .before .before .before .args in
-    simp (c .if1 .left, ← c .before .is-finite-point .ensures, ← c .before .before .start-value .ensures) (rw (pass-refused (toward (a .wish)) (a .limit) 9 [] (take (a .count) (linesOf (now (a .lines))))))
+returns : tie.Need-returns
+unfolding wholeList
+returns c =
+    let start = c .before .before .before in
+    let short = taken-most (start .args .count) (linesOf (now (start .args .lines))) (start .pre) in
+    let pass = c .before .solve-linear-program-2d .ensures ∙ few-called _ _ _ short in
+    simp (← c .after-pass .ensures, ← pass)
 
 pub solve-from-start-spec : {M : Type 1} → statement M
 solve-from-start-spec =
-    tie.close (tie.spec (λ c κs. search needs) (λ c κs. search needs) (λ c κs. search needs) returns returns-2)
+    tie.close (tie.spec (λ c κs. search needs) after-pass-requires returns)
