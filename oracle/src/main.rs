@@ -9,6 +9,7 @@ mod coverage_table;
 mod cut_vectors;
 mod edge_vectors;
 mod encounters;
+mod lent;
 mod line_lists;
 mod list_vectors;
 mod plain_answers;

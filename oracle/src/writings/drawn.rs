@@ -2,6 +2,7 @@
 //! parts cut or with more behind them; and buffers that just fit, or not.
 
 use super::Call;
+use crate::lent::{self, beside, replace, resize};
 use crate::list_vectors::judge::{LINE_REACH, LONGEST, REACH};
 use crate::list_vectors::refused::too_large;
 use crate::random::Random;
@@ -11,16 +12,16 @@ type Spoil = fn(&mut Random, &mut Call);
 
 const SPOILS: [Spoil; 12] = [
     cart_number,
-    vertex_number,
+    |random, call| lent::vertex_number(random, &mut call.lent),
     line_number,
     line_band,
-    kind,
-    own_count,
-    obstacle_count,
+    |random, call| lent::kind(random, &mut call.lent),
+    |random, call| lent::own_count(random, &mut call.lent),
+    |random, call| lent::obstacle_count(random, &mut call.lent),
     neighbour_count,
-    kinds_lent,
-    counts_lent,
-    vertices_lent,
+    |random, call| lent::kinds_lent(random, &mut call.lent),
+    |random, call| lent::counts_lent(random, &mut call.lent),
+    |random, call| lent::vertices_lent(random, &mut call.lent),
     lines_lent,
 ];
 
@@ -49,11 +50,6 @@ fn cart_number(random: &mut Random, call: &mut Call) {
     call.cart[place] = too_large(random, most);
 }
 
-fn vertex_number(random: &mut Random, call: &mut Call) {
-    let number = too_large(random, REACH);
-    replace(random, &mut call.vertices, number);
-}
-
 fn line_number(random: &mut Random, call: &mut Call) {
     let number = too_large(random, LINE_REACH);
     replace(random, &mut call.lines, number);
@@ -65,60 +61,10 @@ fn line_band(random: &mut Random, call: &mut Call) {
     replace(random, &mut call.lines, number);
 }
 
-fn kind(random: &mut Random, call: &mut Call) {
-    let kind = random.below(4) as u8;
-    replace(random, &mut call.kinds, kind);
-}
-
-fn own_count(random: &mut Random, call: &mut Call) {
-    let count = random.pick(&[0, 1, 2, 3, 63, 64, 65, 192, 255]);
-    replace(random, &mut call.counts, count);
-}
-
-fn obstacle_count(random: &mut Random, call: &mut Call) {
-    call.obstacles = beside(random, call.obstacles);
-}
-
 fn neighbour_count(random: &mut Random, call: &mut Call) {
     call.neighbours = beside(random, call.neighbours);
 }
 
-fn kinds_lent(random: &mut Random, call: &mut Call) {
-    resize(random, &mut call.kinds, 1, 1);
-}
-
-fn counts_lent(random: &mut Random, call: &mut Call) {
-    resize(random, &mut call.counts, 1, 1);
-}
-
-fn vertices_lent(random: &mut Random, call: &mut Call) {
-    resize(random, &mut call.vertices, 4, 0.5);
-}
-
 fn lines_lent(random: &mut Random, call: &mut Call) {
     resize(random, &mut call.lines, 8, 1.0);
-}
-
-/// One more, one less, or far too many.
-fn beside(random: &mut Random, count: u32) -> u32 {
-    let far = random.pick(&[16, 17, 64, 65, 256, u32::MAX]);
-    random.pick(&[count + 1, count.saturating_sub(1), far])
-}
-
-fn replace<T: Copy>(random: &mut Random, lent: &mut [T], value: T) {
-    if !lent.is_empty() {
-        let place = random.below(lent.len());
-        lent[place] = value;
-    }
-}
-
-/// At most so many fewer or more.
-fn resize<T: Copy>(random: &mut Random, lent: &mut Vec<T>, most: usize, value: T) {
-    let by = 1 + random.below(most);
-    let length = if random.one_in(2) {
-        lent.len() + by
-    } else {
-        lent.len().saturating_sub(by)
-    };
-    lent.resize(length, value);
 }

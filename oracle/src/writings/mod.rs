@@ -10,6 +10,7 @@ mod writer;
 use std::fs;
 
 use crate::coverage_table::{self, Column};
+use crate::lent::Lent;
 use crate::random::Random;
 use crate::records::{reader, scene_record, Records};
 use crate::scale::Parts;
@@ -25,10 +26,7 @@ const SENTINEL: u8 = 0xA5;
 #[derive(Clone)]
 pub struct Call {
     pub cart: [f32; 9],
-    pub obstacles: u32,
-    pub kinds: Vec<u8>,
-    pub counts: Vec<u8>,
-    pub vertices: Vec<f32>,
+    pub lent: Lent,
     pub neighbours: u32,
     pub lines: Vec<f32>,
     pub buffer: usize,
@@ -121,8 +119,6 @@ impl Call {
     /// All parts of a scene, and a buffer of this length.
     pub fn of(scene: &Scene, buffer: usize) -> Call {
         let [p, v, w] = [scene.position, scene.velocity, scene.wish];
-        let obstacles = &scene.obstacles;
-        let vertices = obstacles.iter().flat_map(|obstacle| &obstacle.vertices);
         let lines = scene
             .lines
             .iter()
@@ -139,16 +135,7 @@ impl Call {
                 w.y,
                 scene.limit,
             ],
-            obstacles: obstacles.len() as u32,
-            kinds: obstacles
-                .iter()
-                .map(|obstacle| if obstacle.closed { 1 } else { 2 })
-                .collect(),
-            counts: obstacles
-                .iter()
-                .map(|obstacle| obstacle.vertices.len() as u8)
-                .collect(),
-            vertices: vertices.flat_map(|vertex| [vertex.x, vertex.y]).collect(),
+            lent: Lent::of(&scene.obstacles),
             neighbours: scene.lines.len() as u32,
             lines: lines.flat_map(|vector| [vector.x, vector.y]).collect(),
             buffer,
@@ -171,22 +158,23 @@ impl Call {
     fn record(&self) -> Vec<u8> {
         let mut words = Words::new();
         self.cart.iter().for_each(|number| words.bits(*number));
-        words.word(self.obstacles);
-        for length in [self.kinds.len(), self.counts.len(), self.vertices.len()] {
+        let lent = &self.lent;
+        words.word(lent.obstacles);
+        for length in [lent.kinds.len(), lent.counts.len(), lent.vertices.len()] {
             words.word(length as u32);
         }
         words.word(self.neighbours);
         words.word(self.lines.len() as u32);
         words.word(self.buffer as u32);
         let mut numbers = Words::new();
-        self.vertices
+        lent.vertices
             .iter()
             .chain(&self.lines)
             .for_each(|number| numbers.bits(*number));
         [
             words.into_bytes(),
-            self.kinds.clone(),
-            self.counts.clone(),
+            lent.kinds.clone(),
+            lent.counts.clone(),
             numbers.into_bytes(),
         ]
         .concat()

@@ -2,6 +2,7 @@
 //! buffers of every length.
 
 use super::{Call, Shown};
+use crate::lent::Lent;
 
 const NAN: f32 = f32::NAN;
 const OPEN: u8 = 2;
@@ -25,25 +26,25 @@ pub fn calls() -> Vec<Shown> {
 fn smallest() -> Call {
     Call {
         cart: [0.0, 0.0, 0.0, 0.0, 0.0, 1.0, 0.0, 0.0, 0.0],
-        obstacles: 0,
-        kinds: vec![],
-        counts: vec![],
-        vertices: vec![],
+        lent: Lent::of(&[]),
         neighbours: 0,
         lines: vec![],
         buffer: 100,
     }
 }
 
+/// The call with something else lent of obstacles.
+fn lending(call: &Call, change: impl FnOnce(&mut Lent)) -> Call {
+    let mut call = call.clone();
+    change(&mut call.lent);
+    call
+}
+
 /// With an open wall of two vertices, whose numbers are these.
 fn wall(vertices: &[f32]) -> Call {
-    Call {
-        obstacles: 1,
-        kinds: vec![OPEN],
-        counts: vec![2],
-        vertices: vertices.to_vec(),
-        ..smallest()
-    }
+    lending(&walled(1, &[OPEN], &[2]), |lent| {
+        lent.vertices = vertices.to_vec()
+    })
 }
 
 fn with_line(call: Call, lines: &[f32]) -> Call {
@@ -56,9 +57,12 @@ fn with_line(call: Call, lines: &[f32]) -> Call {
 
 fn walled(obstacles: u32, kinds: &[u8], counts: &[u8]) -> Call {
     Call {
-        obstacles,
-        kinds: kinds.to_vec(),
-        counts: counts.to_vec(),
+        lent: Lent {
+            obstacles,
+            kinds: kinds.to_vec(),
+            counts: counts.to_vec(),
+            vertices: vec![],
+        },
         ..smallest()
     }
 }
@@ -74,15 +78,14 @@ fn example() -> Call {
 
 /// Two obstacles and two neighbours: 133 bytes.
 fn full() -> Call {
+    let walls = lending(&walled(2, &[1, 2], &[3, 4]), |lent| {
+        lent.vertices = (0..14).map(|place| place as f32).collect()
+    });
     Call {
-        obstacles: 2,
-        kinds: vec![1, 2],
-        counts: vec![3, 4],
-        vertices: (0..14).map(|place| place as f32).collect(),
         neighbours: 2,
         lines: vec![0.0, 1.0, 1.0, 0.0, 0.0, -1.0, -1.0, 0.0],
         buffer: 140,
-        ..smallest()
+        ..walls
     }
 }
 
@@ -130,10 +133,7 @@ fn more() -> Vec<Shown> {
         ),
         (
             row,
-            Call {
-                vertices: vec![0.0],
-                ..smallest()
-            },
+            lending(&smallest(), |lent| lent.vertices = vec![0.0]),
             Err(2),
         ),
     ]
@@ -142,10 +142,9 @@ fn more() -> Vec<Shown> {
 fn kinds_and_counts() -> Vec<Shown> {
     let row = "kinds and counts";
     let alternating: Vec<f32> = (0..384).map(|place| (place / 2 % 2) as f32).collect();
-    let total = Call {
-        vertices: alternating,
-        ..walled(4, &[1; 4], &[64, 64, 64, 1])
-    };
+    let total = lending(&walled(4, &[1; 4], &[64, 64, 64, 1]), |lent| {
+        lent.vertices = alternating
+    });
     vec![
         (row, walled(1, &[], &[]), Err(2)),
         (row, walled(1, &[3], &[]), Err(3)),
@@ -188,10 +187,7 @@ fn cart_numbers() -> Vec<Shown> {
         } else {
             65_536.0
         };
-        let spoiled = Call {
-            obstacles: 17,
-            ..with_number(place, NAN)
-        };
+        let spoiled = lending(&with_number(place, NAN), |lent| lent.obstacles = 17);
         shown.push((row, spoiled, Err(6)));
         shown.push((row, with_number(place, most), Ok(41)));
         shown.push((row, with_number(place, most.next_up()), Err(6)));
@@ -240,14 +236,7 @@ fn one_beside() -> Vec<Shown> {
     let call = full();
     let mut shown = vec![(row, call.clone(), Ok(133))];
     for count in [1, 3] {
-        shown.push((
-            row,
-            Call {
-                obstacles: count,
-                ..call.clone()
-            },
-            Err(2),
-        ));
+        shown.push((row, lending(&call, |lent| lent.obstacles = count), Err(2)));
         shown.push((
             row,
             Call {
@@ -258,44 +247,17 @@ fn one_beside() -> Vec<Shown> {
         ));
     }
     for counts in [[2, 4], [4, 4], [3, 3], [3, 5]] {
-        shown.push((
-            row,
-            Call {
-                counts: counts.to_vec(),
-                ..call.clone()
-            },
-            Err(2),
-        ));
+        let other = lending(&call, |lent| lent.counts = counts.to_vec());
+        shown.push((row, other, Err(2)));
     }
     for by in [1, 3] {
-        shown.push((
-            row,
-            Call {
-                kinds: vec![1; by],
-                ..call.clone()
-            },
-            Err(2),
-        ));
-        shown.push((
-            row,
-            Call {
-                counts: [3, 4, 1][..by].to_vec(),
-                ..call.clone()
-            },
-            Err(2),
-        ));
+        let kinds = lending(&call, |lent| lent.kinds = vec![1; by]);
+        let counts = lending(&call, |lent| lent.counts = [3, 4, 1][..by].to_vec());
+        shown.extend([(row, kinds, Err(2)), (row, counts, Err(2))]);
     }
     for length in [12, 13, 15, 16] {
-        let mut vertices = call.vertices.clone();
-        vertices.resize(length, 0.0);
-        shown.push((
-            row,
-            Call {
-                vertices,
-                ..call.clone()
-            },
-            Err(2),
-        ));
+        let vertices = lending(&call, |lent| lent.vertices.resize(length, 0.0));
+        shown.push((row, vertices, Err(2)));
     }
     for length in [4, 7, 9, 12] {
         let mut lines = call.lines.clone();
@@ -330,9 +292,10 @@ fn limits() -> Vec<Shown> {
         )
     };
     let together = |counts: [u8; 4]| Call {
-        vertices: (0..384).map(|place| place as f32).collect(),
         buffer: 1_600,
-        ..walled(4, &[OPEN; 4], &counts)
+        ..lending(&walled(4, &[OPEN; 4], &counts), |lent| {
+            lent.vertices = (0..384).map(|place| place as f32).collect()
+        })
     };
     vec![
         (row, near(64), Ok(1_065)),
@@ -341,10 +304,7 @@ fn limits() -> Vec<Shown> {
         (row, apart(17), Err(4)),
         (
             row,
-            Call {
-                obstacles: u32::MAX,
-                ..smallest()
-            },
+            lending(&smallest(), |lent| lent.obstacles = u32::MAX),
             Err(4),
         ),
         (

@@ -4,13 +4,13 @@
 use glam::Vec2;
 
 use super::Call;
-use crate::edge_vectors::call::SCENE_VERTICES;
-use crate::edge_vectors::judge::{admits_horizon, count_fault, is_kind};
+use crate::edge_vectors::call::{CLOSED, OPEN};
+use crate::edge_vectors::judge::admits_horizon;
 use crate::list_vectors::judge::{
     admits_component, admits_direction, admits_length, admits_line_component,
 };
 use crate::records::reader::must;
-use crate::records::{with_length, MOST_NEIGHBOURS, MOST_OBSTACLES, VERSION};
+use crate::records::{with_length, MOST_NEIGHBOURS, VERSION};
 
 /// The length that is written; or the number of the refusal, and then the buffer is as it was.
 pub fn write(call: &Call, buffer: &mut [u8]) -> Result<usize, u32> {
@@ -24,24 +24,20 @@ pub fn write(call: &Call, buffer: &mut [u8]) -> Result<usize, u32> {
 fn rest(call: &Call) -> Result<Vec<u8>, u32> {
     let mut rest = vec![VERSION];
     cart(&mut rest, call.cart)?;
-    let mut kinds = call.kinds.iter().copied();
-    let mut counts = call.counts.iter().copied();
-    let mut vertices = call.vertices.iter().copied();
-    let mut lines = call.lines.iter().copied();
-    count(&mut rest, call.obstacles, MOST_OBSTACLES)?;
-    let mut room = SCENE_VERTICES;
-    for _ in 0..call.obstacles {
-        let kind = kinds.next().ok_or(2u32)?;
-        must(is_kind(kind.into()), 3)?;
-        let own = counts.next().ok_or(2u32)?;
-        must(usize::from(own) <= room, 4)?;
-        count_fault(kind.into(), own.into()).map_or(Ok(()), Err)?;
-        room -= usize::from(own);
-        rest.extend([kind, own]);
-        for _ in 0..2 * usize::from(own) {
-            number(&mut rest, vertices.next(), admits_component)?;
+    let (obstacles, left) = call.lent.read()?;
+    rest.push(obstacles.len() as u8);
+    for obstacle in &obstacles {
+        let kind = if obstacle.closed { CLOSED } else { OPEN };
+        rest.extend([kind as u8, obstacle.vertices.len() as u8]);
+        for component in obstacle
+            .vertices
+            .iter()
+            .flat_map(|vertex| [vertex.x, vertex.y])
+        {
+            rest.extend(component.to_bits().to_be_bytes());
         }
     }
+    let mut lines = call.lines.iter().copied();
     count(&mut rest, call.neighbours, MOST_NEIGHBOURS)?;
     for _ in 0..call.neighbours {
         number(&mut rest, lines.next(), admits_line_component)?;
@@ -50,8 +46,7 @@ fn rest(call: &Call) -> Result<Vec<u8>, u32> {
         let y = number(&mut rest, lines.next(), f32::is_finite)?;
         must(admits_direction(Vec2::new(x, y)), 7)?;
     }
-    let left = kinds.len() + counts.len() + vertices.len() + lines.len();
-    must(left == 0, 2)?;
+    must(left + lines.len() == 0, 2)?;
     Ok(rest)
 }
 
