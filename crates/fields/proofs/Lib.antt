@@ -4,3 +4,4 @@ pub mod ChainLaws
 pub mod Spans
 pub mod Backs
 pub mod WordLaws
+pub mod StoreLaws

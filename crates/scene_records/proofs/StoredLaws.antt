@@ -1,24 +1,19 @@
 -- Values that are read one behind the other and stored as numbers, w of them each: what a loop has stored and what is left make up the whole. Assumes nothing.
 use Prim.Native.Nat.{ℕ, suc, _+_, _-_, _≤_, _<_}
 use native.Mathlib.Omega.{arith}
-use native.Mathlib.Nat.{add-zero, add-suc, suc-add}
-use mathlib.Core.Path.{_≡_, refl, sym, ap, _∙_}
-use mathlib.Core.List.{List, [], _∷_, _++_}
-use lib.ListN.{length, set}
+use mathlib.Core.Path.{_≡_, refl, ap, _∙_}
+use mathlib.Core.List.{List, _∷_}
+use lib.ListN.{length}
 use lib.Seq.{sets}
 use lib.Ieee.{Float}
 use Rattle.fields.specs.Bytes.{each}
+use Rattle.fields.proofs.StoreLaws.{sets-append}
 use Rattle.fields.specs.Got.{Got, refused, got, then, many}
 use Rattle.scene_records.specs.declared.Cursor.{Cursor}
 use Rattle.scene_records.specs.declared.Cursor.the-variants as cursor
 use Rattle.scene_records.specs.Steps.{from, told}
 use Rattle.scene_records.specs.Parts.{stored}
 use Rattle.scene_records.proofs.Cursors.{linked}
-
--- two runs of stores, one behind the other
-pub sets-append : {A : Type 0} (l : List A) (i : ℕ) (vs ws : List A) → sets l i (vs ++ ws) ≡ sets (sets l i vs) (i + length vs) ws
-sets-append l i [] ws = rw add-zero
-sets-append l i (v ∷ vs) ws = sets-append (set l i v) (suc i) vs ws ∙ ap (λ (k : ℕ). sets (sets (set l i v) (suc i) vs) k ws) (suc-add i (length vs) ∙ sym (add-suc i (length vs)))
 
 module _ {A : Type 0} (numbers : A → List Float) (w : ℕ) (long : (a : A) → length (numbers a) ≡ w) (step : ℕ → Got A) where
   -- n steps of the same kind

@@ -23,7 +23,7 @@ use Rattle.scene_records.specs.Steps.{from, told, vector}
 use Rattle.scene_records.specs.Parts.{head, headAs, verticesAt, Obstacle, sizeOf, numbersIn, obstacle, obstacles, stored, coordinates, Walls, walls, storedWalls}
 use Rattle.scene_records.proofs.Taken.{head-taken}
 use Rattle.scene_records.proofs.Cursors.{then-from, linked, told-refused, told-got}
-use Rattle.scene_records.proofs.StoredLaws.{sets-append}
+use Rattle.fields.proofs.StoreLaws.{sets-append}
 
 -- ---- an obstacle's head, as the code hands it over
 

@@ -1,15 +1,16 @@
 -- Bytes put one behind the other. Assumes nothing.
 use Prim.Native.Nat.{ℕ, zero, suc, _+_, _-_, _*_, _≤_, _<_}
 use native.Mathlib.Omega.{arith}
-use native.Mathlib.Nat.{add-zero, sub-zero, mul-zero, add-suc, suc-add}
+use native.Mathlib.Nat.{add-zero, sub-zero, mul-zero}
 use native.Mathlib.Numerals.{add-one}
 use mathlib.Core.Path.{_≡_, refl, sym, ap, _∙_}
 use mathlib.Core.List.{List, [], _∷_, _++_, append-assoc}
-use lib.ListN.{length, take, drop, getD, set, length-append, length-drop, drop-of-length-le}
+use lib.ListN.{length, take, drop, getD, length-append, length-drop, drop-of-length-le}
 use lib.Seq.{sets, drop-cons, drop-drop, length-take-le}
 use lib.Ieee.{Float, nan}
 use Rattle.fields.specs.Bytes.{bigEndian, each}
 use Rattle.fields.proofs.ByteLaws.{length-big-endian}
+use Rattle.fields.proofs.StoreLaws.{sets-append}
 use Rattle.common.specs.declared.Vec2.{Vec2}
 use Rattle.obstacles.specs.Vertices.{verticesOf}
 use Rattle.obstacles.proofs.VertexNumbers.{vertices-long}
@@ -19,10 +20,6 @@ use Rattle.scene_records.specs.SceneBytes.{numberBytes, vectorBytes, cartBytes,
 use Rattle.scene_records.specs.Parts.{sizeOf}
 use Rattle.scene_writer.specs.Writing.{obstacleFrom, lentObstacles}
 use Rattle.scene_records.proofs.WrittenParts.{length-number, length-vector, length-each, length-obstacle}
-
-sets-append : {A : Type 0} (l : List A) (i : ℕ) (vs ws : List A) → sets l i (vs ++ ws) ≡ sets (sets l i vs) (i + length vs) ws
-sets-append l i [] ws = rw add-zero
-sets-append l i (v ∷ vs) ws = sets-append (set l i v) (suc i) vs ws ∙ ap (λ (k : ℕ). sets (sets (set l i v) (suc i) vs) k ws) (suc-add i (length vs) ∙ sym (add-suc i (length vs)))
 
 -- a record, so that the lists are found from a proof of it
 pub record Puts (l : List ℕ) (at : ℕ) (bytes : List ℕ) (end : ℕ) (m : List ℕ) : Type 0 where
