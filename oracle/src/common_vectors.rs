@@ -1,15 +1,20 @@
-//! The vectors of common.rs and `Vec2`: 4,096 records of 24 words.
+//! The vectors of common.rs and `Vec2`: 4,096 records of 31 words.
 //! Inputs a (2 words), b (2), k; then determinant(a, b), a + b (2), a - b (2), -a (2), a * k (2),
 //! a / k (2), a.dot(b), a.perp() (2), a.length_squared(), a.distance_squared(b),
-//! a.normalize() (2), a == b (1 or 0). No input is NaN.
+//! a.normalize() (2), a == b (1 or 0); then a second line's start and end (2 each), and of it and
+//! the line from a to b 1 and the times (2) at which they meet, or 0, 0, 0 where they are parallel.
+//! No input is NaN.
 
-use dodgy_plain::debug::determinant;
+use dodgy_plain::debug::{determinant, time_to_intersect_lines};
 use glam::Vec2;
 
+use crate::coverage_table;
 use crate::random::Random;
 use crate::words::Words;
 
 const SEED: u64 = 0x636F_6D6D_6F6E;
+/// Of the second lines, so that all else is as it would be without them.
+const LINES_SEED: u64 = 0x6C69_6E65_73;
 const RECORDS: usize = 4096;
 
 pub struct Input {
@@ -39,13 +44,85 @@ const PARTS: [(Make, usize); 14] = [
     (parallel, 256),
 ];
 
-/// The same bytes at each call.
-pub fn bytes() -> Vec<u8> {
-    let mut words = Words::new();
-    for input in inputs(SEED) {
-        write_record(&mut words, &input);
-    }
-    words.into_bytes()
+/// An input, and the line that meets the one from a to b.
+struct Case {
+    input: Input,
+    start: Vec2,
+    end: Vec2,
+}
+
+type MakeLine = fn(&mut Random, &Input) -> [Vec2; 2];
+
+/// How second lines are made, by turns.
+const LINES: [MakeLine; 9] = [
+    |random, _| of_two(random, ordinary),
+    |random, _| of_two(random, small_whole),
+    |random, _| of_two(random, of_any_part),
+    |_, input| [input.a.perp(), input.b.perp()],
+    |_, input| [-input.a, -input.b],
+    |random, input| touching(random, input),
+    |random, input| beside(random, input),
+    |random, input| almost_parallel(random, input),
+    |random, input| through(random, input),
+];
+
+type Test = fn(Option<Vec2>) -> bool;
+
+const ROWS: [(&str, Test); 8] = [
+    ("parallel lines", |times| times.is_none()),
+    ("both times from 0 to 1", |times| {
+        times.is_some_and(|at| is_within(at.x) && is_within(at.y))
+    }),
+    ("a time of exactly 0", |times| {
+        some_time(times, |time| time == 0.0)
+    }),
+    ("a time of exactly 1", |times| {
+        some_time(times, |time| time == 1.0)
+    }),
+    ("a time below 0", |times| {
+        some_time(times, |time| time < 0.0)
+    }),
+    ("a time above 1", |times| {
+        some_time(times, |time| time > 1.0)
+    }),
+    ("an infinite time", |times| {
+        some_time(times, f32::is_infinite)
+    }),
+    ("a time that is a NaN", |times| {
+        some_time(times, f32::is_nan)
+    }),
+];
+
+fn is_within(time: f32) -> bool {
+    (0.0..=1.0).contains(&time)
+}
+
+fn some_time(times: Option<Vec2>, test: fn(f32) -> bool) -> bool {
+    times.is_some_and(|times| test(times.x) || test(times.y))
+}
+
+/// The same bytes at each call, and the table of what the meetings of lines cover.
+pub fn bytes() -> Result<(Vec<u8>, String), String> {
+    let mut random = Random::new(LINES_SEED);
+    let cases: Vec<Case> = inputs(SEED)
+        .into_iter()
+        .enumerate()
+        .map(|(place, input)| {
+            let [start, end] = LINES[place % LINES.len()](&mut random, &input);
+            Case { input, start, end }
+        })
+        .collect();
+    let table = coverage_table::of(
+        &cases,
+        ("Two lines", &[("in all", |_| true)]),
+        &ROWS,
+        |test, case| test(times(case)),
+    )?;
+    Ok((Words::of(&cases, write_record), table))
+}
+
+fn times(case: &Case) -> Option<Vec2> {
+    time_to_intersect_lines(case.input.a, case.input.b, case.start, case.end)
 }
 
 pub fn inputs(seed: u64) -> Vec<Input> {
@@ -60,8 +137,8 @@ pub fn inputs(seed: u64) -> Vec<Input> {
     inputs
 }
 
-fn write_record(words: &mut Words, input: &Input) {
-    let Input { a, b, k } = *input;
+fn write_record(words: &mut Words, case: &Case) {
+    let Input { a, b, k } = case.input;
     words.vector(a);
     words.vector(b);
     words.number(k);
@@ -77,6 +154,43 @@ fn write_record(words: &mut Words, input: &Input) {
     words.number(a.distance_squared(b));
     words.vector(a.normalize());
     words.word(u32::from(a == b));
+    words.vector(case.start);
+    words.vector(case.end);
+    let times = times(case);
+    words.word(u32::from(times.is_some()));
+    words.vector(times.unwrap_or(Vec2::ZERO));
+}
+
+fn of_two(random: &mut Random, draw: Draw) -> [Vec2; 2] {
+    [(); 2].map(|_| Vec2::new(draw(random), draw(random)))
+}
+
+/// One end is an end of the line from a to b.
+fn touching(random: &mut Random, input: &Input) -> [Vec2; 2] {
+    let end = random.pick(&[input.a, input.b]);
+    let [other, _] = of_two(random, small_whole);
+    random.pick(&[[end, other], [other, end]])
+}
+
+/// As far along, but for rounding; it may be the same line, or the line turned.
+fn beside(random: &mut Random, input: &Input) -> [Vec2; 2] {
+    let by = Vec2::new(random.whole(1), random.whole(1));
+    let (a, b) = (input.a + by, input.b + by);
+    random.pick(&[[a, b], [b, a]])
+}
+
+/// Beside it, with one end moved by as little as there is.
+fn almost_parallel(random: &mut Random, input: &Input) -> [Vec2; 2] {
+    let [start, end] = beside(random, input);
+    let x = random.pick(&[end.x.next_down(), end.x.next_up()]);
+    [start, Vec2::new(x, end.y)]
+}
+
+/// Across its middle.
+fn through(random: &mut Random, input: &Input) -> [Vec2; 2] {
+    let middle = (input.a + input.b) * 0.5;
+    let half = (input.b - input.a).perp() * random.within(2.0);
+    [middle - half, middle + half]
 }
 
 fn each(random: &mut Random, draw: Draw) -> Input {

@@ -19,6 +19,7 @@ mod scale;
 mod scene_vectors;
 mod scenes;
 mod speed;
+mod walls;
 mod words;
 mod writings;
 
@@ -28,9 +29,9 @@ use std::{env, fs};
 use scene_vectors::{failures, Set};
 
 const USAGE: &str = "usage: oracle self-check
-       oracle vectors common|lists|cuts|edges|failures FILE
+       oracle vectors common|lists|cuts|edges|failures|walls FILE
        oracle vectors scenes|bad_records|writings RECORDS ANSWERS
-       oracle lists|edges|failures SEED COUNT|SECONDSs FILE
+       oracle lists|edges|failures|walls SEED COUNT|SECONDSs FILE
        oracle scenes|writings SEED COUNT|SECONDSs RECORDS ANSWERS
        oracle agree ANSWERS OTHER_ANSWERS [SCENES]
        oracle answer SCENES ANSWERS
@@ -42,11 +43,12 @@ fn main() -> ExitCode {
     let arguments: Vec<&str> = arguments.iter().map(String::as_str).collect();
     let outcome = match arguments[..] {
         ["self-check"] => checks::run_all(),
-        ["vectors", "common", file] => write_file(file, &common_vectors::bytes()),
+        ["vectors", "common", file] => write_covered(file, common_vectors::bytes()),
         ["vectors", "lists", file] => write_covered(file, list_vectors::bytes()),
         ["vectors", "cuts", file] => write_covered(file, cut_vectors::bytes()),
         ["vectors", "edges", file] => write_covered(file, edge_vectors::bytes()),
         ["vectors", "failures", file] => write_covered(file, failures::bytes()),
+        ["vectors", "walls", file] => write_covered(file, walls::bytes()),
         ["vectors", "scenes", records, answers] => {
             write_set(records, answers, scene_vectors::set())
         }
@@ -63,6 +65,7 @@ fn main() -> ExitCode {
         ["failures", seed, until, file] => {
             scale::write([seed, until], &[file], failures::at_scale)
         }
+        ["walls", seed, until, file] => scale::write([seed, until], &[file], walls::at_scale),
         ["scenes", seed, until, scenes, answers] => {
             scale::write([seed, until], &[scenes, answers], scene_vectors::at_scale)
         }

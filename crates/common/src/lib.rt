@@ -1,7 +1,8 @@
-// Vectors of two f32, and their determinant (the Rust's common.rs, and of glam's Vec2 what its three files use).
+// Vectors of two f32, their determinant, and when two lines meet (the Rust's common.rs, and of glam's Vec2 what its three files use).
 // Each operation rounds once, in glam's order, with no fused multiply. Each answers for every f32, a NaN and the infinities too.
 ghost use mathlib.Core.Path.{_≡_};
 ghost use Rattle.common.specs.Vectors.{vec, addOf, subOf, negOf, mulOf, divOf, dotOf, perpOf, lengthSquaredOf, distanceSquaredOf, normalizeOf, eqOf, determinantOf};
+ghost use Rattle.common.specs.Meetings.{timesOf};
 
 pub struct Vec2 {
     pub x: f32,
@@ -13,6 +14,35 @@ pub fn determinant(a: Vec2, b: Vec2) -> f32
     ensures { λ r. ⌜ r ≡ determinantOf a b ⌝ }
 {
     a.x * b.y - a.y * b.x
+}
+
+// When two lines meet: the time along the first as x, along the second as y; or they are parallel.
+pub enum Times {
+    At(Vec2),
+    Parallel,
+}
+
+// The times along both lines at which they meet. They are lines, not segments: a time is any number, below 0 and above 1 too. Only a determinant of exactly 0,
+// of either sign, counts as parallel; where it is a NaN, both times are.
+pub fn time_to_intersect_lines(
+    line_1_start: Vec2,
+    line_1_end: Vec2,
+    line_2_start: Vec2,
+    line_2_end: Vec2,
+) -> Times
+    ensures { λ r. ⌜ r ≡ timesOf «line_1_start» «line_1_end» «line_2_start» «line_2_end» ⌝ }
+{
+    let relative_line_1_start = line_1_start.sub(line_2_start);
+    let line_1_delta = line_1_end.sub(line_1_start);
+    let line_2_delta = line_2_end.sub(line_2_start);
+    let matrix_determinant = determinant(line_2_delta, line_1_delta);
+    if matrix_determinant == 0.0 {
+        return Times::Parallel;
+    }
+    // the inverse of the line equation matrix
+    let along_1 = determinant(relative_line_1_start, line_2_delta);
+    let along_2 = determinant(relative_line_1_start, line_1_delta);
+    Times::At(Vec2::new(along_1, along_2).div(matrix_determinant))
 }
 
 impl Vec2 {

@@ -1,10 +1,10 @@
 -- What holds of lent obstacles that pass: every field is there, and the limits are kept. Assumes nothing.
-use Prim.Native.Nat.{ℕ, zero, suc, _+_, _*_, _≤_}
+use Prim.Native.Nat.{ℕ, zero, suc, _+_, _*_, _≤_, _<_}
 use native.Mathlib.Omega.{arith}
-use mathlib.Core.Path.{_≡_, sym}
+use mathlib.Core.Path.{_≡_, sym, _∙_}
 use mathlib.Core.List.{List, [], _∷_}
 use lib.Dec.{leb}
-use lib.ListN.{length, drop, length-drop}
+use lib.ListN.{length, drop, getD, length-drop}
 use lib.Ieee.{Float}
 use borrow.Author.Tests.{leb-true}
 use Rattle.admission.specs.Faults.{fine, must, _⊳_}
@@ -12,7 +12,7 @@ use Rattle.admission.proofs.FaultLaws.{no-fault, ⊳-fine, must-fine}
 use Rattle.obstacles.proofs.ObstacleFaults.{vertices-lent}
 use Rattle.dodgy_2d.specs.Scenes.{mostObstacles}
 use Rattle.layouts.specs.Layouts.{kindFault, countFault, ownKind, ownCount, ownFault, lentFault, layoutFault, vertexTotal, leftFault}
-use Rattle.layouts.proofs.LentInOrder.{count-room}
+use Rattle.layouts.proofs.LentInOrder.{count-room, front-of, own-room, own-there, here, lentLeft, lentLater, lent-more}
 
 -- ---- a field that passes is there
 
@@ -52,6 +52,16 @@ all-lent total (suc n) ks cs xs h e =
       vertices = omega (arith, rest .vertices, own, length-drop (2 * ownCount cs) xs);
       few = omega (arith, rest .few);
     }
+
+-- the obstacle at i, behind `total` vertices that are there: it has room for its vertices, they are there, and the obstacles behind it pass
+module _ (ks cs : List ℕ) (xs : List Float) (n i total : ℕ) where
+  pub next-passes : i < n → 2 * total ≤ length xs → lentLeft ks cs xs n i total ≡ fine
+      → (total + getD cs i 0 ≤ 192) × (2 * (total + getD cs i 0) ≤ length xs) × (lentLater ks cs xs n i total (getD cs i 0) ≡ fine)
+  next-passes h t e =
+      let both = ⊳-fine (here ks cs xs n i total) (sym (lent-more ks cs xs n i total h) ∙ e) in
+      let room = rw (front-of cs i) at (own-room total (drop i ks) (drop i cs) (drop (2 * total) xs) (both .0)) in
+      let there = rw (front-of cs i) at (own-there total (drop i ks) (drop i cs) xs t (both .0)) in
+      (room .1, there, both .1)
 
 -- an admitted layout with nothing left over is as long as its counts say
 pub record Exact (n : ℕ) (ks cs : List ℕ) (xs : List Float) : Type 0 where

@@ -51,7 +51,7 @@ front-of l i = getD-drop i l 0 0 ∙ rw add-zero
 
 -- ---- the obstacles from the i-th of n on, behind `total` vertices
 
-behind : (total count : ℕ) (xs : List Float) → drop (2 * count) (drop (2 * total) xs) ≡ drop (2 * (total + count)) xs
+pub behind : (total count : ℕ) (xs : List Float) → drop (2 * count) (drop (2 * total) xs) ≡ drop (2 * (total + count)) xs
 behind total count xs =
     let e : 2 * total + 2 * count ≡ 2 * (total + count) = omega arith in
     drop-drop (2 * count) (2 * total) xs ∙ ap (λ (k : ℕ). drop k xs) e
@@ -66,7 +66,7 @@ module _ (ks cs : List ℕ) (xs : List Float) (n i total : ℕ) where
   abbrev pub lentLater : ℕ → Fault
   lentLater count = lentFault (total + count) (n - (i + 1)) (drop (i + 1) ks) (drop (i + 1) cs) (drop (2 * (total + count)) xs)
 
-  lent-more : i < n → lentLeft ≡ (here ⊳ lentLater (getD cs i 0))
+  pub lent-more : i < n → lentLeft ≡ (here ⊳ lentLater (getD cs i 0))
   unfolding lentFault
   lent-more h =
       let e : n - i ≡ suc (n - (i + 1)) = omega arith in

@@ -38,7 +38,7 @@ more-few-admitted : (n m : ℕ) (a : Answer) → n ≤ m → FewAdmitted n a →
 more-few-admitted n m (refused r) h (refuses e) = refuses e
 more-few-admitted n m (lines ls) h (few-admitted few all) = few-admitted {ls = ls} (omega arith) all
 
-few-edges : (kind n : ℕ) → edgeCount kind n ≤ n
+pub few-edges : (kind n : ℕ) → edgeCount kind n ≤ n
 unfolding edgeCount
 few-edges kind n = if-all (λ (m : ℕ). m ≤ n) (eqb kind 2) (omega arith) (omega arith)
 

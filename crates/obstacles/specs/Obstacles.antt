@@ -1,7 +1,7 @@
 -- The lines of one obstacle: all its edges in order, alone and behind its faults (01, "Rules of the edges", "Refusal numbers"). Definitions only. Assumes nothing.
 use Prim.Native.Nat.{ℕ, zero, suc, _-_, _/_}
 use mathlib.Core.List.{List, [], _∷_, _++_}
-use lib.Dec.{eqb, leb}
+use lib.Dec.{eqb, leb, ltb}
 use lib.ListN.{length}
 use lib.Ieee.{Float}
 use Rattle.arithmetic.specs.Binary32.{if_then_else_}
@@ -12,6 +12,8 @@ use Rattle.admission.specs.Faults.{_⊳_, unlessFault}
 use Rattle.admission.specs.Heads.{headOf, openKind, mostVertices}
 use Rattle.edges.specs.declared.Agent.{Agent}
 use Rattle.edges.specs.Edges.{EdgeLine, nothing, made}
+use Rattle.obstacles.specs.declared.EdgeEnds.{EdgeEnds}
+use Rattle.obstacles.specs.declared.EdgeEnds.the-variants as ends
 use Rattle.obstacles.specs.ObstacleFaults.{agentFault, obstacleFault}
 use Rattle.obstacles.specs.Vertices.{verticesOf, edgeAt}
 use Rattle.edges.specs.EdgeLines.{lineForEdge}
@@ -51,6 +53,13 @@ linesUpTo agent kind n vs margin horizon (suc k) = addEdge agent kind n vs margi
 -- as many edges as vertices where the obstacle is closed, one less where it is open: "Closed with no vertices and open with one give no line"
 unfoldable pub edgeCount : ℕ → ℕ → ℕ
 edgeCount kind n = if eqb kind openKind then (n - 1) else n
+
+-- the ends of the edge from the vertex i to the next; or there is no such edge
+unfoldable pub endsOf : ℕ → List Float → ℕ → EdgeEnds
+endsOf kind xs i =
+    let n = length xs / 2 in
+    let edge = edgeAt kind n (verticesOf xs) i in
+    if ltb i (edgeCount kind n) then ends.Between (edge .left .point) (edge .right .point) else ends.Absent
 
 -- n is how many vertices there are
 unfoldable pub obstacleLines : Agent → ℕ → ℕ → List Vec2 → Float → Float → Answer

@@ -11,7 +11,7 @@ use lines::Line;
 ghost use mathlib.Core.Path.{_≡_};
 ghost use Rattle.admission.specs.Faults.{faultOf};
 ghost use Rattle.obstacles.specs.ObstacleFaults.{vectorFault, agentFault, headFault, verticesFault};
-ghost use Rattle.obstacles.specs.Obstacles.{linesAlone, obstacleCall};
+ghost use Rattle.obstacles.specs.Obstacles.{linesAlone, obstacleCall, endsOf};
 ghost use Rattle.obstacles.specs.Read.{answerAs};
 
 mod judge;
@@ -77,6 +77,26 @@ pub fn get_lines_alone(
         return obstacle::refused(4);
     }
     obstacle::lines_for_edges(agent, kind, vertices, margin, horizon)
+}
+
+// The ends of one edge, left and right; or the obstacle has no such edge.
+pub enum EdgeEnds {
+    Between(Vec2, Vec2),
+    Absent,
+}
+
+// The ends of the edge from a vertex to the next, for a caller that has judged the obstacle: numbers and kind are taken as `get_lines_alone` takes them.
+pub fn edge_ends(kind: u8, vertices: &[f32], left_index: usize) -> EdgeEnds
+    ensures { λ r. ⌜ r ≡ endsOf kind (now (vertices .entry)) «left_index» ⌝ }
+{
+    let count = vertices.len() / 2;
+    if left_index < obstacle::edge_count(kind, count) {
+        let right_index = vertices::next_index(count, left_index);
+        let left = vertices::vertex_at(vertices, left_index);
+        let right = vertices::vertex_at(vertices, right_index);
+        return EdgeEnds::Between(left, right);
+    }
+    EdgeEnds::Absent
 }
 
 // A vector of a cart: each component not finite or out of range (6).

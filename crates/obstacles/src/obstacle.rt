@@ -17,7 +17,7 @@ ghost use Rattle.obstacles.specs.Obstacles.{edgeCount, admitted, obstacl
 ghost use Rattle.obstacles.specs.Read.{admittedOf, blankNumbers, addedOf, answerAs};
 
 // As many edges as vertices where the obstacle is closed, one less where it is open.
-fn edge_count(kind: u8, count: usize) -> usize
+pub(crate) fn edge_count(kind: u8, count: usize) -> usize
     ensures { λ r. ⌜ (r ≡ edgeCount kind count) × (r ≤ count) ⌝ }
 {
     if kind != Head::OPEN {

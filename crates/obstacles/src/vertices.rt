@@ -10,7 +10,7 @@ ghost use lib.ListN.{length};
 ghost use Rattle.edges.specs.Read.{outerOf, edgeOf};
 ghost use Rattle.obstacles.specs.Vertices.{verticesOf, vertexAt, nextOf, previousOf, isEnd, convexAt, edgeVertexAt, outerAt, edgeAt};
 
-fn vertex_at(vertices: &[f32], i: usize) -> Vec2
+pub(crate) fn vertex_at(vertices: &[f32], i: usize) -> Vec2
     requires { ⌜ i < length (now vertices) / 2 ⌝ }
     ensures { λ r. ⌜ r ≡ vertexAt (verticesOf (now (vertices .entry))) i ⌝ }
 {
@@ -22,7 +22,7 @@ fn vertex_at(vertices: &[f32], i: usize) -> Vec2
 }
 
 // The index after one of `count` that wrap, and the index before it.
-fn next_index(count: usize, i: usize) -> usize
+pub(crate) fn next_index(count: usize, i: usize) -> usize
     requires { ⌜ i < count ⌝ }
     ensures { λ r. ⌜ (r ≡ nextOf count i) × (r < count) ⌝ }
 {

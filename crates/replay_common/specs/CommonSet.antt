@@ -1,12 +1,15 @@
 -- Records of the set `common`, by the definitions of the crate `common`. Definitions only. Assumes nothing.
 use Prim.Native.Nat.{ℕ}
-use mathlib.Core.Bool.{Bool, _&&_}
+use mathlib.Core.Bool.{Bool, true, false, _&&_}
 use mathlib.Core.List.{List}
 use lib.ListN.{length}
 use lib.Dec.{leb}
 use lib.Ieee.{Float}
 use Rattle.common.specs.declared.Vec2.{Vec2}
-use Rattle.common.specs.Vectors.{addOf, subOf, negOf, mulOf, divOf, dotOf, perpOf, lengthSquaredOf, distanceSquaredOf, normalizeOf, eqOf, determinantOf}
+use Rattle.common.specs.declared.Times.{Times}
+use Rattle.common.specs.declared.Times.the-variants as times
+use Rattle.common.specs.Meetings.{timesOf}
+use Rattle.common.specs.Vectors.{zeroVector, addOf, subOf, negOf, mulOf, divOf, dotOf, perpOf, lengthSquaredOf, distanceSquaredOf, normalizeOf, eqOf, determinantOf}
 use Rattle.replay_records.specs.Answers.{numberAt, vectorAt, isNumber, isVector, isFlag}
 
 -- whether the record's answers of the operators are those of the definitions: a + b, a - b, -a, a * k, a / k, a == b
@@ -29,9 +32,15 @@ functionsAgree s a b =
     && isNumber s 80 (distanceSquaredOf a b)
     && isVector s 84 (normalizeOf a)
 
+-- and those of the two lines: a flag and the times, zeros where they are parallel
+unfoldable pub isTimes : List ℕ → Times → Bool
+isTimes s (times.At t) = isFlag s 112 true && isVector s 116 t
+isTimes s times.Parallel = isFlag s 112 false && isVector s 116 zeroVector
+
 -- whether the record is whole and all agree, with a, b and k at its start
 unfoldable pub isReplayed : List ℕ → Bool
 isReplayed s =
-    leb 96 (length s)
+    leb 124 (length s)
     && (operatorsAgree s (vectorAt s 0) (vectorAt s 8) (numberAt s 16)
-    && functionsAgree s (vectorAt s 0) (vectorAt s 8))
+    && functionsAgree s (vectorAt s 0) (vectorAt s 8)
+    && isTimes s (timesOf (vectorAt s 0) (vectorAt s 8) (vectorAt s 96) (vectorAt s 104)))

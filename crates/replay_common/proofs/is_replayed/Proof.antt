@@ -13,15 +13,19 @@ returns-2 : tie.Need-returns-2
 unfolding isReplayed
 returns-2 c =
     simp (
-      ← c .functions-agree .ensures,
-      ← c .before .operators-agree .ensures,
-      ← c .before .before .number-at .ensures,
-      ← c .before .before .before .vector-at2 .ensures,
-      ← c .before .before .before .before .vector-at .ensures,
-      le-leb _ _ (c .before .before .before .before .before .if1 .left),
+      ← c .is-times .ensures,
+      ← c .before .functions-agree .ensures,
+      ← c .before .before .operators-agree .ensures,
+      ← c .before .before .before .time-to-intersect-lines .ensures,
+      ← c .before .before .before .before .vector-at4 .ensures,
+      ← c .before .before .before .before .before .vector-at3 .ensures,
+      ← c .before .before .before .before .before .before .number-at .ensures,
+      ← c .before .before .before .before .before .before .before .vector-at2 .ensures,
+      ← c .before .before .before .before .before .before .before .before .vector-at .ensures,
+      le-leb _ _ (c .before .before .before .before .before .before .before .before .before .if1 .left),
     )
 
 pub is-replayed-spec : {M : Type 1} → statement M
 is-replayed-spec =
     tie.close (tie.spec returns (λ c κs. search needs) (λ c κs. search needs) (λ c κs. search needs) (λ c κs. search needs) (λ c κs. search needs)
-    returns-2)
+    (λ c κs. search needs) (λ c κs. search needs) (λ c κs. search needs) (λ c κs. search needs) returns-2)

@@ -6,7 +6,7 @@ use Rattle.replay_common.proofs.walked.Statement.{statement}
 use Rattle.replay_common.proofs.walked.Tie as tie
 
 abbrev Inv-loop : tie.InvT-loop
-Inv-loop walk₀ head₀ walk head = length head ≡ 96
+Inv-loop walk₀ head₀ walk head = length head ≡ 124
 
 abbrev μ-loop : tie.MeasureT-loop
 μ-loop walk₀ head₀ walk head = walk .left
