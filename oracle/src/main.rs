@@ -12,6 +12,7 @@ mod encounters;
 mod lent;
 mod line_lists;
 mod list_vectors;
+mod moves;
 mod plain_answers;
 mod random;
 mod records;
@@ -30,13 +31,14 @@ use scene_vectors::{failures, Set};
 
 const USAGE: &str = "usage: oracle self-check
        oracle vectors common|lists|cuts|edges|failures|walls FILE
-       oracle vectors scenes|bad_records|writings RECORDS ANSWERS
+       oracle vectors scenes|bad_records|writings|moves RECORDS ANSWERS
        oracle lists|edges|failures|walls SEED COUNT|SECONDSs FILE
-       oracle scenes|writings SEED COUNT|SECONDSs RECORDS ANSWERS
+       oracle scenes|writings|moves SEED COUNT|SECONDSs RECORDS ANSWERS
        oracle agree ANSWERS OTHER_ANSWERS [SCENES]
        oracle answer SCENES ANSWERS
        oracle speed FEED FOLDER
-       oracle written_again SCENES";
+       oracle written_again SCENES
+       oracle moved_again SCENES RECORDS ANSWERS";
 
 fn main() -> ExitCode {
     let arguments: Vec<String> = env::args().skip(1).collect();
@@ -56,6 +58,7 @@ fn main() -> ExitCode {
             write_set(records, answers, bad_records::set())
         }
         ["vectors", "writings", records, answers] => write_set(records, answers, writings::set()),
+        ["vectors", "moves", records, answers] => write_set(records, answers, moves::set()),
         ["lists", seed, until, file] => {
             scale::write([seed, until], &[file], list_vectors::at_scale)
         }
@@ -72,11 +75,17 @@ fn main() -> ExitCode {
         ["writings", seed, until, calls, answers] => {
             scale::write([seed, until], &[calls, answers], writings::at_scale)
         }
+        ["moves", seed, until, calls, answers] => {
+            scale::write([seed, until], &[calls, answers], moves::at_scale)
+        }
         ["agree", answers, others] => agree::compare_files(answers, others, None),
         ["agree", answers, others, scenes] => agree::compare_files(answers, others, Some(scenes)),
         ["answer", scenes, answers] => plain_answers::write_file(scenes, answers),
         ["speed", feed, room] => speed::measure(feed, room),
         ["written_again", scenes] => writings::written_again(scenes),
+        ["moved_again", scenes, calls, answers] => {
+            write_set(calls, answers, moves::moved_again(scenes))
+        }
         _ => Err(USAGE.to_string()),
     };
     match outcome {

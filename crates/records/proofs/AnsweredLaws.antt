@@ -11,12 +11,11 @@ use Rattle.arithmetic.proofs.Choice.{if-all}
 use Rattle.admission.specs.declared.Judged.the-variants as judged
 use Rattle.admission.specs.Faults.{Fault, fine, fault, faultOf}
 use Rattle.admission.proofs.FaultLaws.{no-fault}
-use Rattle.dodgy_2d.specs.declared.Scene.{Scene}
 use Rattle.dodgy_2d.specs.Outcomes.{sceneOutcome}
 use Rattle.fields.specs.Bytes.{bigEndian}
 use Rattle.fields.specs.Got.{Got, refused, got}
-use Rattle.scene_records.specs.declared.SceneRead.{SceneRead}
-use Rattle.scene_records.specs.Records.{readAs}
+use Rattle.scene_records.specs.declared.NumberedScene.{NumberedScene}
+use Rattle.scene_records.specs.Versions.{Numbered, sceneIn, numberedAs}
 use Rattle.answer_records.specs.Answers.{longestAnswer, answerBytes, refusalBytes, Written, written, laid}
 use Rattle.answer_records.proofs.WrittenLaws.{laid-there}
 use Rattle.records.specs.Answered.{Answered, answer, refusal, ofOutcome, ofReading, answered, laidAnswer, answerTo, replyBytes, replyTo}
@@ -24,14 +23,14 @@ use Rattle.records.specs.Steps.{put, putAt}
 
 -- ---- the reader's promise
 
-pub read-refused : (g : Got Scene) (r : SceneRead) (n : ℕ) → r ≡ readAs g → r .judged ≡ judged.Fault n → ofReading g ≡ refusal n
+pub read-refused : (g : Got Numbered) (r : NumberedScene) (n : ℕ) → r ≡ numberedAs g → r .judged ≡ judged.Fault n → ofReading g ≡ refusal n
 read-refused (refused m) r n e j =
     cc
-read-refused (got s at) r n e j = absurd (no-fault n (ap faultOf (sym (ap (λ (x : SceneRead). x .judged) e) ∙ j)))
+read-refused (got s at) r n e j = absurd (no-fault n (ap faultOf (sym (ap (λ (x : NumberedScene). x .judged) e) ∙ j)))
 
-pub read-solved : (g : Got Scene) (r : SceneRead) → r ≡ readAs g → r .judged ≡ judged.Fine → ofReading g ≡ ofOutcome (sceneOutcome (r .scene))
-read-solved (refused m) r e j = absurd (no-fault m (ap faultOf (sym j ∙ ap (λ (x : SceneRead). x .judged) e)))
-read-solved (got s at) r e j = ap (λ (x : SceneRead). ofOutcome (sceneOutcome (x .scene))) (sym e)
+pub read-solved : (g : Got Numbered) (r : NumberedScene) → r ≡ numberedAs g → r .judged ≡ judged.Fine → ofReading g ≡ ofOutcome (sceneOutcome (r .scene))
+read-solved (refused m) r e j = absurd (no-fault m (ap faultOf (sym j ∙ ap (λ (x : NumberedScene). x .judged) e)))
+read-solved (got x at) r e j = ap (λ (y : NumberedScene). ofOutcome (sceneOutcome (y .scene))) (sym e)
 
 -- ---- the first fault
 

@@ -12,3 +12,4 @@ pub mod TurnLaws
 pub mod Agreement
 pub mod RefusalLaws
 pub mod OutcomeLaws
+pub mod NumberLaws

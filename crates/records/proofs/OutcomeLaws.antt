@@ -19,8 +19,8 @@ use Rattle.dodgy_2d.specs.Outcomes.{outcome, passAt, atRest, firstPass, secondP
 use Rattle.dodgy_2d.proofs.ScenePasses.{pass-fits}
 use Rattle.dodgy_2d.proofs.SceneTold.{Told, answered, scene-told}
 use Rattle.fields.specs.Got.{got}
-use Rattle.scene_records.specs.Records.{sceneInVersion1}
-use Rattle.scene_records.proofs.ReadAdmitted.{read-admitted-version-1}
+use Rattle.scene_records.specs.Versions.{Numbered, sceneIn}
+use Rattle.scene_records.proofs.ReadAdmitted.{read-admitted}
 use Rattle.answer_records.specs.Replies as said
 use Rattle.answer_records.specs.Replies.{answerIn}
 use Rattle.answer_records.proofs.RoundTrips.{Fits, outcome-read-back}
@@ -84,12 +84,12 @@ told-code : {c : Scene} {code : ℕ} {p : Vec2} {f : Failed} {n : ℕ} → Told 
 told-code (answered h) = h
 
 -- Where a record is read and its scene solved, the answer reader reads that outcome.
-pub outcome-taken : (s : List ℕ) (c : Scene) (m code : ℕ) (p : Vec2) (f : Failed) (n : ℕ) → sceneInVersion1 s ≡ got c m → sceneOutcome c ≡ outcome code p f n
+pub outcome-taken : (s : List ℕ) (x : Numbered) (m code : ℕ) (p : Vec2) (f : Failed) (n : ℕ) → sceneIn s ≡ got x m → sceneOutcome (x .scene) ≡ outcome code p f n
     → answerIn (one.replyTo s) ≡ said.outcome (one.answerOf code p f n)
 unfolding one.replyTo one.answered
-outcome-taken s c m code p f n z e =
-    let number = told-code (rw e at (scene-told c)) in
-    let few = probes-few c (read-admitted-version-1 s c m z) code p f n e in
+outcome-taken s x m code p f n z e =
+    let number = told-code (rw e at (scene-told (x .scene))) in
+    let few = probes-few (x .scene) (read-admitted s x m z) code p f n e in
     let numbers : Fits (one.answerOf code p f n) = record {
       least = number .0;
       most = number .1;

@@ -9,15 +9,15 @@ use borrow.Author.Tests.{ltb-true, ltb-false, eqb-true, eqb-false, lt-ltb, le-lt
 use Rattle.arithmetic.specs.Binary32.{if_then_else_}
 use Rattle.arithmetic.proofs.Choice.{if-case}
 use Rattle.words.specs.Words.{pairOf}
-use Rattle.scene_records.specs.Records.{longestRest}
+use Rattle.scene_records.specs.Versions.{longestEither}
 use Rattle.records.specs.Parts.{Part, skipped, overlong, whole, cutShort, skippedOf, partIn}
 
 -- how many bytes a part of l takes; where there is none, l is shorter than the longest record
 pub data Lies (skip : ℕ) (l : List ℕ) : Part → Type 0 where
   skips : {k : ℕ} → 1 ≤ k → k ≤ skip → k ≤ length l → Lies skip l (skipped k)
-  names : {n : ℕ} → skip ≤ 0 → 2 ≤ length l → longestRest < n → n ≡ pairOf l 0 → Lies skip l (overlong n)
-  holds : {k : ℕ} → skip ≤ 0 → 2 ≤ k → k ≤ 2 + longestRest → k ≤ length l → k ≡ 2 + pairOf l 0 → Lies skip l (whole k)
-  none : length l ≤ 1 + longestRest → Lies skip l cutShort
+  names : {n : ℕ} → skip ≤ 0 → 2 ≤ length l → longestEither < n → n ≡ pairOf l 0 → Lies skip l (overlong n)
+  holds : {k : ℕ} → skip ≤ 0 → 2 ≤ k → k ≤ 2 + longestEither → k ≤ length l → k ≡ 2 + pairOf l 0 → Lies skip l (whole k)
+  none : length l ≤ 1 + longestEither → Lies skip l cutShort
 
 pub lies : (skip : ℕ) (l : List ℕ) → Lies skip l (partIn skip l)
 unfolding partIn skippedOf
@@ -28,9 +28,9 @@ lies skip l =
     (λ t. skips (omega (arith, eqb-false (length l) 0 e)) (omega (arith, ltb-true (length l) skip t)) (omega arith))
     (λ t. skips (omega (arith, ltb-true 0 skip some)) (omega arith) (omega (arith, ltb-false (length l) skip t)))))
     (λ done. if-case (Lies skip l) (ltb (length l) 2) (λ t. none (omega (arith, ltb-true (length l) 2 t)))
-    (λ two. if-case (Lies skip l) (ltb longestRest (pairOf l 0)) (λ t. names (ltb-false 0 skip done) (ltb-false (length l) 2 two) (ltb-true longestRest (pairOf l 0) t) refl)
-    (λ t. if-case (Lies skip l) (ltb (length l) (2 + pairOf l 0)) (λ u. none (omega (arith, ltb-false longestRest (pairOf l 0) t, ltb-true (length l) (2 + pairOf l 0) u)))
-    (λ u. holds (ltb-false 0 skip done) (omega arith) (omega (arith, ltb-false longestRest (pairOf l 0) t)) (ltb-false (length l) (2 + pairOf l 0) u) refl))))
+    (λ two. if-case (Lies skip l) (ltb longestEither (pairOf l 0)) (λ t. names (ltb-false 0 skip done) (ltb-false (length l) 2 two) (ltb-true longestEither (pairOf l 0) t) refl)
+    (λ t. if-case (Lies skip l) (ltb (length l) (2 + pairOf l 0)) (λ u. none (omega (arith, ltb-false longestEither (pairOf l 0) t, ltb-true (length l) (2 + pairOf l 0) u)))
+    (λ u. holds (ltb-false 0 skip done) (omega arith) (omega (arith, ltb-false longestEither (pairOf l 0) t)) (ltb-false (length l) (2 + pairOf l 0) u) refl))))
 
 -- the same of a part that is known
 pub skip-lies : {skip k : ℕ} {l : List ℕ} → Lies skip l (skipped k) → (1 ≤ k) × (k ≤ skip) × (k ≤ length l)
@@ -63,11 +63,11 @@ module _ (skip : ℕ) (a b : List ℕ) where
   unfolding partIn if_then_else_
   overlong-stays {n} (names z two far e) =
       let more : 2 ≤ length (a ++ b) = rw length-append (omega arith) in
-      rw (le-ltb 0 skip z, le-ltb (length (a ++ b)) 2 more, same-length-field a b two, ← e, lt-ltb longestRest n far)
+      rw (le-ltb 0 skip z, le-ltb (length (a ++ b)) 2 more, same-length-field a b two, ← e, lt-ltb longestEither n far)
 
   pub whole-stays : {k : ℕ} → Lies skip a (whole k) → partIn skip (a ++ b) ≡ whole k
   unfolding partIn if_then_else_
   whole-stays {k} (holds z two near there e) =
       let more : k ≤ length (a ++ b) = rw length-append (omega arith) in
-      let low : pairOf a 0 ≤ longestRest = omega arith in
-      rw (le-ltb 0 skip z, le-ltb (length (a ++ b)) 2 (omega arith), same-length-field a b (omega arith), le-ltb longestRest (pairOf a 0) low, ← e, le-ltb (length (a ++ b)) k more)
+      let low : pairOf a 0 ≤ longestEither = omega arith in
+      rw (le-ltb 0 skip z, le-ltb (length (a ++ b)) 2 (omega arith), same-length-field a b (omega arith), le-ltb longestEither (pairOf a 0) low, ← e, le-ltb (length (a ++ b)) k more)

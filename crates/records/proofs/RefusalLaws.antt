@@ -20,10 +20,13 @@ use Rattle.dodgy_2d.specs.Scenes.{sceneFault}
 use Rattle.dodgy_2d.specs.Outcomes.{SceneOutcome, outcome, refusedScene, sceneOutcome}
 use Rattle.dodgy_2d.proofs.SceneTold.{Told, answered, at-fault, by-edge, by-edge-at-rest, scene-told}
 use Rattle.fields.specs.Got.{Got, refused, got, then, guard, word, many}
-use Rattle.scene_records.specs.Steps.{version, count, number, vector, ended}
-use Rattle.scene_records.specs.Parts.{cart, head, verticesAt, obstacle, obstacles, neighbour, neighbours}
-use Rattle.scene_records.specs.Records.{longestRest, announced, fieldsIn, sceneInVersion1}
-use Rattle.scene_records.proofs.ReadAdmitted.{read-admitted-version-1}
+use Rattle.scene_records.specs.Steps.{count, number, vector, ended}
+use Rattle.scene_records.specs.declared.Version.{Version}
+use Rattle.scene_records.specs.declared.Version.the-variants.{One, Two}
+use Rattle.scene_records.specs.Parts.{cart, head, verticesAt, obstacle, obstacles, neighbour}
+use Rattle.scene_records.specs.Records.{announced}
+use Rattle.scene_records.specs.Versions.{longestEither, longestOf, isEither, eitherVersion, lineNumber, numberedLine, numberedLines, fieldsWith, behindVersion, Numbered as NumberedSceneRead, sceneIn}
+use Rattle.scene_records.proofs.ReadAdmitted.{read-admitted}
 use Rattle.answer_records.specs.Replies as said
 use Rattle.answer_records.specs.Replies.{answerIn}
 use Rattle.answer_records.proofs.RoundTrips.{refusal-read-back}
@@ -96,9 +99,18 @@ module _ (s : List ℕ) where
   unfolding obstacles
   obstacles-numbered n at = many-numbered _ _ obstacle-numbered n 0 at
 
-  neighbours-numbered : (n at : ℕ) → NumberedReading (neighbours s n at)
-  unfolding neighbours
-  neighbours-numbered n at = many-numbered _ _ (λ u. neighbour-numbered) n tt at
+  line-number-numbered : (v : Version) (at : ℕ) → NumberedReading (lineNumber v s at)
+  unfolding lineNumber
+  line-number-numbered One at = read
+  line-number-numbered Two at = word-numbered 4 at
+
+  line-numbered : (v : Version) (at : ℕ) → NumberedReading (numberedLine v s at)
+  unfolding numberedLine
+  line-numbered v at = then-numbered (lineNumber v s at) _ (line-number-numbered v at) λ n a. then-numbered (neighbour s a) _ (neighbour-numbered a) λ l b. read
+
+  lines-numbered : (v : Version) (n at : ℕ) → NumberedReading (numberedLines v s n at)
+  unfolding numberedLines
+  lines-numbered v n at = many-numbered _ _ (λ u. line-numbered v) n tt at
 
   cart-numbered : (at : ℕ) → NumberedReading (cart s at)
   unfolding cart
@@ -110,23 +122,24 @@ module _ (s : List ℕ) where
       then-numbered _ _ (vector-numbered _ d) λ w e.
       then-numbered _ _ (number-numbered _ e) λ l f. read
 
-  scene-numbered : NumberedReading (sceneInVersion1 s)
-  unfolding sceneInVersion1 announced fieldsIn version ended
+  scene-numbered : NumberedReading (sceneIn s)
+  unfolding sceneIn announced eitherVersion behindVersion fieldsWith ended
   scene-numbered =
-      then-numbered (announced s) _
-      (then-numbered (word 2 s 0) _ (word-numbered 2 0) λ n a. guard-numbered (leb n longestRest) 4 _ refl (guard-numbered (eqb n (length s - 2)) 2 _ refl read))
+      then-numbered (announced longestEither s) _
+      (then-numbered (word 2 s 0) _ (word-numbered 2 0) λ n a. guard-numbered (leb n longestEither) 4 _ refl (guard-numbered (eqb n (length s - 2)) 2 _ refl read))
       λ u a.
-      then-numbered (version s a) _ (byte-numbered a _ λ v b. guard-numbered (eqb v 1) 1 _ refl read) λ v b.
+      then-numbered (eitherVersion s a) _ (byte-numbered a _ λ v b. guard-numbered (isEither v) 1 _ refl read) λ v b.
+      guard-numbered (leb (length s - 2) (longestOf v)) 4 _ refl (
       then-numbered (cart s b) _ (cart-numbered b) λ c d.
       then-numbered (count 16 s d) _ (count-numbered 16 d) λ n e.
       then-numbered (obstacles s n 0 e) _ (obstacles-numbered n e) λ os f.
       then-numbered (count 64 s f) _ (count-numbered 64 f) λ m g.
-      then-numbered (neighbours s m g) _ (neighbours-numbered m g) λ ls h.
-      then-numbered (ended s h) _ (guard-numbered (eqb h (length s)) 2 _ refl read) λ w i. read
+      then-numbered (numberedLines v s m g) _ (lines-numbered v m g) λ ls h.
+      then-numbered (ended s h) _ (guard-numbered (eqb h (length s)) 2 _ refl read) λ w i. read)
 
 -- ---- a record's
 
-refused-numbered : {r : ℕ} → NumberedReading {A = Scene} (refused r) → Numbered r
+refused-numbered : {r : ℕ} → NumberedReading {A = NumberedSceneRead} (refused r) → Numbered r
 refused-numbered (told h) = h
 
 same-number : (m r : ℕ) → one.refusal m ≡ one.refusal r → m ≡ r
@@ -138,15 +151,15 @@ solve-numbered c f (refusedScene m) (at-fault g) r e = absurd (no-fault m (sym f
 solve-numbered c f (refusedScene m) (by-edge nine g h) r e = rw (← same-number m r e, nine)
 solve-numbered c f (refusedScene m) (by-edge-at-rest nine g h) r e = rw (← same-number m r e, nine)
 
-reading-numbered : (s : List ℕ) (g : Got Scene) → sceneInVersion1 s ≡ g → NumberedReading g → (r : ℕ) → one.ofReading g ≡ one.refusal r → Numbered r
+reading-numbered : (s : List ℕ) (g : Got NumberedSceneRead) → sceneIn s ≡ g → NumberedReading g → (r : ℕ) → one.ofReading g ≡ one.refusal r → Numbered r
 reading-numbered s (refused m) z h r e = rw (← same-number m r e) (refused-numbered h)
-reading-numbered s (got c m) z h r e = solve-numbered c (read-admitted-version-1 s c m z) (sceneOutcome c) (scene-told c) r e
+reading-numbered s (got x m) z h r e = solve-numbered (x .scene) (read-admitted s x m z) (sceneOutcome (x .scene)) (scene-told (x .scene)) r e
 
 -- A record's refusal has a number from 1 to 10 ..
 pub refusal-numbered : (s : List ℕ) (r : ℕ) → one.answered s ≡ one.refusal r → (1 ≤ r) × (r ≤ 10)
 unfolding one.answered
 refusal-numbered s r e =
-    let h = reading-numbered s (sceneInVersion1 s) refl (scene-numbered s) r e in
+    let h = reading-numbered s (sceneIn s) refl (scene-numbered s) r e in
     (leb-true 1 r (and-left (leb 1 r) (leb r 10) h), leb-true r 10 (and-right (leb 1 r) (leb r 10) h))
 
 -- .. and the answer reader takes the reply.

@@ -7,13 +7,13 @@ use lib.ListN.{length, take, drop, length-drop}
 use lib.Seq.{length-take-le}
 use borrow.Author.Tests.{le-leb}
 use Rattle.arithmetic.specs.Binary32.{if_then_else_}
-use Rattle.dodgy_2d.specs.declared.Scene.{Scene}
 use Rattle.dodgy_2d.specs.Outcomes.{sceneOutcome}
 use Rattle.fields.specs.Bytes.{bigEndian}
 use Rattle.fields.specs.Got.{Got, refused, got}
 use Rattle.fields.proofs.Spans.{word-fits}
-use Rattle.scene_records.specs.Records.{sceneInVersion1}
-use Rattle.scene_records.proofs.Taken.{number-taken, vector-taken, cart-taken, fields-taken, scene-taken-version-1}
+use Rattle.scene_records.specs.Versions.{Numbered, sceneMade, sceneIn}
+use Rattle.scene_records.proofs.Taken.{number-taken, vector-taken, cart-taken, numbered-taken, record-taken}
+use Rattle.scene_records.proofs.VersionLaws.{either-taken}
 use Rattle.answer_records.specs.Answers.{longestAnswer, refusalBytes}
 use Rattle.records.specs.Answered.{ofOutcome, ofReading, answered, replyBytes, replyTo}
 use Rattle.records.specs.Parts.{Part, skipped, overlong, whole, cutShort, partIn}
@@ -25,26 +25,27 @@ use Rattle.records.proofs.StepLaws.{reply-bytes}
 -- ---- a record that is read has many bytes
 
 -- the length, the version and the position alone
-accepted-long : (s : List ℕ) (c : Scene) (m : ℕ) → sceneInVersion1 s ≡ got c m → 9 ≤ length s
+accepted-long : (s : List ℕ) (c : Numbered) (m : ℕ) → sceneIn s ≡ got c m → 9 ≤ length s
 accepted-long s c m e =
-    scene-taken-version-1 s c m e λ n named near match fields.
-    fields-taken s 2 c m fields λ a b d f g x os ls version cart _ _ _ _ _ _ _ _.
-    cart-taken s a x b cart λ a′ _ _ _ _ p _ _ _ _ _ position _ _ _ _ _ _.
-    vector-taken s _ a p a′ position λ k first second.
-    number-taken s _ a (p .x) k first λ bits first-word _ _.
+    either-taken s c m e λ v e′.
+    record-taken s sceneMade v c m e′ λ n named match near version fits fields.
+    numbered-taken s sceneMade v 3 c m fields λ b d f g x os ls cart _ _ _ _ _ _ _ _.
+    cart-taken s 3 x b cart λ a′ _ _ _ _ p _ _ _ _ _ position _ _ _ _ _ _.
+    vector-taken s _ 3 p a′ position λ k first second.
+    number-taken s _ 3 (p .x) k first λ bits first-word _ _.
     number-taken s _ k (p .y) a′ second λ bits′ second-word _ _.
-    omega (arith, word-fits s 1 2 1 a version, word-fits s 4 a bits k first-word, word-fits s 4 k bits′ a′ second-word)
+    omega (arith, word-fits s 4 3 bits k first-word, word-fits s 4 k bits′ a′ second-word)
 
 -- ---- an answer has at most two bytes for each of its record
 
-reading-sparing : (b : List ℕ) (g : Got Scene) → sceneInVersion1 b ≡ g → 2 ≤ length b → length (replyBytes (ofReading g)) ≤ 2 * length b
+reading-sparing : (b : List ℕ) (g : Got Numbered) → sceneIn b ≡ g → 2 ≤ length b → length (replyBytes (ofReading g)) ≤ 2 * length b
 unfolding refusalBytes bigEndian
 reading-sparing b (refused r) e h = omega arith
-reading-sparing b (got c m) e h = omega (arith, accepted-long b c m e, reply-bytes (ofOutcome (sceneOutcome c)))
+reading-sparing b (got c m) e h = omega (arith, accepted-long b c m e, reply-bytes (ofOutcome (sceneOutcome (c .scene))))
 
 reply-sparing : (b : List ℕ) → 2 ≤ length b → length (replyTo b) ≤ 2 * length b
 unfolding replyTo answered
-reply-sparing b h = reading-sparing b (sceneInVersion1 b) refl h
+reply-sparing b h = reading-sparing b (sceneIn b) refl h
 
 -- ---- room enough
 

@@ -9,7 +9,7 @@ use Rattle.arithmetic.specs.Binary32.{if_then_else_}
 use Rattle.arithmetic.proofs.Choice.{if-all}
 use Rattle.answer_records.specs.Answers.{refusalBytes}
 use Rattle.records.specs.Answered.{replyTo}
-use Rattle.scene_records.specs.Records.{longestRest}
+use Rattle.scene_records.specs.Versions.{longestEither}
 use Rattle.records.specs.Parts.{Part, skipped, overlong, whole, cutShort, partIn}
 use Rattle.records.specs.Streams.{Room, unlimited, hasRoom, less, Worked, stopped, after, onward, parts, worked, lastAnswer, ended, answersFrom, answersTo}
 use Rattle.records.specs.Turns.{run, joined}
@@ -62,14 +62,14 @@ module _ (skip : ℕ) (l : List ℕ) (still : worked unlimited skip l ≡ stoppe
   unmoved : (q : Part) → partIn skip l ≡ q → onward worked unlimited skip l q .used ≡ 0
   unmoved q e = ap (λ (w : Worked). w .used) (ap (onward worked unlimited skip l) (sym e) ∙ sym (work-freely skip l) ∙ still)
 
-  few-left : (q : Part) → Lies skip l q → partIn skip l ≡ q → length l ≤ 1 + longestRest
+  few-left : (q : Part) → Lies skip l q → partIn skip l ≡ q → length l ≤ 1 + longestEither
   few-left (skipped k) (skips one fits there) e = absurd (omega (arith, unmoved (skipped k) e))
   few-left (overlong n) (names z two far f) e = absurd (omega (arith, unmoved (overlong n) e))
   few-left (whole k) (holds z two near there f) e = absurd (omega (arith, unmoved (whole k) e))
   few-left cutShort (none few) e = few
 
 -- What the work leaves is shorter than the longest record: 2,632 bytes at most are kept for the next read.
-pub kept-short : (skip : ℕ) (a : List ℕ) → length (drop (worked unlimited skip a .used) a) ≤ 1 + longestRest
+pub kept-short : (skip : ℕ) (a : List ℕ) → length (drop (worked unlimited skip a .used) a) ≤ 1 + longestEither
 kept-short skip a =
     let s = worked unlimited skip a .skip in
     let l = drop (worked unlimited skip a .used) a in

@@ -22,7 +22,7 @@ use Rattle.records.specs.declared.Stream.{Stream}
 use Rattle.records.specs.Steps.{Put, put, putAt}
 use Rattle.records.specs.Streams.{unlimited, Worked, worked, Standing, standing, standingBy, workedOver, lastAnswer}
 use Rattle.records.specs.Turns.{Turned, goingOn, turned, Lent, lent, lentBy, hasRoomFor, closed, turnOver, Ready, Follows}
-use Rattle.scene_records.specs.Records.{longestRest}
+use Rattle.scene_records.specs.Versions.{longestEither}
 use Rattle.records.proofs.RunLaws.{used-within, kept-short}
 use Rattle.records.proofs.RoomLaws.{room-enough}
 
@@ -126,9 +126,9 @@ module _ (input output : List ℕ) (before : Stream) (read : ℕ) where
 -- the answers fit the output, and fewer bytes are kept than the longest record has
 record Told (l : Lent) : Type 0 where
   pub fits : l .turn .put ≤ length (l .output)
-  pub short : l .turn .kept ≤ 1 + longestRest
+  pub short : l .turn .kept ≤ 1 + longestEither
 
-turned-short : (kept : List ℕ) (skip : ℕ) (read : List ℕ) → length (turned kept skip read .kept) ≤ 1 + longestRest
+turned-short : (kept : List ℕ) (skip : ℕ) (read : List ℕ) → length (turned kept skip read .kept) ≤ 1 + longestEither
 turned-short kept skip [] = omega arith
 turned-short kept skip (b ∷ read) = kept-short skip (kept ++ (b ∷ read))
 
@@ -144,7 +144,7 @@ module _ (input output held out : List ℕ) (before t : Stream) (read : ℕ) (e 
   pub put-fits : t .put ≤ length out
   put-fits = rw (← e) at (told input output before read) .fits
 
-  pub keeps-few : t .kept ≤ 1 + longestRest
+  pub keeps-few : t .kept ≤ 1 + longestEither
   keeps-few = rw (← e) at (told input output before read) .short
 
 -- ---- a turn of a program

@@ -1,4 +1,4 @@
--- One scene record answered, from bytes to bytes (01, "Records (ours)"). Definitions only. Assumes nothing.
+-- One scene record of either version answered, from bytes to bytes (01, "Records (ours)"; 02, T-07). Definitions only. Assumes nothing.
 use Prim.Native.Nat.{ℕ, _%_, _^_}
 use mathlib.Core.List.{List}
 use lib.Dec.{leb}
@@ -8,10 +8,9 @@ use Rattle.arithmetic.specs.Binary32.{if_then_else_}
 use Rattle.admission.specs.Faults.{fault}
 use Rattle.common.specs.declared.Vec2.{Vec2}
 use Rattle.linear_programming.specs.Whole.{Failed, noLine, failedLine}
-use Rattle.dodgy_2d.specs.declared.Scene.{Scene}
 use Rattle.dodgy_2d.specs.Outcomes.{SceneOutcome, outcome, refusedScene, sceneOutcome}
 use Rattle.fields.specs.Got.{Got, refused, got}
-use Rattle.scene_records.specs.Records.{sceneInVersion1}
+use Rattle.scene_records.specs.Versions.{Numbered, sceneIn}
 use Rattle.answer_records.specs.declared.Answer.{Answer}
 use Rattle.answer_records.specs.Answers.{longestAnswer, noFailedLine, answerBytes, refusalBytes, Written, written, laid}
 
@@ -36,13 +35,14 @@ abbrev pub ofOutcome : SceneOutcome → Answered
 ofOutcome (outcome code p f n) = answer (answerOf code p f n)
 ofOutcome (refusedScene r) = refusal r
 
-abbrev pub ofReading : Got Scene → Answered
+-- the neighbours' numbers are not looked at
+abbrev pub ofReading : Got Numbered → Answered
 ofReading (refused r) = refusal r
-ofReading (got s at) = ofOutcome (sceneOutcome s)
+ofReading (got x at) = ofOutcome (sceneOutcome (x .scene))
 
 -- the record is read, then the scene solved
 unfoldable pub answered : List ℕ → Answered
-answered bytes = ofReading (sceneInVersion1 bytes)
+answered bytes = ofReading (sceneIn bytes)
 
 -- the outcome's record at the buffer's start; a refusal leaves the buffer alone
 abbrev pub laidAnswer : Answered → List ℕ → Written

@@ -5,7 +5,7 @@ use lib.Dec.{eqb, ltb}
 use lib.ListN.{length}
 use Rattle.arithmetic.specs.Binary32.{if_then_else_}
 use Rattle.words.specs.Words.{pairOf}
-use Rattle.scene_records.specs.Records.{longestRest}
+use Rattle.scene_records.specs.Versions.{longestEither}
 use Rattle.records.specs.declared.Part.{Part as PartCode}
 use Rattle.records.specs.declared.Part.the-variants as code
 
@@ -31,6 +31,6 @@ unfoldable pub partIn : ℕ → List ℕ → Part
 partIn skip s =
     if ltb 0 skip then skippedOf skip (length s)
     else (if ltb (length s) 2 then cutShort
-    else (if ltb longestRest (pairOf s 0) then overlong (pairOf s 0)
+    else (if ltb longestEither (pairOf s 0) then overlong (pairOf s 0)
     else (if ltb (length s) (2 + pairOf s 0) then cutShort
     else whole (2 + pairOf s 0))))

@@ -8,7 +8,7 @@ use lib.Dec.{leb}
 use lib.ListN.{length, take, drop}
 use Rattle.arithmetic.specs.Binary32.{if_then_else_}
 use Rattle.admission.specs.Faults.{fitsBehind}
-use Rattle.scene_records.specs.Records.{longestRest}
+use Rattle.scene_records.specs.Versions.{longestEither}
 use Rattle.answer_records.specs.Answers.{longestAnswer}
 use Rattle.records.specs.declared.Stream.{Stream}
 use Rattle.records.specs.Streams.{Worked, unlimited, worked, lastAnswer}
@@ -79,9 +79,9 @@ turnOver input output before read =
 -- buffers of which each read may fill 64 KiB and more behind a record cut short, with room for all answers; fewer bytes are kept
 -- than the longest record has
 pub record Ready (input output kept : ℕ) : Type 0 where
-  pub long : 65536 + (1 + longestRest) ≤ input
+  pub long : 65536 + (1 + longestEither) ≤ input
   pub room : 2 * input + longestAnswer ≤ output
-  pub few : kept ≤ 1 + longestRest
+  pub few : kept ≤ 1 + longestEither
 
 -- for what some read brought, the stream goes on by `run`'s step: its answers stand at the output's start, what it keeps at the input's
 pub record Follows (before : Stream) (input : List ℕ) (next : Stream) (held output : List ℕ) : Type 0 where

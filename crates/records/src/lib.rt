@@ -1,7 +1,7 @@
 // Records answered (01, "Records (ours)"): one scene record to its answer, and the program's work on a stream of records.
 use admission::Judged;
 use answer_records::Answer;
-use scene_records::SceneRead;
+use scene_records::NumberedScene;
 ghost use mathlib.Core.Path.{_≡_};
 ghost use Rattle.answer_records.specs.Answers.{writtenOf};
 ghost use Rattle.records.specs.Answered.{answerTo};
@@ -40,7 +40,7 @@ impl Stream {
     };
 
     // A buffer for the input: each read may bring 64 KiB behind a record cut short.
-    pub const INPUT: usize = 65536 + 1 + SceneRead::LONGEST_REST;
+    pub const INPUT: usize = 65536 + 1 + NumberedScene::LONGEST_REST;
 
     // A buffer for the answers: two bytes for each of the input and the longest answer are room enough.
     pub const OUTPUT: usize = 2 * Stream::INPUT + Answer::BYTES;
@@ -77,7 +77,7 @@ pub fn answer_record(bytes: &[u8], buffer: &mut [u8]) -> Judged
     if buffer.len() < Answer::BYTES {
         return Judged::Fault(10);
     }
-    let read = scene_records::read_scene_version_1(bytes);
+    let read = scene_records::read_scene(bytes);
     let judged = read.judged;
     if let Judged::Fault(number) = judged {
         return Judged::Fault(number);

@@ -1,6 +1,6 @@
 // What stands next in a stream of records.
 use crate::Part;
-use scene_records::SceneRead;
+use scene_records::NumberedScene;
 ghost use mathlib.Core.Path.{_≡_};
 ghost use Rattle.records.specs.Parts.{partOf, partIn, skippedOf};
 
@@ -15,7 +15,7 @@ pub(crate) fn next_part(rest: &[u8], skip: usize) -> Part
         return Part::Cut;
     }
     let length = words::pair_at(rest, 0) as usize;
-    if length > SceneRead::LONGEST_REST {
+    if length > NumberedScene::LONGEST_REST {
         return Part::Overlong(length);
     }
     if rest.len() < 2 + length {

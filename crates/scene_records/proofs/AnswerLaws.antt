@@ -1,5 +1,5 @@
--- Laws of the answer that `read_scene_version_1` promises: it is the only one, it is fine exactly for the bytes of a scene without a
--- fault, and then it is that scene. Assumes nothing.
+-- Laws of the answers that the readers promise: each is the only one; that of `read_scene_version_1` is fine exactly for the bytes of a
+-- scene without a fault, and then it is that scene. Assumes nothing.
 use Prim.Native.Nat.{ℕ}
 use mathlib.Core.Path.{_≡_, refl, sym, ap, _∙_}
 use mathlib.Core.List.{List}
@@ -11,11 +11,20 @@ use Rattle.dodgy_2d.specs.Scenes.{sceneFault}
 use Rattle.fields.specs.Bytes.{AllBytes}
 use Rattle.fields.specs.Got.{Got, refused, got}
 use Rattle.scene_records.specs.declared.SceneRead.{SceneRead}
+use Rattle.scene_records.specs.declared.NumberedScene.{NumberedScene}
+use Rattle.scene_records.specs.declared.Version.{Version}
 use Rattle.scene_records.specs.Records.{sceneInVersion1, readAs}
+use Rattle.scene_records.specs.Versions.{sceneIn, sceneInVersion, numberedAs}
 use Rattle.scene_records.specs.SceneBytes.{sceneBytes}
 use Rattle.scene_records.proofs.ReadBytes.{accepted-is-bytes-version-1}
 use Rattle.scene_records.proofs.ReadAdmitted.{read-admitted-version-1}
 use Rattle.scene_records.proofs.WrittenScenes.{Typed, tidied, bytes-are-read-version-1}
+
+pub answers-agree : (s : List ℕ) {one other : NumberedScene} → one ≡ numberedAs (sceneIn s) → other ≡ numberedAs (sceneIn s) → one ≡ other
+answers-agree s = agree
+
+pub answers-agree-of-version : (v : Version) (s : List ℕ) {one other : NumberedScene} → one ≡ numberedAs (sceneInVersion v s) → other ≡ numberedAs (sceneInVersion v s) → one ≡ other
+answers-agree-of-version v s = agree
 
 pub answers-agree-version-1 : (s : List ℕ) {one other : SceneRead} → one ≡ readAs (sceneInVersion1 s) → other ≡ readAs (sceneInVersion1 s) → one ≡ other
 answers-agree-version-1 s = agree

@@ -25,9 +25,9 @@ use Rattle.scene_records.specs.Parts.{cartOf, cart, head, neighbour}
 use Rattle.scene_records.proofs.Cursors.{linked, held-from, told-from}
 
 module _ (s : List ℕ) where
-  pub version-read : (c d : Cursor) (v : ℕ) → told d v ≡ from c (word 1 s) → told (held (eqb v 1) 1 d) (tt {0}) ≡ from c (version s)
+  pub version-read : (asked : ℕ) (c d : Cursor) (v : ℕ) → told d v ≡ from c (word 1 s) → told (held (eqb v asked) 1 d) (tt {0}) ≡ from c (version asked s)
   unfolding version
-  version-read c d v e = sym (linked (word 1 s) (λ v a. guard (eqb v 1) 1 (got (tt {0}) a)) c d v e ∙ held-from (eqb v 1) 1 d (got (tt {0})) ∙ told-from _ (tt {0}))
+  version-read asked c d v e = sym (linked (word 1 s) (λ v a. guard (eqb v asked) 1 (got (tt {0}) a)) c d v e ∙ held-from (eqb v asked) 1 d (got (tt {0})) ∙ told-from _ (tt {0}))
 
   pub count-read : (most : ℕ) (c d : Cursor) (n : ℕ) (e : Cursor) → told d n ≡ from c (word 1 s) → e ≡ held (leb n most) 4 d → told e n ≡ from c (count most s)
   unfolding count
@@ -37,15 +37,19 @@ module _ (s : List ℕ) where
   unfolding ended from
   ended-read at = sym (held-from (eqb at (length s)) 2 (cursor.At at) (got (tt {0})) ∙ told-from _ (tt {0}))
 
-  -- missing bytes, and a number that is held to its rule
-  module _ (passes : Float → Bool) (at : ℕ) where
-    pub number-missing : leb (at + 4) (length s) ≡ false → refused 2 ≡ number passes s at
-    unfolding number word
-    number-missing e = rw e
+  -- four bytes that are missing or there
+  pub word-none : (at : ℕ) → leb (at + 4) (length s) ≡ false → refused 2 ≡ word 4 s at
+  unfolding word
+  word-none at e = rw e
 
-    pub number-read : (b : ℕ) (x : Float) → leb (at + 4) (length s) ≡ true → b ≡ wordOf s at → x ≡ ofBits binary32 b → told (held (passes x) 6 (cursor.At (at + 4))) x ≡ number passes s at
-    unfolding number from
-    number-read b x h eb ex = sym (rw (← word-there s at (leb-true _ _ h), ← eb, ← ex) (held-from (passes x) 6 (cursor.At (at + 4)) (got x) ∙ told-from _ x))
+  pub word-read : (at b : ℕ) → leb (at + 4) (length s) ≡ true → b ≡ wordOf s at → got b (at + 4) ≡ word 4 s at
+  word-read at b h e = rw e (word-there s at (leb-true _ _ h))
+
+  -- a number that is held to its rule
+  pub number-read : (passes : Float → Bool) (c d : Cursor) (b : ℕ) (x : Float) → told d b ≡ from c (word 4 s) → x ≡ ofBits binary32 b → told (held (passes x) 6 d) x ≡ from c (number passes s)
+  unfolding number
+  number-read passes c d b x e ex =
+      rw ex (sym (linked (word 4 s) (λ b a. guard (passes (ofBits binary32 b)) 6 (got (ofBits binary32 b) a)) c d b e ∙ held-from (passes (ofBits binary32 b)) 6 d (got (ofBits binary32 b)) ∙ told-from _ _))
 
   pub vector-read : (passes : Float → Bool) (c d e : Cursor) (x y : Float) → told d x ≡ from c (number passes s) → told e y ≡ from d (number passes s) → told e (vec x y) ≡ from c (vector passes s)
   unfolding vector

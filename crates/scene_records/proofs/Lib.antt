@@ -5,6 +5,8 @@ pub mod FieldLaws
 pub mod StoredLaws
 pub mod WallLaws
 pub mod RecordLaws
+pub mod RowLaws
+pub mod VersionLaws
 pub mod SceneParts
 pub mod ReadBytes
 pub mod ReadAdmitted

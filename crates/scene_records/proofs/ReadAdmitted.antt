@@ -4,7 +4,7 @@ use native.Mathlib.Omega.{arith}
 use mathlib.Core.Path.{_≡_, refl}
 use mathlib.Core.Bool.{Bool, true}
 use mathlib.Core.List.{List, _++_, map, append-assoc}
-use lib.ListN.{length}
+use lib.ListN.{length, length-map}
 use lib.Ieee.{Float}
 use borrow.Author.Tests.{le-leb}
 use Rattle.admission.specs.Faults.{fine, within}
@@ -22,7 +22,10 @@ use Rattle.scene_records.specs.declared.Cart.{Cart}
 use Rattle.scene_records.specs.Steps.{number, vector}
 use Rattle.scene_records.specs.Parts.{cart, coordinates, verticesAt, Obstacle, sizeOf, kindOf, numbersIn, obstacle, obstacles, neighbour, neighbours}
 use Rattle.scene_records.specs.Records.{sceneOf, sceneInVersion1}
-use Rattle.scene_records.proofs.Taken.{number-taken, vector-taken, cart-taken, obstacle-taken, line-taken, fields-taken, scene-taken-version-1}
+use Rattle.scene_records.specs.declared.Version.{Version}
+use Rattle.scene_records.specs.Versions.{lineNumber, NumberedLine, numberedLine, numberedLines, lineOf, Numbered, sceneMade, sceneIn}
+use Rattle.scene_records.proofs.Taken.{number-taken, vector-taken, cart-taken, obstacle-taken, line-taken, fields-taken, scene-taken-version-1, numbered-taken, record-taken}
+use Rattle.scene_records.proofs.VersionLaws.{either-taken}
 use Rattle.scene_records.proofs.SceneParts.{later-vertices, vertices-front, heads-back, neighbours-back}
 use Rattle.scene_records.proofs.ReadBytes.{obstacles-total}
 
@@ -79,15 +82,23 @@ module _ (s : List ℕ) where
       cons-got l (neighbours s n a) r λ rest q u.
       rw (u, line-fine at l a p) (lines-fine n a rest m q)
 
-  pub read-admitted-version-1 : (c : Scene) (m : ℕ) → sceneInVersion1 s ≡ got c m → sceneFault c ≡ fine
+  numbered-fine : (v : Version) (n at : ℕ) (ls : List NumberedLine) (m : ℕ) → numberedLines v s n at ≡ got ls m → linesFault (map lineOf ls) ≡ fine
+  unfolding numberedLines numberedLine many linesFault
+  numbered-fine v zero at ls m e = rw (← got-same e .0)
+  numbered-fine v (suc n) at ls m e =
+      then-got (numberedLine v s at) _ e λ l a p r.
+      cons-got l (numberedLines v s n a) r λ rest q u.
+      then-got (lineNumber v s at) _ p λ k b read-k t.
+      then-got (neighbour s b) _ t λ own d read-own same.
+      rw (u, ← got-same same .0, line-fine b own d read-own) (numbered-fine v n a rest m q)
+
+  parts-fine : (at b d e : ℕ) (x : Cart) (os : List Obstacle) (ls : List Line) → cart s at ≡ got x b → length os ≤ 16 → obstacles s (length os) 0 d ≡ got os e → length ls ≤ 64 → linesFault ls ≡ fine
+      → sceneFault (sceneOf x (length os) os (length ls) ls) ≡ fine
   unfolding sceneFault
-  read-admitted-version-1 c m z =
-      scene-taken-version-1 s c m z λ n read-n few-n right z'.
-      fields-taken s 2 c m z' λ a b d e f x os ls read-version read-cart read-os few-os list-os read-ls few-ls list-ls end same.
+  parts-fine at b d e x os ls read-cart few-os list-os few-ls h =
       let fits : length (each numbersIn os) ≤ 384 = (let most = obstacles-total s (length os) 0 d os e (omega arith) list-os in omega arith) in
       rw (
-        same,
-        cart-fine a x b (length os) os (length ls) ls read-cart,
+        cart-fine at x b (length os) os (length ls) ls read-cart,
         le-leb _ 16 few-os,
         heads-back x os (length ls) ls few-os,
         vertices-front os fits,
@@ -95,4 +106,17 @@ module _ (s : List ℕ) where
         le-leb _ 64 few-ls,
         neighbours-back x (length os) os ls few-ls,
       )
-      (lines-fine (length ls) f ls m list-ls)
+      h
+
+  pub read-admitted-version-1 : (c : Scene) (m : ℕ) → sceneInVersion1 s ≡ got c m → sceneFault c ≡ fine
+  read-admitted-version-1 c m z =
+      scene-taken-version-1 s c m z λ n read-n few-n right z'.
+      fields-taken s 2 c m z' λ a b d e f x os ls read-version read-cart read-os few-os list-os read-ls few-ls list-ls end same.
+      rw same (parts-fine a b d e x os ls read-cart few-os list-os few-ls (lines-fine (length ls) f ls m list-ls))
+
+  pub read-admitted : (x : Numbered) (m : ℕ) → sceneIn s ≡ got x m → sceneFault (x .scene) ≡ fine
+  read-admitted x m z =
+      either-taken s x m z λ v z'.
+      record-taken s sceneMade v x m z' λ n read-n right few-n byte fits fields.
+      numbered-taken s sceneMade v 3 x m fields λ b d e f c os ls read-cart read-os few-os list-os read-ls few-ls list-ls end same.
+      rw (same, ← length-map ls lineOf) (parts-fine 3 b d e c os (map lineOf ls) read-cart few-os list-os (rw (length-map ls lineOf) few-ls) (numbered-fine v (length ls) f ls m list-ls))

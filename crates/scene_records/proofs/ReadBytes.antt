@@ -90,21 +90,21 @@ module _ (s : List ℕ) (h : AllBytes s) where
   unfolding vectorBytes
   vector-span passes none at v m e = vector-taken s passes at v m e λ a p q. join (number-span passes none at (v .x) a p) (number-span passes none a (v .y) m q)
 
-  cart-span : (at : ℕ) (x : Cart) (m : ℕ) → cart s at ≡ got x m → Span s at (cartBytes x) m
+  pub cart-span : (at : ℕ) (x : Cart) (m : ℕ) → cart s at ≡ got x m → Span s at (cartBytes x) m
   unfolding cartBytes
   cart-span at x m z =
       cart-taken s at x m z λ a b d e f p v g t w l read-p read-v read-g read-t read-w read-l same.
       rw (← same) (join (join (join (join (join (vector-span _ (within-nan reach) at p a read-p) (vector-span _ (within-nan reach) a v b read-v)) (number-span _ (inside-nan _ _) b g d read-g))
       (number-span _ (inside-nan _ _) d t e read-t)) (vector-span _ (within-nan reach) e w f read-w)) (number-span _ (inside-nan _ _) f l m read-l))
 
-  obstacle-span : (total at : ℕ) (o : Obstacle) (m : ℕ) → obstacle s total at ≡ got o m → Span s at (obstacleBytes o) m
+  pub obstacle-span : (total at : ℕ) (o : Obstacle) (m : ℕ) → obstacle s total at ≡ got o m → Span s at (obstacleBytes o) m
   unfolding obstacleBytes verticesAt
   obstacle-span total at o m e =
       obstacle-taken s total at o m e λ a b read-k known read-n room some read-vs.
       join (join (word-span s h 1 at (o .kind) a read-k .1) (word-span s h 1 a (length (o .vertices)) b read-n .1))
       (many-span s (λ (u : Unit {0}). vector (within reach) s) (λ u v. u) vectorBytes (λ u. vector-span (within reach) (within-nan reach)) (length (o .vertices)) tt b (o .vertices) m read-vs)
 
-  line-span : (at : ℕ) (l : Line) (m : ℕ) → neighbour s at ≡ got l m → Span s at (lineBytes l) m
+  pub line-span : (at : ℕ) (l : Line) (m : ℕ) → neighbour s at ≡ got l m → Span s at (lineBytes l) m
   unfolding lineBytes
   line-span at l m e = line-taken s at l m e λ a read-p read-d band. join (vector-span (within lineReach) (within-nan lineReach) at (l .point) a read-p) (vector-span finite finite-nan a (l .direction) m read-d)
 

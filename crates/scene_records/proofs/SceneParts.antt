@@ -26,7 +26,7 @@ use Rattle.scene_records.proofs.WallLaws.{length-coordinates}
 stored-front : {A : Type 0} (l xs : List A) → length xs ≤ length l → sets l 0 xs ≡ xs ++ drop (length xs) l
 stored-front l xs h = rw zero-add at (sets-eq xs l 0 (omega arith))
 
-front-back : {A : Type 0} (l xs : List A) → length xs ≤ length l → take (length xs) (sets l 0 xs) ≡ xs
+pub front-back : {A : Type 0} (l xs : List A) → length xs ≤ length l → take (length xs) (sets l 0 xs) ≡ xs
 front-back l xs h = rw (stored-front l xs h) (take-at xs (drop (length xs) l) (length xs) refl)
 
 -- ---- obstacles

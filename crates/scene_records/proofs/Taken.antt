@@ -24,6 +24,8 @@ use Rattle.scene_records.specs.declared.Cart.{Cart}
 use Rattle.scene_records.specs.Steps.{number, vector, version, count, ended}
 use Rattle.scene_records.specs.Parts.{cartOf, cart, head, verticesAt, Obstacle, obstacle, obstacles, neighbour, neighbours}
 use Rattle.scene_records.specs.Records.{sceneOf, fieldsIn, longestRest, announced, sceneInVersion1}
+use Rattle.scene_records.specs.declared.Version.{Version}
+use Rattle.scene_records.specs.Versions.{byteOf, longestEither, longestOf, NumberedLine, numberedLines, fieldsWith, behindVersion, recordWith}
 
 module _ {C : Type 0} (s : List ℕ) where
   pub number-taken : (passes : Float → Bool) (at : ℕ) (x : Float) (m : ℕ) → number passes s at ≡ got x m
@@ -108,7 +110,7 @@ module _ {C : Type 0} (s : List ℕ) where
       → c ≡ sceneOf x (length os) os (length ls) ls → C) → C
   unfolding fieldsIn version ended obstacles neighbours
   fields-taken at c m z next =
-      then-got (version s at) _ z λ u a read-version r.
+      then-got (version 1 s at) _ z λ u a read-version r.
       then-got (word 1 s at) _ read-version λ v i read-v one.
       guard-got (eqb v 1) 1 _ one λ is-one last-v.
       then-got (cart s a) _ r λ x b read-cart t.
@@ -130,10 +132,54 @@ module _ {C : Type 0} (s : List ℕ) where
   pub scene-taken-version-1 : (c : Scene) (m : ℕ) → sceneInVersion1 s ≡ got c m → ((n : ℕ) → word 2 s 0 ≡ got n 2 → n ≤ longestRest → n ≡ length s - 2 → fieldsIn s 2 ≡ got c m → C) → C
   unfolding sceneInVersion1 announced
   scene-taken-version-1 c m e next =
-      then-got (announced s) _ e λ u a p r.
+      then-got (announced longestRest s) _ e λ u a p r.
       then-got (word 2 s 0) _ p λ n b read-n t.
       guard-got (leb n longestRest) 4 _ t λ few w.
       guard-got (eqb n (length s - 2)) 2 _ w λ right last.
       let place : b ≡ 2 = word-fits s 2 0 n b read-n .0 in
       let start : a ≡ 2 = sym (got-same last .1) ∙ place in
       next n (rw place at read-n) (leb-true n longestRest few) (eqb-true n (length s - 2) right) (rw start at r)
+
+  -- ---- both versions
+
+  pub numbered-taken : {A : Type 0} (make : Cart → ℕ → List Obstacle → ℕ → List NumberedLine → A) (v : Version) (at : ℕ) (r : A) (m : ℕ) → fieldsWith make v s at ≡ got r m
+      → ((b d e f : ℕ) (x : Cart) (os : List Obstacle) (ls : List NumberedLine) → cart s at ≡ got x b
+      → word 1 s b ≡ got (length os) d → length os ≤ 16 → obstacles s (length os) 0 d ≡ got os e
+      → word 1 s e ≡ got (length ls) f → length ls ≤ 64 → numberedLines v s (length ls) f ≡ got ls m → m ≡ length s
+      → r ≡ make x (length os) os (length ls) ls → C) → C
+  unfolding fieldsWith ended obstacles numberedLines
+  numbered-taken make v at r m z next =
+      then-got (cart s at) _ z λ x b read-cart t.
+      then-got (count 16 s b) _ t λ n d read-n w.
+      then-got (obstacles s n 0 d) _ w λ os e read-os y.
+      then-got (count 64 s e) _ y λ k f read-k q.
+      then-got (numberedLines v s k f) _ q λ ls g read-ls h.
+      then-got (ended s g) _ h λ o j read-end last.
+      guard-got (eqb g (length s)) 2 _ read-end λ is-end last-g.
+      count-taken 16 b n d read-n λ word-n few.
+      count-taken 64 e k f read-k λ word-k fewer.
+      let size : n ≡ length os = sym (many-length _ _ n 0 d os e read-os) in
+      let count : k ≡ length ls = sym (many-length _ _ k tt f ls g read-ls) in
+      let place : g ≡ m = got-same last-g .1 ∙ got-same last .1 in
+      next b d e f x os ls read-cart (rw size at word-n) (rw size at few) (rw size at read-os)
+      (rw count at word-k) (rw count at fewer) (rw (count, place) at read-ls) (sym place ∙ eqb-true g (length s) is-end) (sym (got-same last .0) ∙ rw (size, count))
+
+  pub record-taken : {A : Type 0} (make : Cart → ℕ → List Obstacle → ℕ → List NumberedLine → A) (v : Version) (r : A) (m : ℕ) → recordWith make v s ≡ got r m
+      → ((n : ℕ) → word 2 s 0 ≡ got n 2 → n ≡ length s - 2 → n ≤ longestEither → word 1 s 2 ≡ got (byteOf v) 3 → length s - 2 ≤ longestOf v → fieldsWith make v s 3 ≡ got r m → C) → C
+  unfolding recordWith announced version behindVersion
+  record-taken make v r m e next =
+      then-got (announced longestEither s) _ e λ u a p q.
+      then-got (word 2 s 0) _ p λ n b read-n t.
+      guard-got (leb n longestEither) 4 _ t λ few w.
+      guard-got (eqb n (length s - 2)) 2 _ w λ right last.
+      then-got (version (byteOf v) s a) _ q λ o d read-v z.
+      then-got (word 1 s a) _ read-v λ i f read-i k.
+      guard-got (eqb i (byteOf v)) 1 _ k λ this last-v.
+      guard-got (leb (length s - 2) (longestOf v)) 4 _ z λ fits fields.
+      let place : b ≡ 2 = word-fits s 2 0 n b read-n .0 in
+      let start : a ≡ 2 = sym (got-same last .1) ∙ place in
+      let byte : i ≡ byteOf v = eqb-true i (byteOf v) this in
+      let behind : f ≡ 3 = word-fits s 1 a i f read-i .0 ∙ rw start in
+      let stop : d ≡ 3 = sym (got-same last-v .1) ∙ behind in
+      next n (rw place at read-n) (eqb-true n (length s - 2) right) (leb-true n longestEither few) (rw (start, byte, behind) at read-i)
+      (leb-true (length s - 2) (longestOf v) fits) (rw stop at fields)

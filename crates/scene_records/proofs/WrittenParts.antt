@@ -92,7 +92,7 @@ module _ (s : List ℕ) where
       taking (number-back passes a (v .y) r (ok .y) l) λ b h j k.
       record { place = b; gives = rw (g, h); bound = j; left = k }
 
-  cart-back : (at : ℕ) (x : Cart) (r : List ℕ) → GoodCart x → drop at s ≡ cartBytes x ++ r → Back s (cart s at) x r
+  pub cart-back : (at : ℕ) (x : Cart) (r : List ℕ) → GoodCart x → drop at s ≡ cartBytes x ++ r → Back s (cart s at) x r
   unfolding cart cartBytes
   cart-back at x r ok e =
       taking (vector-back _ at (x .agent .position) _ (ok .position) (simp append-assoc at e)) λ p1 g1 i1 l1.
@@ -103,14 +103,14 @@ module _ (s : List ℕ) where
       taking (number-back _ p5 (x .limit) r (ok .limit) l5) λ p6 g6 i6 l6.
       record { place = p6; gives = rw (g1, g2, g3, g4, g5, g6); bound = i6; left = l6 }
 
-  line-back : (at : ℕ) (l : Line) (r : List ℕ) → GoodLine l → drop at s ≡ lineBytes l ++ r → Back s (neighbour s at) l r
+  pub line-back : (at : ℕ) (l : Line) (r : List ℕ) → GoodLine l → drop at s ≡ lineBytes l ++ r → Back s (neighbour s at) l r
   unfolding neighbour lineBytes
   line-back at l r ok e =
       taking (vector-back _ at (l .point) _ (ok .point) (rw append-assoc at e)) λ p1 g1 i1 l1.
       taking (vector-back _ p1 (l .direction) r (ok .direction) l1) λ p2 g2 i2 l2.
       record { place = p2; gives = rw (g1, g2, ok .band); bound = i2; left = l2 }
 
-  obstacle-back : (total at : ℕ) (o : Obstacle) (r : List ℕ) → GoodObstacle total o → drop at s ≡ obstacleBytes o ++ r → Back s (obstacle s total at) o r
+  pub obstacle-back : (total at : ℕ) (o : Obstacle) (r : List ℕ) → GoodObstacle total o → drop at s ≡ obstacleBytes o ++ r → Back s (obstacle s total at) o r
   unfolding obstacleBytes verticesAt obstacle head
   obstacle-back total at o r ok e =
       let small = room-within total (sizeOf o) (ok .room) .0 in
@@ -165,7 +165,7 @@ pub length-obstacle : (o : Obstacle) → length (obstacleBytes o) ≡ 2 + 8 * si
 unfolding obstacleBytes
 length-obstacle o = simp (length-append, length-big-endian, length-each vectorBytes 8 length-vector)
 
-length-obstacles : (total : ℕ) (os : List Obstacle) → total ≤ 192 → Every GoodObstacle onTotal total os → length (each obstacleBytes os) + 8 * total ≤ 2 * length os + 1536
+pub length-obstacles : (total : ℕ) (os : List Obstacle) → total ≤ 192 → Every GoodObstacle onTotal total os → length (each obstacleBytes os) + 8 * total ≤ 2 * length os + 1536
 unfolding each
 length-obstacles total [] h ok = omega arith
 length-obstacles total (o ∷ os) h ok =

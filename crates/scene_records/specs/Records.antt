@@ -17,7 +17,7 @@ use Rattle.fields.specs.Bytes.{each}
 use Rattle.fields.specs.Got.{Got, refused, got, then, guard, word}
 use Rattle.scene_records.specs.declared.Cart.{Cart}
 use Rattle.scene_records.specs.declared.SceneRead.{SceneRead}
-use Rattle.scene_records.specs.Steps.{version, count, ended}
+use Rattle.scene_records.specs.Steps.{sceneVersion, version, count, ended}
 use Rattle.scene_records.specs.Parts.{cart, cartOf, Obstacle, obstacles, neighbours, Walls, walls, wallsWith, blankBytes, blankVertices}
 
 -- ---- the scene of what was read: zeros behind what the counts say
@@ -54,7 +54,7 @@ blankScene = sceneWith blankCart 0 noWalls 0 blankNumbers
 -- the fields behind the length
 unfoldable pub fieldsIn : List ℕ → ℕ → Got Scene
 fieldsIn s at =
-    then (version s at) λ u a.
+    then (version sceneVersion s at) λ u a.
     then (cart s a) λ c b.
     then (count mostObstacles s b) λ n d.
     then (obstacles s n 0 d) λ os e.
@@ -67,13 +67,13 @@ fieldsIn s at =
 abbrev pub longestRest : ℕ
 longestRest = 2631
 
--- "fewer than two bytes, 2; length field over 2,631, 4; length not matching the rest, 2"
-unfoldable pub announced : List ℕ → Got (Unit {0})
-announced s = then (word 2 s 0) λ n a. guard (leb n longestRest) 4 (guard (eqb n (length s - 2)) 2 (got tt a))
+-- "fewer than two bytes, 2; length field over 2,631, 4; length not matching the rest, 2"; for a reader whose longest rest is `most`
+unfoldable pub announced : ℕ → List ℕ → Got (Unit {0})
+announced most s = then (word 2 s 0) λ n a. guard (leb n most) 4 (guard (eqb n (length s - 2)) 2 (got tt a))
 
 -- 01's record, which has version 1
 unfoldable pub sceneInVersion1 : List ℕ → Got Scene
-sceneInVersion1 s = then (announced s) λ u a. fieldsIn s a
+sceneInVersion1 s = then (announced longestRest s) λ u a. fieldsIn s a
 
 -- what the code hands over: the scene; or the fault, with a blank scene beside it
 abbrev pub readAs : Got Scene → SceneRead

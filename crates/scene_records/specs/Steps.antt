@@ -45,9 +45,9 @@ ruleOf rule.Finite = finite
 abbrev pub sceneVersion : ℕ
 sceneVersion = 1
 
--- "version byte is not 1": 1
-unfoldable pub version : List ℕ → ℕ → Got (Unit {0})
-version s at = then (word 1 s at) λ v a. guard (eqb v sceneVersion) 1 (got tt a)
+-- "version byte is not 1": 1; so for each version that is asked for
+unfoldable pub version : ℕ → List ℕ → ℕ → Got (Unit {0})
+version asked s at = then (word 1 s at) λ v a. guard (eqb v asked) 1 (got tt a)
 
 -- "a count is over its limit": 4
 unfoldable pub count : ℕ → List ℕ → ℕ → Got ℕ

@@ -2,7 +2,7 @@
 
 use super::numbers::{push, scene};
 use super::{Named, CLOSED_BYTE, OPEN_BYTE};
-use crate::records::LONGEST_REST;
+use crate::records::{LONGEST_NUMBERED, LONGEST_REST, NUMBERED};
 
 /// Places in what follows the length.
 pub const VERSION: usize = 0;
@@ -44,9 +44,13 @@ fn lengths() -> Vec<Named> {
     let overlong = |length: usize| {
         let mut rest = scene();
         rest.resize(length, 1);
-        ("a length over 2,631, all its bytes there", rest, Some(4))
+        (
+            "version 1, a length over 2,631, all its bytes there",
+            rest,
+            Some(4),
+        )
     };
-    vec![
+    let mut records = vec![
         ("a length of 0", vec![], Some(2)),
         overlong(LONGEST_REST + 1),
         ("the shortest scene", empty(), None),
@@ -56,10 +60,34 @@ fn lengths() -> Vec<Named> {
         ("a length of exactly 2,631", longest(), None),
         (
             "a length of exactly 2,631, at fault",
-            at_fault(longest(), VERSION, 2),
+            at_fault(longest(), VERSION, 3),
             Some(1),
         ),
-    ]
+    ];
+    records.extend(lengths_by_version());
+    records
+}
+
+/// Nothing but zeros behind the version, so that the horizon is at fault where the fields are looked at.
+fn lengths_by_version() -> Vec<Named> {
+    let numbers = [
+        (LONGEST_REST, [1, 6, 6, 1]),
+        (LONGEST_REST + 1, [1, 4, 6, 1]),
+        (LONGEST_NUMBERED, [1, 4, 6, 1]),
+        (LONGEST_NUMBERED + 1, [4, 4, 4, 4]),
+    ];
+    let mut records = Vec::new();
+    for (length, numbers) in numbers {
+        for (version, number) in (0u8..).zip(numbers) {
+            let rest = at_fault(vec![0; length], VERSION, version);
+            records.push((
+                "a length at a limit, under versions 0 to 3",
+                rest,
+                Some(number),
+            ));
+        }
+    }
+    records
 }
 
 fn at_fault(mut rest: Vec<u8>, place: usize, byte: u8) -> Vec<u8> {
@@ -69,10 +97,46 @@ fn at_fault(mut rest: Vec<u8>, place: usize, byte: u8) -> Vec<u8> {
 
 fn versions() -> Vec<Named> {
     let alone = |byte: u8| ("another version", vec![byte], Some(1));
-    let mut records = vec![alone(0), alone(2), alone(255)];
-    for byte in [0, 2, 255] {
+    let mut records = vec![alone(0), alone(3), alone(255)];
+    for byte in [0, 3, 255] {
         records.push(("another version", with_byte(VERSION, byte), Some(1)));
     }
+    records.push(("version 2 alone", vec![NUMBERED], Some(2)));
+    let none = at_fault(empty(), VERSION, NUMBERED);
+    records.push(("version 2 without a neighbour", none, None));
+    records.extend(numbers());
+    records
+}
+
+/// Numbers before neighbour lines: of any value, cut short, before lines at fault, and where the version says otherwise.
+fn numbers() -> Vec<Named> {
+    const LINE: [f32; 4] = [0.0, 1.0, 1.0, 0.0];
+    let numbered = |number: u32, line: [f32; 4]| {
+        let mut rest = at_fault(agent_and(&[0, 1]), VERSION, NUMBERED);
+        rest.extend(number.to_be_bytes());
+        push(&mut rest, &line);
+        rest
+    };
+    let mut records = Vec::new();
+    for number in [0, 1, 7, 0x3F80_0000, 0x7FC0_0000, u32::MAX] {
+        records.push(("a number of any value", numbered(number, LINE), None));
+    }
+    let behind = agent_and(&[]).len() + 2;
+    for length in [behind, behind + 3, behind + 4, behind + 19] {
+        let cut = numbered(7, LINE)[..length].to_vec();
+        records.push(("a number or its line cut short", cut, Some(2)));
+    }
+    let row = "a number before a line at fault";
+    records.push((row, numbered(7, [f32::NAN, 1.0, 1.0, 0.0]), Some(6)));
+    records.push((row, numbered(7, [0.0, 1.0, 1.0, 1.0]), Some(7)));
+    let row = "numbers under version 1, none under version 2";
+    let first = at_fault(numbered(0x3F80_0000, LINE), VERSION, 1);
+    records.push((row, first, Some(7)));
+    let second = at_fault(with_lines(of_sizes(&[]), 1), VERSION, NUMBERED);
+    records.push((row, second, Some(2)));
+    let left = [numbered(7, LINE), vec![0]].concat();
+    records.push(("version 2 with a byte left over", left, Some(2)));
+    records.push(("a length of exactly 2,887", longest_numbered(), None));
     records
 }
 
@@ -187,4 +251,16 @@ fn with_lines(mut rest: Vec<u8>, count: usize) -> Vec<u8> {
 /// As many obstacles, vertices and lines as there may be.
 fn longest() -> Vec<u8> {
     with_lines(of_sizes(&[12; 16]), 64)
+}
+
+/// The same with a number before each line.
+fn longest_numbered() -> Vec<u8> {
+    let mut rest = longest();
+    let lines = rest.split_off(rest.len() - 16 * 64);
+    rest[VERSION] = NUMBERED;
+    for (line, number) in lines.chunks(16).zip(1u32..) {
+        rest.extend(number.to_be_bytes());
+        rest.extend(line);
+    }
+    rest
 }

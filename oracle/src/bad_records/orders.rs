@@ -15,7 +15,7 @@ pub fn records() -> Vec<Named> {
 
 fn of_fields() -> Vec<Named> {
     let mut other_version = with(scene(), POSITION, NAN);
-    other_version[VERSION] = 2;
+    other_version[VERSION] = 3;
     let mut missing_vertices = agent_and(&[1, CLOSED_BYTE, 3]);
     push(&mut missing_vertices, &[NAN, 0.0]);
     let mut many = with(scene(), LIMIT, NAN);

@@ -1,4 +1,4 @@
-//! Scene and answer records, big-endian, as the definition of the build has them ("Records").
+//! Scene and answer records, big-endian, as the definition of the build has them ("Records"), and scene records of version 2 (02, T-07).
 
 pub mod answers;
 pub mod reader;
@@ -9,14 +9,28 @@ use crate::edge_vectors::call::{CLOSED, OPEN};
 use crate::scenes::Scene;
 
 pub const VERSION: u8 = 1;
-/// The greatest length field, which counts the bytes behind it.
+/// The version whose neighbour lines have numbers.
+pub const NUMBERED: u8 = 2;
+/// The greatest length field under version 1, which counts the bytes behind it.
 pub const LONGEST_REST: usize = 2_631;
+/// The greatest under version 2.
+pub const LONGEST_NUMBERED: usize = 2_887;
 pub const MOST_OBSTACLES: usize = 16;
 pub const MOST_NEIGHBOURS: usize = 64;
 
 /// Numbers by their own bits; counts as they are, so that they must fit a byte.
 pub fn scene_record(scene: &Scene) -> Vec<u8> {
-    let mut rest = vec![VERSION];
+    record_of(VERSION, scene, &[])
+}
+
+/// The same with a number for each neighbour line.
+pub fn numbered_record(scene: &Scene, numbers: &[u32]) -> Vec<u8> {
+    assert_eq!(numbers.len(), scene.lines.len());
+    record_of(NUMBERED, scene, numbers)
+}
+
+fn record_of(version: u8, scene: &Scene, numbers: &[u32]) -> Vec<u8> {
+    let mut rest = vec![version];
     vector(&mut rest, scene.position);
     vector(&mut rest, scene.velocity);
     number(&mut rest, scene.margin);
@@ -32,7 +46,9 @@ pub fn scene_record(scene: &Scene) -> Vec<u8> {
         }
     }
     rest.push(scene.lines.len() as u8);
-    for (point, direction) in &scene.lines {
+    for (place, (point, direction)) in scene.lines.iter().enumerate() {
+        let number = numbers.get(place).into_iter();
+        rest.extend(number.flat_map(|number| number.to_be_bytes()));
         vector(&mut rest, *point);
         vector(&mut rest, *direction);
     }

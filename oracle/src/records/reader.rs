@@ -1,9 +1,11 @@
-//! The judge of scene records, written from the definition of the build alone: a record's order of faults in "Refusal numbers",
-//! and "Records". The first fault is told.
+//! The judge of scene records, written from the definition of the build and 02's T-07 alone: a record's order of faults in "Refusal numbers",
+//! "Records", and what version 2 changes of both. The first fault is told.
 
 use glam::Vec2;
 
-use super::{LONGEST_REST, MOST_NEIGHBOURS, MOST_OBSTACLES, VERSION};
+use super::{
+    LONGEST_NUMBERED, LONGEST_REST, MOST_NEIGHBOURS, MOST_OBSTACLES, NUMBERED, VERSION,
+};
 use crate::edge_vectors::call::{CLOSED, SCENE_VERTICES};
 use crate::edge_vectors::judge::{admits_horizon, count_fault, is_kind};
 use crate::encounters::EdgeLine;
@@ -12,26 +14,58 @@ use crate::list_vectors::judge::{
 };
 use crate::scenes::{Obstacle, Scene};
 
-/// The scene, its neighbour lines ready made; or the number of the refusal.
-pub fn read(record: &[u8]) -> Result<Scene, u32> {
-    let (length, rest) = record.split_first_chunk().ok_or(2u32)?;
-    let length = usize::from(u16::from_be_bytes(*length));
-    must(length <= LONGEST_REST, 4)?;
-    must(length == rest.len(), 2)?;
-    let mut fields = Fields { rest };
-    let scene = fields.scene()?;
-    must(fields.rest.is_empty(), 2)?;
-    Ok(scene)
+/// A scene, its neighbour lines ready made, and their numbers, each 0 under version 1.
+pub struct Read {
+    pub scene: Scene,
+    pub numbers: Vec<u32>,
 }
 
-/// What is left of the record.
+/// The scene of a record of either version; or the number of the refusal.
+pub fn read(record: &[u8]) -> Result<Scene, u32> {
+    Ok(read_of(record, &[VERSION, NUMBERED])?.scene)
+}
+
+/// The same of a reader that takes these versions.
+pub fn read_of(record: &[u8], versions: &[u8]) -> Result<Read, u32> {
+    judged(record, LONGEST_NUMBERED, versions)
+}
+
+/// The scene of a record of version 1, by 01's reader, which knows no other.
+pub fn read_version_1(record: &[u8]) -> Result<Scene, u32> {
+    Ok(judged(record, LONGEST_REST, &[VERSION])?.scene)
+}
+
+fn judged(record: &[u8], longest: usize, versions: &[u8]) -> Result<Read, u32> {
+    let (length, rest) = record.split_first_chunk().ok_or(2u32)?;
+    let length = usize::from(u16::from_be_bytes(*length));
+    must(length <= longest, 4)?;
+    must(length == rest.len(), 2)?;
+    let mut fields = Fields {
+        rest,
+        numbered: false,
+        numbers: Vec::new(),
+    };
+    let version = fields.byte()?;
+    must(versions.contains(&version), 1)?;
+    must(version == NUMBERED || length <= LONGEST_REST, 4)?;
+    fields.numbered = version == NUMBERED;
+    let scene = fields.scene()?;
+    must(fields.rest.is_empty(), 2)?;
+    Ok(Read {
+        scene,
+        numbers: fields.numbers,
+    })
+}
+
+/// What is left of the record, whether its lines have numbers, and those that were read.
 struct Fields<'a> {
     rest: &'a [u8],
+    numbered: bool,
+    numbers: Vec<u32>,
 }
 
 impl Fields<'_> {
     fn scene(&mut self) -> Result<Scene, u32> {
-        must(self.byte()? == VERSION, 1)?;
         Ok(Scene {
             position: self.vector(admits_component)?,
             velocity: self.vector(admits_component)?,
@@ -76,6 +110,12 @@ impl Fields<'_> {
     }
 
     fn line(&mut self) -> Result<EdgeLine, u32> {
+        let number = if self.numbered {
+            u32::from_be_bytes(self.take()?)
+        } else {
+            0
+        };
+        self.numbers.push(number);
         let point = self.vector(admits_line_component)?;
         let direction = self.vector(f32::is_finite)?;
         must(admits_direction(direction), 7)?;

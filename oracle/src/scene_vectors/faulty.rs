@@ -1,11 +1,14 @@
 //! Records with one to three faults, so that the order of the faults decides as well: numbers out of their ranges, bytes replaced, cut
 //! off or left over. The judge says what a record gets, so one that is still admitted does no harm.
 
+use super::drawn_numbers;
 use super::layouts::ordinary;
 use crate::list_vectors::judge::{LINE_REACH, LONGEST, REACH};
 use crate::list_vectors::refused::too_large;
 use crate::random::Random;
-use crate::records::{scene_record, with_length, LONGEST_REST};
+use crate::records::{
+    numbered_record, scene_record, with_length, LONGEST_NUMBERED, LONGEST_REST,
+};
 use crate::scenes::Scene;
 
 type Spoil = fn(&mut Random, &mut Vec<u8>);
@@ -13,11 +16,27 @@ type Spoil = fn(&mut Random, &mut Vec<u8>);
 const SPOILS: [Spoil; 5] = [any_byte, any_byte, small_byte, cut, left_over];
 
 pub fn spoiled(random: &mut Random) -> Vec<u8> {
+    let scene = spoiled_scene(random);
+    spoiled_record(random, scene_record(&scene))
+}
+
+/// A record of version 2.
+pub fn spoiled_numbered(random: &mut Random) -> Vec<u8> {
+    let scene = spoiled_scene(random);
+    let numbers = drawn_numbers(random, &scene);
+    spoiled_record(random, numbered_record(&scene, &numbers))
+}
+
+fn spoiled_scene(random: &mut Random) -> Scene {
     let mut scene = ordinary(random);
     for _ in 0..random.below(3) {
         out_of_range(random, &mut scene);
     }
-    let mut rest = scene_record(&scene).split_off(2);
+    scene
+}
+
+fn spoiled_record(random: &mut Random, mut record: Vec<u8>) -> Vec<u8> {
+    let mut rest = record.split_off(2);
     for _ in 0..random.below(3) {
         let spoil = random.pick(&SPOILS);
         spoil(random, &mut rest);
@@ -29,6 +48,13 @@ pub fn spoiled(random: &mut Random) -> Vec<u8> {
 pub fn overlong(random: &mut Random) -> Vec<u8> {
     let mut rest = spoiled(random).split_off(2);
     rest.resize(LONGEST_REST + 1 + random.below(60), 0);
+    with_length(rest)
+}
+
+/// A length over that of version 2.
+pub fn overlong_numbered(random: &mut Random) -> Vec<u8> {
+    let mut rest = spoiled_numbered(random).split_off(2);
+    rest.resize(LONGEST_NUMBERED + 1 + random.below(60), 0);
     with_length(rest)
 }
 

@@ -12,9 +12,11 @@ mod layouts;
 mod named;
 mod warehouse;
 
+pub use faulty::{spoiled, spoiled_numbered};
+
 use crate::random::Random;
 use crate::records::answers::Answer;
-use crate::records::{reader, scene_record};
+use crate::records::{numbered_record, reader, scene_record, NUMBERED};
 use crate::scale::Parts;
 use crate::scenes::passes::{self, Passes};
 use crate::scenes::Scene;
@@ -60,7 +62,19 @@ const PARTS: [(MakeScene, Wanted, usize); 30] = [
     (crowded::all_relaxed, any, 10),
 ];
 
-const FAULTY_PARTS: [(MakeRecord, usize); 2] = [(faulty::spoiled, 2_400), (faulty::overlong, 12)];
+const FAULTY_PARTS: [(MakeRecord, usize); 4] = [
+    (faulty::spoiled, 2_400),
+    (faulty::overlong, 12),
+    (faulty::spoiled_numbered, 300),
+    (faulty::overlong_numbered, 4),
+];
+
+/// Scenes whose records are of version 2, with drawn numbers.
+const NUMBERED_PARTS: [(MakeScene, usize); 3] = [
+    (layouts::ordinary, 400),
+    (crowded::many_lines, 20),
+    (crowded::longest, 4),
+];
 
 /// How often a scene may be made anew until one is taken.
 const MOST_TRIES: usize = 10_000;
@@ -98,6 +112,12 @@ pub fn set() -> Result<Set, String> {
             cases.push(ask_record(make(&mut random))?);
         }
     }
+    for (make, count) in NUMBERED_PARTS {
+        for _ in 0..count {
+            let scene = make(&mut random);
+            cases.push(ask_numbered(&mut random, scene)?);
+        }
+    }
     let made = cases.len();
     cases.retain(|case| !case.leaves_a_zero_open());
     if cases.len() < AT_LEAST {
@@ -125,12 +145,19 @@ impl Set {
 /// One in so many scenes at scale is made as a record, most of these at fault.
 const RECORDS: usize = 10;
 
+/// One in so many has a record of version 2.
+const NUMBERED_SCENES: usize = 4;
+
 /// A random scene's record, and its answer's. A zero whose sign the Rust leaves open is as it gave it.
 pub fn at_scale(random: &mut Random) -> Result<Parts, String> {
-    let case = if random.one_in(RECORDS) {
-        ask_record(faulty::spoiled(random))?
-    } else {
-        ask_scene(drawn(random))?
+    let case = match (random.one_in(RECORDS), random.one_in(NUMBERED_SCENES)) {
+        (true, false) => ask_record(faulty::spoiled(random))?,
+        (true, true) => ask_record(faulty::spoiled_numbered(random))?,
+        (false, false) => ask_scene(drawn(random))?,
+        (false, true) => {
+            let scene = drawn(random);
+            ask_numbered(random, scene)?
+        }
     };
     let answer = case.answer().record();
     Ok(vec![case.record, answer])
@@ -183,6 +210,29 @@ pub fn ask_scene(scene: Scene) -> Result<Case, String> {
         Ok(_) => pass(record, scene),
         Err(number) => Ok(refused(record, number)),
     }
+}
+
+/// The scene's record of version 2, each line with a drawn number, and what the Rust gives for the scene without them.
+pub fn ask_numbered(random: &mut Random, scene: Scene) -> Result<Case, String> {
+    let numbers = drawn_numbers(random, &scene);
+    let record = numbered_record(&scene, &numbers);
+    let case = ask_scene(scene)?;
+    match reader::read_of(&record, &[NUMBERED]) {
+        Ok(read) if scene_record(&read.scene) != case.record || read.numbers != numbers => {
+            Err("read otherwise than written, with numbers".to_string())
+        }
+        _ => Ok(Case { record, ..case }),
+    }
+}
+
+/// Small ones, zeros among them, and any.
+pub fn drawn_numbers(random: &mut Random, scene: &Scene) -> Vec<u32> {
+    let number = |_: &_| match random.below(3) {
+        0 => random.below(10) as u32,
+        1 => random.bits() as u32,
+        _ => 0,
+    };
+    scene.lines.iter().map(number).collect()
 }
 
 pub fn ask_record(record: Vec<u8>) -> Result<Case, String> {

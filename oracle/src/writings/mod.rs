@@ -96,12 +96,12 @@ pub fn at_scale(random: &mut Random) -> Result<Parts, String> {
     Ok(vec![call.record(), call.answer()])
 }
 
-/// Every record of a stream that is accepted must be written again to its bytes; the line that tells how many there were.
+/// Every version 1 record of a stream that is accepted must be written again to its bytes; the line that tells how many there were.
 pub fn written_again(file: &str) -> Result<(), String> {
     let stream = fs::read(file).map_err(|fault| format!("{file}: {fault}"))?;
     let mut count = 0;
     for record in Records(&stream) {
-        let Ok(scene) = reader::read(record) else {
+        let Ok(scene) = reader::read_version_1(record) else {
             continue;
         };
         let call = Call::of(&scene, record.len());

@@ -11,11 +11,11 @@ returns c = no-room _ _ (c .if1 .taken)
 
 returns-2 : tie.Need-returns-2
 unfolding answered
-returns-2 c = sym (some-room _ _ (c .before .before .before .before .if1 .left) ∙ rw (read-refused _ _ _ (c .before .before .before .read-scene-version-1 .ensures) (c .before .judged .given .1)))
+returns-2 c = sym (some-room _ _ (c .before .before .before .before .if1 .left) ∙ rw (read-refused _ _ _ (c .before .before .before .read-scene .ensures) (c .before .judged .given .1)))
 
 returns-3 : tie.Need-returns-3
 unfolding answered
-returns-3 c = c .before .before .write-outcome .ensures ∙ sym (some-room _ _ (c .before .before .before .before .before .before .before .before .before .if1 .left) ∙ rw (read-solved _ _ (c .before .before .before .before .before .before .before .before .read-scene-version-1 .ensures) (c .before .before .before .before .before .before .enum-told .given .1), ← c .before .before .before .before .compute-avoiding-velocity .ensures))
+returns-3 c = c .before .before .write-outcome .ensures ∙ sym (some-room _ _ (c .before .before .before .before .before .before .before .before .before .if1 .left) ∙ rw (read-solved _ _ (c .before .before .before .before .before .before .before .before .read-scene .ensures) (c .before .before .before .before .before .before .enum-told .given .1), ← c .before .before .before .before .compute-avoiding-velocity .ensures))
 
 pub answer-record-spec : {M : Type 1} → statement M
 answer-record-spec =

@@ -5,7 +5,7 @@ use Rattle.scene_records.proofs.steps.version_at.Statement.{statement}
 use Rattle.scene_records.proofs.steps.version_at.Tie as tie
 
 returns : tie.Need-returns
-returns c = rw (c .held-to .ensures) (version-read _ _ _ _ (c .before .before .byte-at .ensures))
+returns c = rw (c .held-to .ensures) (version-read _ _ _ _ _ (c .before .before .byte-at .ensures))
 
 pub version-at-spec : {M : Type 1} → statement M
 version-at-spec =

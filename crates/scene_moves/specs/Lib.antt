@@ -1,0 +1,2 @@
+-- The definitions that the contracts of `scene_moves` cite.
+pub mod Moves
