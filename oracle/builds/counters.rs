@@ -6,6 +6,7 @@ use std::cell::Cell;
 pub mod branches;
 mod causes;
 pub mod edge_branches;
+pub mod makers;
 pub mod passes;
 
 pub use branches::{taken, Branch, Branches};
@@ -47,6 +48,7 @@ pub fn counts() -> Counts {
 pub fn reset() {
     start_counting();
     edge_branches::reset();
+    makers::reset();
     passes::reset();
 }
 

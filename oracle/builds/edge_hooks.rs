@@ -1,5 +1,5 @@
-//! The places of obstacles.rs where the counted build notes which branch is taken. Text is only inserted, as in
-//! linear_programming.rs.
+//! The places of obstacles.rs where the counted build notes which branch is taken, and which edge makes a line. Text is
+//! only inserted, as in linear_programming.rs.
 
 use crate::Hook;
 
@@ -32,7 +32,10 @@ macro_rules! noted {
     };
 }
 
-pub const EDGE_HOOKS: [Hook; 40] = [
+/// Before an edge's line joins the others.
+const MAKER: &str = "counters::makers::note(left_index); ";
+
+pub const EDGE_HOOKS: [Hook; 42] = [
     Hook {
         name: "a closed obstacle's vertex",
         before: "\n        let right = vertices[if i == vertices.len() - 1 { 0 } else { i + 1 }];\n        ",
@@ -50,6 +53,18 @@ pub const EDGE_HOOKS: [Hook; 40] = [
         before: "\n        let right = vertices[i + 1];\n        ",
         inserted: noted!("vertex(false, determinant(right - center, left - center), left, center, right)"),
         after: "convexity.push(",
+    },
+    Hook {
+        name: "an edge of a closed obstacle makes a line",
+        before: "        Some(vertices[right_right_index]),\n        obstacle_margin,\n        time_horizon,\n        &lines,\n      ) {\n        ",
+        inserted: MAKER,
+        after: "lines.push(line);",
+    },
+    Hook {
+        name: "an edge of an open obstacle makes a line",
+        before: "          Some(vertices[right_index + 1])\n        },\n        obstacle_margin,\n        time_horizon,\n        &lines,\n      ) {\n        ",
+        inserted: MAKER,
+        after: "lines.push(line);",
     },
     Hook {
         name: "the agent is behind the edge",

@@ -24,6 +24,8 @@ pub type EdgeLine = (Vec2, Vec2);
 pub struct EdgeLines {
     /// The plain build's lines.
     pub lines: Vec<EdgeLine>,
+    /// The left vertex of the edge that made each of them, as the counted build noted it.
+    pub makers: Vec<usize>,
     pub branches: EdgeBranches,
 }
 
@@ -56,7 +58,9 @@ pub fn edge_lines(encounter: &Encounter) -> Result<EdgeLines, String> {
     counters::reset();
     let counted = edge_lines!(dodgy_counted, encounter);
     let branches = counters::edges_taken();
+    let makers = counters::makers::noted();
     let agree = lines.len() == counted.len()
+        && lines.len() == makers.len()
         && lines
             .iter()
             .zip(&counted)
@@ -64,7 +68,11 @@ pub fn edge_lines(encounter: &Encounter) -> Result<EdgeLines, String> {
     if !agree {
         return Err(format!("plain {lines:?}, counted {counted:?}: {encounter}"));
     }
-    Ok(EdgeLines { lines, branches })
+    Ok(EdgeLines {
+        lines,
+        makers,
+        branches,
+    })
 }
 
 impl fmt::Display for Encounter {

@@ -3,9 +3,11 @@ use admission::Judged;
 use common::Vec2;
 use edges::Agent;
 use linear_programming::FailedLine;
+use lines::Origin;
 ghost use mathlib.Core.Path.{_≡_};
 ghost use Rattle.dodgy_2d.specs.Outcomes.{sceneOutcome};
-ghost use Rattle.dodgy_2d.specs.Read.{outcomeOf};
+ghost use Rattle.dodgy_2d.specs.Origins.{sceneOrigin};
+ghost use Rattle.dodgy_2d.specs.Read.{outcomeOf, originOf};
 
 mod edge_lines;
 mod judge;
@@ -38,10 +40,24 @@ pub(crate) enum EdgeLines {
     Refused(u8),
 }
 
-// The outcome 1 to 5 with the velocity, the failed line of the last pass run, and the probes of all passes; or the number of the scene's refusal.
+// The outcome 1 to 5 with the velocity, the failed line of the last pass run, the probes of all passes, and the failed line's origin; or the number of the
+// scene's refusal.
 pub enum SceneAnswer {
-    Outcome(u8, f32, f32, FailedLine, u32),
+    Outcome(u8, f32, f32, FailedLine, u32, Origin),
     Refused(u8),
+}
+
+impl SceneAnswer {
+    // Where the failed line comes from: an edge by its obstacle's place in the scene and its left vertex there, or a neighbour by its place; unknown where
+    // no line failed.
+    pub fn origin(self) -> Origin
+        ensures { λ r. ⌜ r ≡ originOf self ⌝ }
+    {
+        match self {
+            SceneAnswer::Outcome(_, _, _, _, _, origin) => origin,
+            SceneAnswer::Refused(_) => Origin::UNKNOWN,
+        }
+    }
 }
 
 // The velocity of a scene: 1 where the lines are met, 2 where neighbours' lines had to be relaxed; where the obstacles' lines cannot be met, they are made
@@ -49,6 +65,7 @@ pub enum SceneAnswer {
 // (6, 4, 3, 5, 7), an edge line that is not admitted (9). The solves' own 8 and 9 are never told of a scene (proofs/SceneTold.antt).
 pub fn compute_avoiding_velocity(scene: Scene) -> SceneAnswer
     ensures { λ r. ⌜ outcomeOf r ≡ sceneOutcome scene ⌝ }
+    ensures { λ r. ⌜ originOf r ≡ sceneOrigin scene ⌝ }
 {
     let judged = judge::judge_scene(scene);
     if let Judged::Fault(number) = judged {

@@ -6,19 +6,69 @@ use crate::edge_lines;
 use common::Vec2;
 use edges::Agent;
 use linear_programming::Answer;
+use linear_programming::FailedLine;
 use linear_programming::Phase;
+use lines::Origin;
 ghost use mathlib.Core.Path.{_≡_};
 ghost use Prim.Native.Nat.{_≤_};
+ghost use mathlib.Core.List.{_++_};
+ghost use lib.ListN.{length, getD};
+ghost use Rattle.lines.specs.Origins.{unknown};
 ghost use Rattle.admission.specs.Faults.{fine};
 ghost use Rattle.linear_programming.specs.Read.{outcomeOf as listOutcomeOf};
 ghost use Rattle.dodgy_2d.specs.Scenes.{sceneFault};
 ghost use Rattle.dodgy_2d.specs.Outcomes.{passAt, firstPass, secondPass, atRest};
-ghost use Rattle.dodgy_2d.specs.Read.{outcomeOf};
+ghost use Rattle.dodgy_2d.specs.Origins.{neighboursFrom, failedOrigin, passOrigin, lastVelocity};
+ghost use Rattle.dodgy_2d.specs.Read.{outcomeOf, originOf, wallsIn};
+
+// What a pass comes to, and the origin of its failed line.
+struct Passed {
+    answer: Answer,
+    origin: Origin,
+}
+
+// The origin of the line at an index: its edge's, as noted among the first `rigid` walls, or behind them its place among the neighbours.
+fn origin_at(walls: &[u32], rigid: usize, neighbours: usize, index: usize) -> Origin
+    requires { ⌜ (rigid ≤ length (now walls)) × (neighbours ≤ 64) ⌝ }
+    ensures { λ r. ⌜ r ≡ getD (wallsIn rigid (now (walls .entry)) ++ neighboursFrom 0 neighbours) index unknown ⌝ }
+{
+    if index < rigid {
+        let wall = walls[index];
+        return Origin {
+            kind: Origin::EDGE,
+            place: wall / 256,
+            vertex: wall % 256,
+        };
+    }
+    let place = index - rigid;
+    if place < neighbours {
+        return Origin {
+            kind: Origin::NEIGHBOUR,
+            place: place as u32,
+            vertex: 0,
+        };
+    }
+    Origin::UNKNOWN
+}
+
+// The origin of the line that failed, unknown where none did.
+fn failed_origin(answer: Answer, walls: &[u32], rigid: usize, neighbours: usize) -> Origin
+    requires { ⌜ (rigid ≤ length (now walls)) × (neighbours ≤ 64) ⌝ }
+    ensures { λ r. ⌜ r ≡ failedOrigin (wallsIn rigid (now (walls .entry)) ++ neighboursFrom 0 neighbours) (listOutcomeOf answer) ⌝ }
+{
+    match answer {
+        Answer::Stands(_, failed, _) => match failed {
+            FailedLine::At(failure) => origin_at(walls, rigid, neighbours, failure.index),
+            FailedLine::NoLine => Origin::UNKNOWN,
+        },
+        Answer::Refused(_) => Origin::UNKNOWN,
+    }
+}
 
 // One pass: the obstacles' lines for a velocity, rigid, then the neighbours' lines as they came.
-fn pass(scene: Scene, velocity: Vec2) -> Answer
+fn pass(scene: Scene, velocity: Vec2) -> Passed
     requires { ⌜ sceneFault scene ≡ fine ⌝ }
-    ensures { λ r. ⌜ listOutcomeOf r ≡ passAt scene velocity ⌝ }
+    ensures { λ r. ⌜ (listOutcomeOf (r .answer) ≡ passAt scene velocity) × (r .origin ≡ passOrigin scene velocity) ⌝ }
 {
     let position = scene.agent.position;
     let agent = Agent { position, velocity };
@@ -26,6 +76,7 @@ fn pass(scene: Scene, velocity: Vec2) -> Answer
     let counts = scene.counts;
     let vertices = scene.vertices;
     let mut numbers = [0.0f32; 1024];
+    let mut walls = [0u32; 192];
     let made = edge_lines::edge_lines(
         agent,
         kinds,
@@ -35,19 +86,25 @@ fn pass(scene: Scene, velocity: Vec2) -> Answer
         scene.margin,
         scene.horizon,
         &mut numbers,
+        &mut walls,
     );
     match made {
-        EdgeLines::Refused(number) => Answer::Refused(number),
+        EdgeLines::Refused(number) => Passed {
+            answer: Answer::Refused(number),
+            origin: Origin::UNKNOWN,
+        },
         EdgeLines::Count(rigid) => {
             let lines = scene.lines;
             let end = rigid + scene.neighbours;
             edge_lines::copy(&mut numbers, 4 * rigid, lines, 4 * scene.neighbours);
-            linear_programming::solve_linear_program(
+            let answer = linear_programming::solve_linear_program(
                 &numbers[0..4 * end],
                 rigid,
                 scene.limit,
                 scene.wish,
-            )
+            );
+            let origin = failed_origin(answer, &walls, rigid, scene.neighbours);
+            Passed { answer, origin }
         }
     }
 }
@@ -55,16 +112,19 @@ fn pass(scene: Scene, velocity: Vec2) -> Answer
 // The second pass, for a cart at rest: 3, 4, or 5 where it fails rigidly too. Its probes are added to the first one's.
 fn fall_back(scene: Scene, probes: u32) -> SceneAnswer
     requires { ⌜ (sceneFault scene ≡ fine) × (probes ≤ 16777216) ⌝ }
-    ensures { λ r. ⌜ outcomeOf r ≡ secondPass probes (passAt scene atRest) ⌝ }
+    ensures { λ r. ⌜ (outcomeOf r ≡ secondPass probes (passAt scene atRest)) × (originOf r ≡ passOrigin scene atRest) ⌝ }
 {
-    match pass(scene, Vec2::ZERO) {
+    let passed = pass(scene, Vec2::ZERO);
+    let answer = passed.answer;
+    let origin = passed.origin;
+    match answer {
         Answer::Refused(number) => SceneAnswer::Refused(number),
         Answer::Stands(phase, failed, more) => {
             let all = probes + more;
             match phase {
-                Phase::Solving(x, y) => SceneAnswer::Outcome(3, x, y, failed, all),
-                Phase::Relaxing(x, y, _) => SceneAnswer::Outcome(4, x, y, failed, all),
-                Phase::RigidFailure(_, x, y) => SceneAnswer::Outcome(5, x, y, failed, all),
+                Phase::Solving(x, y) => SceneAnswer::Outcome(3, x, y, failed, all, origin),
+                Phase::Relaxing(x, y, _) => SceneAnswer::Outcome(4, x, y, failed, all, origin),
+                Phase::RigidFailure(_, x, y) => SceneAnswer::Outcome(5, x, y, failed, all, origin),
             }
         }
     }
@@ -73,13 +133,16 @@ fn fall_back(scene: Scene, probes: u32) -> SceneAnswer
 // The first pass, with the cart's velocity: 1, or 2 where it relaxed. A rigid failure falls back.
 pub(crate) fn solve(scene: Scene) -> SceneAnswer
     requires { ⌜ sceneFault scene ≡ fine ⌝ }
-    ensures { λ r. ⌜ outcomeOf r ≡ firstPass scene (passAt scene (scene .agent .velocity)) ⌝ }
+    ensures { λ r. ⌜ (outcomeOf r ≡ firstPass scene (passAt scene (scene .agent .velocity))) × (originOf r ≡ passOrigin scene (lastVelocity scene (passAt scene (scene .agent .velocity)))) ⌝ }
 {
-    match pass(scene, scene.agent.velocity) {
+    let passed = pass(scene, scene.agent.velocity);
+    let answer = passed.answer;
+    let origin = passed.origin;
+    match answer {
         Answer::Refused(number) => SceneAnswer::Refused(number),
         Answer::Stands(phase, failed, probes) => match phase {
-            Phase::Solving(x, y) => SceneAnswer::Outcome(1, x, y, failed, probes),
-            Phase::Relaxing(x, y, _) => SceneAnswer::Outcome(2, x, y, failed, probes),
+            Phase::Solving(x, y) => SceneAnswer::Outcome(1, x, y, failed, probes, origin),
+            Phase::Relaxing(x, y, _) => SceneAnswer::Outcome(2, x, y, failed, probes, origin),
             Phase::RigidFailure(_, _, _) => fall_back(scene, probes),
         },
     }

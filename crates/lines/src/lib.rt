@@ -1,4 +1,5 @@
-// A line and a list of lines that is lent as numbers, four a line: the one place that reads a line, the one that stores it, and what is admitted of it.
+// A line, its origin, and lists of lines that are lent as numbers, four a line: the one place that reads a line, the one that stores it, and what is
+// admitted of it.
 use admission::Judged;
 use admission::fault_unless;
 use admission::first_of;
@@ -10,6 +11,7 @@ ghost use lib.ListN.{getD, length, take};
 ghost use Rattle.admission.specs.Faults.{faultOf};
 ghost use Rattle.lines.specs.Lines.{line as lineOf, linesOf, offLine, lineStored};
 ghost use Rattle.lines.specs.LineFaults.{lineFault, linesFault};
+ghost use Rattle.lines.specs.Origins.{unknown, originsOf};
 
 // A half-plane to the left of `direction` through `point`.
 pub struct Line {
@@ -37,6 +39,27 @@ impl Line {
     {
         Line { point, direction }
     }
+}
+
+// Where a line comes from (02, T-06), in three whole numbers: its kind, then places counted from 0, an edge's obstacle and left vertex, or a neighbour's own
+// and 0. Nothing is judged of them: they are kept as they stand.
+pub struct Origin {
+    pub kind: u32,
+    pub place: u32,
+    pub vertex: u32,
+}
+
+impl Origin {
+    pub const UNKNOWN: Origin = Origin {
+        kind: 0,
+        place: 0,
+        vertex: 0,
+    };
+
+    // The kinds of an origin that is known.
+    pub const EDGE: u32 = 1;
+
+    pub const NEIGHBOUR: u32 = 2;
 }
 
 // The line at an index of a list that is lent as numbers, four a line; past its end a line of NaNs.
@@ -72,6 +95,21 @@ pub fn count_given(numbers: &[f32], count: usize) -> usize
         return count;
     }
     given
+}
+
+// The origin at an index of a list that is lent as numbers, three an origin; past its end it is unknown.
+pub fn origin_at(numbers: &[u32], i: usize) -> Origin
+    ensures { λ r. ⌜ r ≡ getD (originsOf (now (numbers .entry))) i unknown ⌝ }
+{
+    if i < numbers.len() / 3 {
+        let k = 3 * i;
+        return Origin {
+            kind: numbers[k],
+            place: numbers[k + 1],
+            vertex: numbers[k + 2],
+        };
+    }
+    Origin::UNKNOWN
 }
 
 // Stores a line at an index of a list that is lent as numbers, four a line; numbers without room for it stay as they are.

@@ -1,7 +1,8 @@
--- The edges in order: one edge more, a refusal that stays; and every answer refuses with 9 or has few lines, all admitted. Assumes nothing.
+-- The edges in order: one edge more, a refusal that stays; every answer refuses with 9 or has few lines, all admitted; and the lines are those of the edges
+-- that are told beside them. Assumes nothing.
 use Prim.Native.Nat.{ℕ, zero, suc, _+_, _-_, _≤_}
-use mathlib.Core.Path.{_≡_, refl}
-use mathlib.Core.List.{List, [], _∷_, _++_}
+use mathlib.Core.Path.{_≡_, refl, ap}
+use mathlib.Core.List.{List, [], _∷_, _++_, append-nil}
 use native.Mathlib.Omega.{arith}
 use native.Mathlib.Nat.{zero-add, suc-add}
 use native.Mathlib.Numerals.{add-one}
@@ -19,7 +20,7 @@ use Rattle.edges.specs.declared.Agent.{Agent}
 use Rattle.edges.specs.Edges.{EdgeLine, nothing, made}
 use Rattle.obstacles.specs.Vertices.{edgeAt}
 use Rattle.edges.specs.EdgeLines.{lineForEdge}
-use Rattle.obstacles.specs.Obstacles.{Answer, lines, refused, Admitted, kept, nothingKept, notAdmitted, admitted, behind, addEdge, linesUpTo, edgeCount, obstacleLines}
+use Rattle.obstacles.specs.Obstacles.{Answer, lines, refused, Admitted, kept, nothingKept, notAdmitted, admitted, behind, addEdge, linesUpTo, edgeCount, obstacleLines, maker, makerBehind, makersUpTo, obstacleEdges}
 
 -- the answer refuses with 9, or its lines are at most n and pass the admission of a list
 pub data FewAdmitted (n : ℕ) : Answer → Type 0 where
@@ -84,3 +85,52 @@ module _ (agent : Agent) (kind n : ℕ) (vs : List Vec2) (margin horizon : Float
   pub lines-few-admitted : FewAdmitted n (obstacleLines agent kind n vs margin horizon)
   unfolding obstacleLines
   lines-few-admitted = more-few-admitted (edgeCount kind n) n _ (few-edges kind n) (up-to-few-admitted (edgeCount kind n))
+
+  -- ---- the edges that made the lines
+
+  abbrev madeUpTo : ℕ → List ℕ
+  madeUpTo = makersUpTo agent kind n vs margin horizon
+
+  pub maker-kept : (i : ℕ) (ls : List Line) (l : Line) → upTo i ≡ lines ls → kept l ≡ edge i ls → madeUpTo (i + 1) ≡ madeUpTo i ++ (i ∷ [])
+  unfolding makersUpTo
+  maker-kept i ls l e h = rw (add-one, e, ← h)
+
+  pub maker-nothing : (i : ℕ) (ls : List Line) → upTo i ≡ lines ls → nothingKept ≡ edge i ls → madeUpTo (i + 1) ≡ madeUpTo i
+  unfolding makersUpTo
+  maker-nothing i ls e h = rw (add-one, e, ← h) (append-nil (madeUpTo i))
+
+  -- each line, behind those before it, is that of the edge told beside it
+  pub data MadeBy : List Line → List ℕ → Type 0 where
+    none-made : MadeBy [] []
+    one-made : {ls : List Line} {es : List ℕ} {l : Line} (i : ℕ) → MadeBy ls es → kept l ≡ edge i ls → MadeBy (ls ++ (l ∷ [])) (es ++ (i ∷ []))
+
+  data AnswerMade : Answer → List ℕ → Type 0 where
+    refused-made : {r : ℕ} {es : List ℕ} → AnswerMade (refused r) es
+    lines-made : {ls : List Line} {es : List ℕ} → MadeBy ls es → AnswerMade (lines ls) es
+
+  edge-made : (k : ℕ) (ls : List Line) (es : List ℕ) (a : Admitted) → a ≡ edge k ls → MadeBy ls es → AnswerMade (behind ls a) (es ++ maker k a)
+  edge-made k ls es (kept l) e m = lines-made (one-made k m e)
+  edge-made k ls es nothingKept e m = lines-made {ls = ls} {es = es ++ []} (rw (append-nil es) m)
+  edge-made k ls es (notAdmitted r) e m = refused-made
+
+  next-made : (k : ℕ) (a : Answer) (es : List ℕ) → AnswerMade a es → AnswerMade (addEdge agent kind n vs margin horizon a k) (es ++ makerBehind agent kind n vs margin horizon a k)
+  unfolding addEdge
+  next-made k (refused r) es refused-made = refused-made
+  next-made k (lines ls) es (lines-made m) = edge-made k ls es (edge k ls) refl m
+
+  up-to-made : (k : ℕ) → AnswerMade (upTo k) (madeUpTo k)
+  unfolding linesUpTo makersUpTo
+  up-to-made zero = lines-made none-made
+  up-to-made (suc k) = next-made k (upTo k) (madeUpTo k) (up-to-made k)
+
+  told-made : {ls : List Line} {es : List ℕ} → AnswerMade (lines ls) es → MadeBy ls es
+  told-made (lines-made m) = m
+
+  -- 02, T-06: the lines of an obstacle are those of the edges that are told beside them
+  pub lines-of-edges : {ls : List Line} → obstacleLines agent kind n vs margin horizon ≡ lines ls → MadeBy ls (obstacleEdges agent kind n vs margin horizon)
+  unfolding obstacleLines obstacleEdges
+  lines-of-edges e = told-made (rw e at (up-to-made (edgeCount kind n)))
+
+  pub made-many : {ls : List Line} {es : List ℕ} → MadeBy ls es → length ls ≡ length es
+  made-many none-made = refl
+  made-many (one-made {ls} {es} {l} i m e) = rw (length-append ls (l ∷ []), length-append es (i ∷ [])) (ap (λ (j : ℕ). j + 1) (made-many m))

@@ -65,6 +65,30 @@ endsOf kind xs i =
 unfoldable pub obstacleLines : Agent → ℕ → ℕ → List Vec2 → Float → Float → Answer
 obstacleLines agent kind n vs margin horizon = linesUpTo agent kind n vs margin horizon (edgeCount kind n)
 
+-- ---- 02, T-06: "obstacle and edge (by its left vertex)", for each line in order
+
+-- the edge i, where its line is kept
+abbrev pub maker : ℕ → Admitted → List ℕ
+maker i (kept l) = i ∷ []
+maker i nothingKept = []
+maker i (notAdmitted r) = []
+
+-- the edge i behind what the edges before it made
+abbrev pub makerBehind : Agent → ℕ → ℕ → List Vec2 → Float → Float → Answer → ℕ → List ℕ
+makerBehind agent kind n vs margin horizon (lines ls) i = maker i (admitted (lineForEdge agent (edgeAt kind n vs i) margin horizon ls))
+makerBehind agent kind n vs margin horizon (refused r) i = []
+
+-- the left vertices of those of the first k edges that make a line
+unfoldable pub makersUpTo : Agent → ℕ → ℕ → List Vec2 → Float → Float → ℕ → List ℕ
+makersUpTo agent kind n vs margin horizon zero = []
+makersUpTo agent kind n vs margin horizon (suc k) =
+    makersUpTo agent kind n vs margin horizon k ++ makerBehind agent kind n vs margin horizon (linesUpTo agent kind n vs margin horizon k) k
+
+unfoldable pub obstacleEdges : Agent → ℕ → ℕ → List Vec2 → Float → Float → List ℕ
+obstacleEdges agent kind n vs margin horizon = makersUpTo agent kind n vs margin horizon (edgeCount kind n)
+
+-- ---- the calls
+
 -- as they are, with nothing judged but that the answer holds as many lines (4)
 unfoldable pub linesAlone : Agent → ℕ → List Float → Float → Float → Answer
 linesAlone agent kind xs margin horizon =

@@ -11,16 +11,21 @@ use lines::Line;
 ghost use mathlib.Core.Path.{_≡_};
 ghost use Rattle.admission.specs.Faults.{faultOf};
 ghost use Rattle.obstacles.specs.ObstacleFaults.{vectorFault, agentFault, headFault, verticesFault};
-ghost use Rattle.obstacles.specs.Obstacles.{linesAlone, obstacleCall, endsOf};
+ghost use Prim.Native.Nat.{_/_};
+ghost use lib.ListN.{length};
+ghost use Rattle.obstacles.specs.Vertices.{verticesOf};
+ghost use Rattle.obstacles.specs.Obstacles.{linesAlone, obstacleCall, obstacleEdges, endsOf};
 ghost use Rattle.obstacles.specs.Read.{answerAs};
 
 mod judge;
 mod obstacle;
 mod vertices;
 
-// The lines of one obstacle, four numbers each, and how many they are: blank behind them, and where the obstacle is refused.
+// The lines of one obstacle, four numbers each, the left vertex of the edge that each is of, and how many they are: blank behind them, and where the
+// obstacle is refused.
 pub struct ObstacleLines {
     pub lines: [f32; 256],
+    pub edges: [u8; 64],
     pub count: usize,
     pub judged: Judged,
 }
@@ -49,7 +54,7 @@ pub fn get_lines_for_agent_to_obstacle(
     margin: f32,
     horizon: f32,
 ) -> ObstacleLines
-    ensures { λ r. ⌜ r ≡ answerAs (obstacleCall agent kind (now (vertices .entry)) count margin horizon) ⌝ }
+    ensures { λ r. ⌜ r ≡ answerAs (obstacleCall agent kind (now (vertices .entry)) count margin horizon) (obstacleEdges agent kind count (verticesOf (now (vertices .entry))) margin horizon) ⌝ }
 {
     let beside = judge_agent(agent, margin, horizon);
     if let Judged::Fault(number) = beside {
@@ -71,7 +76,7 @@ pub fn get_lines_alone(
     margin: f32,
     horizon: f32,
 ) -> ObstacleLines
-    ensures { λ r. ⌜ r ≡ answerAs (linesAlone agent kind (now (vertices .entry)) margin horizon) ⌝ }
+    ensures { λ r. ⌜ r ≡ answerAs (linesAlone agent kind (now (vertices .entry)) margin horizon) (obstacleEdges agent kind (length (now (vertices .entry)) / 2) (verticesOf (now (vertices .entry))) margin horizon) ⌝ }
 {
     if vertices.len() / 2 > Head::MOST {
         return obstacle::refused(4);

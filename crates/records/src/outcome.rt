@@ -14,7 +14,7 @@ pub(crate) fn write_outcome(outcome: SceneAnswer, buffer: &mut [u8]) -> Judged
     ensures { λ r. ⌜ writtenOf r (now (buffer .exit)) ≡ laidAnswer (ofOutcome (outcomeOf outcome)) (now (buffer .entry)) ⌝ }
 {
     match outcome {
-        SceneAnswer::Outcome(code, x, y, failed, probes) => {
+        SceneAnswer::Outcome(code, x, y, failed, probes, _) => {
             let answer = Answer {
                 code,
                 x: words::pattern(x),

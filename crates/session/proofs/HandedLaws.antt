@@ -1,15 +1,17 @@
 -- A batch hands a session on: what it tells is what the single call over all lines tells, and a refused batch leaves it as it was. Assumes nothing.
 use Prim.Native.Nat.{ℕ, _+_, _%_, _^_, _≤_}
 use mathlib.Core.Path.{_≡_, refl, sym, _∙_, ap}
+use mathlib.Core.Bool.{true}
 use mathlib.Core.List.{List, _++_}
 use native.Mathlib.Omega.{arith}
 use native.Mathlib.Nat.{mod-eq-of-lt}
 use lib.Dec.{leb}
-use lib.ListN.{length, length-append}
-use lib.Seq.{length-take-le, length-sets}
+use lib.ListN.{length, take, drop, length-append}
+use lib.Seq.{sets, length-take-le, length-sets}
 use lib.Ieee.{Float}
 use borrow.Author.Tests.{le-leb}
 use Rattle.lines.specs.declared.Line.{Line}
+use Rattle.lines.specs.declared.Origin.{Origin}
 use Rattle.lines.specs.Lines.{mostLines, linesOf}
 use Rattle.lines.specs.LineFaults.{linesFault}
 use Rattle.linear_programming.specs.Whole.{Phase, Failed, Outcome, stands, refusal, wholeList}
@@ -17,23 +19,19 @@ use Rattle.admission.specs.Faults.{Fault, fine, fault, must, _⊳_}
 use Rattle.linear_programming.specs.Admit.{_⟫_, fours, wishFault, judgedList}
 use Rattle.linear_programming.specs.Read.{phaseOf, failedOf}
 use Rattle.linear_programming.specs.Resume.{resumed, addProbes}
-use Rattle.admission.proofs.FaultLaws.{no-fault, ⊳-fine}
+use Rattle.admission.proofs.FaultLaws.{no-fault, ⊳-fine, must-fine}
 use Rattle.lines.proofs.JudgeLaws.{faults-append}
 use Rattle.linear_programming.proofs.JudgeLaws.{⟫-assoc, ⟫-stands}
-use Rattle.lines.proofs.Rows.{lines-long}
 use Rattle.linear_programming.proofs.Agreement.{phase-there, failed-there}
 use Rattle.linear_programming.proofs.ResumeLaws.{resumed-whole}
 use Rattle.linear_programming.proofs.WholeProbes.{whole-fits}
 use Rattle.session.specs.declared.Session.{Session}
 use Rattle.session.specs.declared.Fed.{Fed}
-use Rattle.session.specs.Sessions.{linesIn, outcomeIn}
-use Rattle.session.specs.Batches.{batchFault, settled, worked, fedAs}
-use Rattle.session.specs.Handed.{Handed, toldBy, Continues}
-use Rattle.session.proofs.BatchWork.{lines-behind, batch-fits}
-
-by-four : (n : ℕ) (xs : List Float) → batchFault n xs ≡ fine → fours xs ≡ fine
-unfolding batchFault
-by-four n xs e = ⊳-fine (fours xs) (⊳-fine (must (leb n mostLines) 4) e .1) .0
+use Rattle.session.specs.Sessions.{linesIn, originsIn, outcomeIn, blankLines, blankOrigins}
+use Rattle.session.specs.Batches.{originsFor, fitting, originsFault, batchFault, settled, worked, fedWith, fedAs}
+use Rattle.session.specs.Handed.{Handed, toldBy, Continues, ContinuesWith}
+use Rattle.session.proofs.StoreLaws.{origins-many}
+use Rattle.session.proofs.BatchWork.{take-stored, drop-stored, Fitting, batch-fits}
 
 module _ (s : Session) (h : Handed s) where
   -- what was judged of the lines that stand
@@ -54,11 +52,15 @@ module _ (s : Session) (h : Handed s) where
   count-is = length-take-le (s .count) (s .lines) (omega (arith, h .size, h .fits))
 
   -- the faults of a batch are those of all lines
-  all-judged : (xs : List Float) → (fours xs ⟫ judgedList (s .rigid) (s .wish) (s .limit) (linesIn s ++ linesOf xs)) ≡ (batchFault (s .count) xs ⟫ wholeList (s .rigid) (s .wish) (s .limit) (linesIn s ++ linesOf xs))
+  all-judged : (xs : List Float) (os : List ℕ) →
+      (fours xs ⟫ (originsFault (length (linesOf xs)) os ⟫ judgedList (s .rigid) (s .wish) (s .limit) (linesIn s ++ linesOf xs)))
+      ≡ (batchFault (s .count) xs os ⟫ wholeList (s .rigid) (s .wish) (s .limit) (linesIn s ++ linesOf xs))
   unfolding judgedList batchFault
-  all-judged xs =
+  all-judged xs os =
+      let theirs = originsFault (length (linesOf xs)) os in
+      let rest = must (leb (s .count + length (linesOf xs)) mostLines) 4 ⊳ linesFault (linesOf xs) in
       rw (length-append (linesIn s) (linesOf xs), faults-append, fault-free .wished, fault-free .lined, count-is, le-leb (s .count) mostLines (h .fits))
-      (sym (⟫-assoc (fours xs) (must (leb (s .count + length (linesOf xs)) mostLines) 4 ⊳ linesFault (linesOf xs)) _))
+      (sym (⟫-assoc (fours xs) (theirs ⊳ rest) _ ∙ ap (λ (o : Outcome). fours xs ⟫ o) (⟫-assoc theirs rest _)))
 
   -- the solve over the new lines, the probes before added, is the whole-list rules over all lines
   solved-on : (m : List Line) → addProbes (s .probes) (worked s m) ≡ wholeList (s .rigid) (s .wish) (s .limit) (linesIn s ++ m)
@@ -67,7 +69,7 @@ module _ (s : Session) (h : Handed s) where
       ap (λ (k : ℕ). addProbes (s .probes) (resumed (s .rigid) (s .wish) (s .limit) (linesIn s ++ m) k (phaseOf (s .phase)) (failedOf (s .failed)))) (sym count-is)
       ∙ resumed-whole (s .rigid) (s .wish) (s .limit) (linesIn s) m (fault-free .stood)
 
-  module _ (m : List Line) (room : s .count + length m ≤ mostLines) where
+  module _ (m : List Line) (os : List ℕ) (room : s .count + length m ≤ mostLines) where
     all-few : length (linesIn s ++ m) ≤ mostLines
     all-few = rw (length-append, count-is) room
 
@@ -77,57 +79,86 @@ module _ (s : Session) (h : Handed s) where
         let w : wholeList (s .rigid) (s .wish) (s .limit) (linesIn s ++ m) ≡ stands ph f (s .probes + n) = sym (solved-on m) ∙ ap (addProbes (s .probes)) e in
         mod-eq-of-lt (omega (arith, whole-fits (s .rigid) (s .wish) (s .limit) (linesIn s ++ m) all-few w))
 
-    settled-tells : (o : Outcome) → worked s m ≡ o → toldBy (settled s m o) ≡ addProbes (s .probes) o
+    settled-tells : (o : Outcome) → worked s m ≡ o → toldBy (settled s m os o) ≡ addProbes (s .probes) o
     settled-tells (stands ph f n) e = rw (phase-there ph, failed-there f, total ph f n e)
     settled-tells (refusal r) e = refl
 
-    -- the new session's lines
-    lines-on : (ph : Phase) (f : Failed) (n : ℕ) → linesIn (settled s m (stands ph f n) .session) ≡ linesIn s ++ m
-    lines-on ph f n = lines-behind (s .lines) m (s .count) (omega (arith, h .size))
+    -- the new session's lines and origins, and the blank places behind them
+    lines-on : take (s .count + length m) (sets (s .lines) (s .count) m) ≡ linesIn s ++ m
+    lines-on = take-stored (s .lines) m (s .count) (length m) refl (omega (arith, h .size))
+
+    lines-blank : drop (s .count + length m) (sets (s .lines) (s .count) m) ≡ drop (s .count + length m) blankLines
+    lines-blank = drop-stored (s .lines) m (s .count) (length m) refl (omega (arith, h .size)) blankLines (h .blank)
+
+    module _ (theirs : fitting (length os) (length m) ≡ true) where
+      abbrev own : List Origin
+      own = originsFor (length m) os
+
+      origins-on : take (s .count + length m) (sets (s .origins) (s .count) own) ≡ originsIn s ++ own
+      origins-on = take-stored (s .origins) own (s .count) (length m) (origins-many (length m) os theirs) (omega (arith, h .origins-size))
+
+      origins-blank : drop (s .count + length m) (sets (s .origins) (s .count) own) ≡ drop (s .count + length m) blankOrigins
+      origins-blank = drop-stored (s .origins) own (s .count) (length m) (origins-many (length m) os theirs) (omega (arith, h .origins-size)) blankOrigins (h .blank-origins)
 
   -- ---- a batch hands the session on
 
-  module _ (xs : List Float) where
+  module _ (xs : List Float) (os : List ℕ) where
     abbrev L : List Line
     L = linesOf xs
 
     abbrev after : List Line
     after = linesIn s ++ linesOf xs
 
-    whole-told : batchFault (s .count) xs ≡ fine → judgedList (s .rigid) (s .wish) (s .limit) after ≡ addProbes (s .probes) (worked s L)
-    whole-told e = (rw (by-four (s .count) xs e, e) at (all-judged xs)) ∙ sym (solved-on L)
+    -- what the single call over all lines tells
+    abbrev all-told : Outcome
+    all-told = fours xs ⟫ (originsFault (length L) os ⟫ judgedList (s .rigid) (s .wish) (s .limit) after)
 
-    has-room : batchFault (s .count) xs ≡ fine → s .count + length L ≤ mostLines
-    has-room e = rw (lines-long xs) (batch-fits (s .count) xs (sym e))
+    whole-told : batchFault (s .count) xs os ≡ fine → judgedList (s .rigid) (s .wish) (s .limit) after ≡ addProbes (s .probes) (worked s L)
+    whole-told e =
+        let f = batch-fits (s .count) xs os e in
+        (rw (f .whole-lines, f .theirs, e) at (all-judged xs os)) ∙ sym (solved-on L)
 
-    refused-on : (r : ℕ) → refusal r ≡ (fours xs ⟫ judgedList (s .rigid) (s .wish) (s .limit) after) → Continues s xs (settled s L (refusal r))
-    refused-on r e = record { handed = h; tells = e; grows = λ z. absurd (no-fault r (sym z)); aims = (refl, refl, refl); untouched = λ k z. refl }
+    refused-on : (r : ℕ) → refusal r ≡ all-told → ContinuesWith s xs os (settled s L os (refusal r))
+    refused-on r e = record {
+      handed = h;
+      tells = e;
+      grows = λ z. absurd (no-fault r (sym z));
+      remembers = λ z. absurd (no-fault r (sym z));
+      aims = (refl, refl, refl);
+      untouched = λ k z. refl;
+    }
 
-    stands-on : batchFault (s .count) xs ≡ fine → (o : Outcome) → worked s L ≡ o → Continues s xs (settled s L o)
-    stands-on e (refusal r) w = refused-on r (sym (all-judged xs ∙ rw (e, ← solved-on L, w)))
+    stands-on : batchFault (s .count) xs os ≡ fine → (o : Outcome) → worked s L ≡ o → ContinuesWith s xs os (settled s L os o)
+    stands-on e (refusal r) w = refused-on r (sym (all-judged xs os ∙ rw (e, ← solved-on L, w)))
     stands-on e (stands ph f n) w =
-        let room = has-room e in
+        let fitted = batch-fits (s .count) xs os e in
+        let room = fitted .room in
+        let theirs = must-fine (fitting (length os) (length L)) 2 (fitted .theirs) in
         let whole : judgedList (s .rigid) (s .wish) (s .limit) after ≡ stands ph f (s .probes + n) = whole-told e ∙ ap (addProbes (s .probes)) w in
         record {
           handed = record {
             size = length-sets (s .lines) (s .count) L ∙ h .size;
+            origins-size = length-sets (s .origins) (s .count) (originsFor (length L) os) ∙ h .origins-size;
             fits = room;
-            stand = rw (lines-on L room ph f n, phase-there ph, failed-there f, total L room ph f n w) whole;
+            blank = lines-blank L os room;
+            blank-origins = origins-blank L os room theirs;
+            stand = rw (lines-on L os room, phase-there ph, failed-there f, total L os room ph f n w) whole;
           };
-          tells = settled-tells L room (stands ph f n) w ∙ sym (all-judged xs ∙ rw (e, ← solved-on L, w));
-          grows = λ _. lines-on L room ph f n;
+          tells = settled-tells L os room (stands ph f n) w ∙ sym (all-judged xs os ∙ rw (e, ← solved-on L, w));
+          grows = λ _. lines-on L os room;
+          remembers = λ _. origins-on L os room theirs;
           aims = (refl, refl, refl);
           untouched = λ k z. absurd (no-fault k z);
         }
 
-    judged-on : (f : Fault) → batchFault (s .count) xs ≡ f → Continues s xs (settled s L (f ⟫ worked s L))
+    judged-on : (f : Fault) → batchFault (s .count) xs os ≡ f → ContinuesWith s xs os (settled s L os (f ⟫ worked s L))
     judged-on fine e = stands-on e (worked s L) refl
-    judged-on (fault r) e = refused-on r (sym (all-judged xs ∙ rw e))
+    judged-on (fault r) e = refused-on r (sym (all-judged xs os ∙ rw e))
 
-    pub continues : Continues s xs (fedAs s xs)
-    unfolding fedAs
-    continues = judged-on (batchFault (s .count) xs) refl
+    pub continues : ContinuesWith s xs os (fedWith s xs os)
+    unfolding fedWith
+    continues = judged-on (batchFault (s .count) xs os) refl
 
--- as the contract of `batch` says it
-pub continues-by : (s : Session) (xs : List Float) (r : Fed) → r ≡ fedAs s xs → (r ≡ fedAs s xs) × (Handed s → Continues s xs r)
-continues-by s xs r e = (e, λ h. rw e (continues s h xs))
+-- as the contracts of `batch_with_origins` and `batch` say it
+pub continues-by : (s : Session) (xs : List Float) (os : List ℕ) (r : Fed) → r ≡ fedWith s xs os → (r ≡ fedWith s xs os) × (Handed s → ContinuesWith s xs os r)
+continues-by s xs os r e = (e, λ h. rw e (continues s h xs os))

@@ -16,12 +16,16 @@ use Rattle.linear_programming.specs.Admit.{wishFault, judgedList, listCall}
 use Rattle.linear_programming.proofs.Agreement.{phase-there, failed-there}
 use Rattle.linear_programming.proofs.Computed.{computed}
 use Rattle.session.specs.declared.Fed.{Fed}
-use Rattle.session.specs.Sessions.{blankLines, blankSession, startedBy, startedAs}
+use Rattle.session.specs.Sessions.{blankLines, blankOrigins, blankSession, startedBy, startedAs}
 use Rattle.session.specs.Handed.{Handed, Begins}
 
 blank-size : length blankLines ≡ mostLines
 unfolding blankLines
 blank-size = refl
+
+blank-origins-size : length blankOrigins ≡ mostLines
+unfolding blankOrigins
+blank-origins-size = refl
 
 nothing-wished : judgedList 0 zeroVector 0ᶠ [] ≡ stands (solving zeroVector) noLine 0
 unfolding computed within inside wishFault linesFault judgedList
@@ -29,12 +33,19 @@ nothing-wished = refl
 
 blank-handed : Handed blankSession
 unfolding blankSession
-blank-handed = record { size = blank-size; fits = omega arith; stand = nothing-wished }
+blank-handed = record { size = blank-size; origins-size = blank-origins-size; fits = omega arith; blank = refl; blank-origins = refl; stand = nothing-wished }
 
 begun : (wish : Vec2) (limit : Float) (rigid : ℕ) (o : Outcome) → listCall rigid wish limit [] ≡ o → Begins wish limit rigid (startedBy wish limit rigid o)
 unfolding listCall linesOf
 begun wish limit rigid (stands ph f n) e = record {
-  handed = record { size = blank-size; fits = omega arith; stand = rw (phase-there ph, failed-there f) e };
+  handed = record {
+    size = blank-size;
+    origins-size = blank-origins-size;
+    fits = omega arith;
+    blank = refl;
+    blank-origins = refl;
+    stand = rw (phase-there ph, failed-there f) e;
+  };
   tells = rw (phase-there ph, failed-there f) (sym e);
 }
 begun wish limit rigid (refusal r) e = record { handed = blank-handed; tells = sym e }

@@ -1,23 +1,44 @@
--- A list of lines cut into consecutive batches (demand 3). Definitions only. Assumes nothing.
-use Prim.Native.Nat.{_%_}
+-- A list of lines cut into consecutive batches, with origins or without (demand 3; 02, T-06). Definitions only. Assumes nothing.
+use Prim.Native.Nat.{ℕ, _%_}
 use mathlib.Core.Path.{_≡_}
 use mathlib.Core.List.{List, [], _∷_, _++_}
 use lib.ListN.{length}
 use lib.Ieee.{Float}
+use Rattle.admission.specs.Faults.{fine}
+use Rattle.lines.specs.declared.Origin.{Origin}
+use Rattle.lines.specs.Lines.{linesOf}
 use Rattle.session.specs.declared.Session.{Session}
-use Rattle.session.specs.Batches.{fedAs}
+use Rattle.session.specs.declared.Fed.{Fed}
+use Rattle.session.specs.Batches.{originsFor, originsFault, fedWith}
+
+-- the numbers of a batch's lines, and the origins that it brings
+pub record Batch : Type 0 where
+  pub numbers : List Float
+  pub brought : List ℕ
+
+abbrev pub fedBy : Session → Batch → Fed
+fedBy s b = fedWith s (b .numbers) (b .brought)
 
 -- the session after each batch of a list, one after the other
-abbrev pub fedAll : Session → List (List Float) → Session
+abbrev pub fedAll : Session → List Batch → Session
 fedAll s [] = s
-fedAll s (xs ∷ xss) = fedAll (fedAs s xs .session) xss
+fedAll s (b ∷ bs) = fedAll (fedBy s b .session) bs
 
--- each batch is whole lines, or empty
-pub data WholeLines : List (List Float) → Type 0 where
+-- each batch is whole lines, or empty, and brings "no origins or three numbers a line"
+pub data WholeLines : List Batch → Type 0 where
   none : WholeLines []
-  more : {xs : List Float} {xss : List (List Float)} → length xs % 4 ≡ 0 → WholeLines xss → WholeLines (xs ∷ xss)
+  more : {b : Batch} {bs : List Batch} → length (b .numbers) % 4 ≡ 0 → originsFault (length (linesOf (b .numbers))) (b .brought) ≡ fine →
+      WholeLines bs → WholeLines (b ∷ bs)
 
 -- the numbers of the batches, one behind the other
-abbrev pub joined : List (List Float) → List Float
+abbrev pub joined : List Batch → List Float
 joined [] = []
-joined (xs ∷ xss) = xs ++ joined xss
+joined (b ∷ bs) = b .numbers ++ joined bs
+
+-- the origins that the lines of a batch arrive with, and those of the batches, one behind the other
+abbrev pub arriving : Batch → List Origin
+arriving b = originsFor (length (linesOf (b .numbers))) (b .brought)
+
+abbrev pub arrived : List Batch → List Origin
+arrived [] = []
+arrived (b ∷ bs) = arriving b ++ arrived bs

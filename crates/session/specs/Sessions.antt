@@ -8,6 +8,8 @@ use Rattle.common.specs.declared.Vec2.{Vec2}
 use Rattle.common.specs.Vectors.{zeroVector}
 use Rattle.lines.specs.declared.Line.{Line}
 use Rattle.lines.specs.Lines.{line, mostLines}
+use Rattle.lines.specs.declared.Origin.{Origin}
+use Rattle.lines.specs.Origins.{unknown}
 use Rattle.linear_programming.specs.Whole.{solving, noLine, Outcome, stands, refusal}
 use Rattle.admission.specs.Faults.{fine, fault, judgedAs}
 use Rattle.linear_programming.specs.Admit.{listCall}
@@ -15,20 +17,27 @@ use Rattle.linear_programming.specs.Read.{phaseOf, phaseAs, failedOf, failedAs}
 use Rattle.session.specs.declared.Session.{Session}
 use Rattle.session.specs.declared.Fed.{Fed}
 
--- the lines that stand, and how they stand
+-- the lines that stand, the origin of each, and how they stand
 abbrev pub linesIn : Session → List Line
 linesIn s = take (s .count) (s .lines)
+
+abbrev pub originsIn : Session → List Origin
+originsIn s = take (s .count) (s .origins)
 
 abbrev pub outcomeIn : Session → Outcome
 outcomeIn s = stands (phaseOf (s .phase)) (failedOf (s .failed)) (s .probes)
 
--- the array of a session that has no lines yet
+-- the arrays of a session that has no lines yet
 unfoldable pub blankLines : List Line
 blankLines = replicate mostLines (line zeroVector zeroVector)
+
+unfoldable pub blankOrigins : List Origin
+blankOrigins = replicate mostLines unknown
 
 unfoldable pub blankSession : Session
 blankSession = record {
   lines = blankLines;
+  origins = blankOrigins;
   count = 0;
   rigid = 0;
   wish = zeroVector;
@@ -44,6 +53,7 @@ startedBy wish limit rigid (stands ph f n) = record {
   judged = judgedAs fine;
   session = record {
     lines = blankLines;
+    origins = blankOrigins;
     count = 0;
     rigid = rigid;
     wish = wish;

@@ -1,24 +1,29 @@
-// The batch session (01, "The session has three phases"): lines come in batches, and after each the session stands as the whole list of its lines does.
+// The batch session (01, "The session has three phases"): lines come in batches, with their origins or without, and after each the session stands as the
+// whole list of its lines does.
 use admission::Judged;
 use common::Vec2;
 use linear_programming::Answer;
 use linear_programming::FailedLine;
 use linear_programming::Phase;
 use lines::Line;
+use lines::Origin;
 ghost use mathlib.Core.Path.{_≡_};
+ghost use mathlib.Core.Bool.{true};
 ghost use Prim.Native.Nat.{_+_, _/_, _≤_};
 ghost use lib.ListN.{length};
 ghost use lib.Seq.{sets};
 ghost use Rattle.lines.specs.Lines.{mostLines, linesOf};
 ghost use Rattle.admission.specs.Faults.{faultOf};
 ghost use Rattle.linear_programming.specs.Read.{outcomeOf};
-ghost use Rattle.session.specs.Sessions.{blankLines, blankSession, startedAs};
-ghost use Rattle.session.specs.Batches.{batchFault, settledOn, settled, worked, fedAs};
-ghost use Rattle.session.specs.Handed.{Handed, Begins, Continues};
+ghost use Rattle.session.specs.Sessions.{blankLines, blankOrigins, blankSession, startedAs};
+ghost use Rattle.session.specs.Batches.{originsFor, fitting, batchFault, settledOn, settled, worked, fedWith, fedAs};
+ghost use Rattle.session.specs.Handed.{Handed, Begins, Continues, ContinuesWith};
 
-// The lines so far and their count, what they are solved for, and how they stand: the phase, the failed line beside it, and the probes.
+// The lines so far, the origin of each and their count, what they are solved for, and how they stand: the phase, the failed line beside it, and the probes.
+// No origin changes how they stand.
 pub struct Session {
     pub lines: [Line; Line::MOST],
+    pub origins: [Origin; Line::MOST],
     pub count: usize,
     pub rigid: usize,
     pub wish: Vec2,
@@ -40,12 +45,19 @@ fn blank_lines() -> [Line; Line::MOST]
     [Line::new(Vec2::ZERO, Vec2::ZERO); Line::MOST]
 }
 
+fn blank_origins() -> [Origin; Line::MOST]
+    ensures { λ r. ⌜ r ≡ blankOrigins ⌝ }
+{
+    [Origin::UNKNOWN; Line::MOST]
+}
+
 // The session that stands beside a refusal to start: nothing is wished, and nothing stands in the way.
 fn blank() -> Session
     ensures { λ r. ⌜ r ≡ blankSession ⌝ }
 {
     Session {
         lines: blank_lines(),
+        origins: blank_origins(),
         count: 0,
         rigid: 0,
         wish: Vec2::ZERO,
@@ -56,15 +68,31 @@ fn blank() -> Session
     }
 }
 
-// The first fault of a batch for a session of `count` lines: more lines than a session holds (4), numbers that are no whole lines (2),
-// too many lines with those that stand (4), a line (6, 7).
-fn judge_batch(count: usize, numbers: &[f32]) -> Judged
-    ensures { λ r. ⌜ faultOf r ≡ batchFault count (now (numbers .entry)) ⌝ }
+// Whether so many numbers are the origins of so many lines: none, or three a line.
+fn is_fitting(numbers: usize, lines: usize) -> bool
+    ensures { λ r. ⌜ r ≡ fitting numbers lines ⌝ }
+{
+    if numbers == 0 {
+        return true;
+    }
+    if numbers % 3 != 0 {
+        return false;
+    }
+    numbers / 3 == lines
+}
+
+// The first fault of a batch for a session of `count` lines: more lines than a session holds (4), numbers that are no whole lines, or origins that are
+// not theirs (2), too many lines with those that stand (4), a line (6, 7).
+fn judge_batch(count: usize, numbers: &[f32], origins: &[u32]) -> Judged
+    ensures { λ r. ⌜ faultOf r ≡ batchFault count (now (numbers .entry)) (now (origins .entry)) ⌝ }
 {
     if count > Line::MOST {
         return Judged::Fault(4);
     }
     if numbers.len() % 4 != 0 {
+        return Judged::Fault(2);
+    }
+    if !is_fitting(origins.len(), numbers.len() / 4) {
         return Judged::Fault(2);
     }
     if !admission::fits_behind(Line::MOST, count, numbers.len() / 4) {
@@ -87,6 +115,25 @@ fn store(lines: [Line; Line::MOST], count: usize, numbers: &[f32]) -> [Line; Lin
     stored
 }
 
+// The origins with those of `n` new lines behind the first `count`: the ones that were brought, or unknown ones.
+fn store_origins(
+    origins: [Origin; Line::MOST],
+    count: usize,
+    brought: &[u32],
+    n: usize,
+) -> [Origin; Line::MOST]
+    requires { ⌜ (count + n ≤ mostLines) × (fitting (length (now brought)) n ≡ true) ⌝ }
+    ensures { λ r. ⌜ r ≡ sets origins count (originsFor n (now (brought .entry))) ⌝ }
+{
+    let mut stored = origins;
+    let mut i = 0usize;
+    while i < n {
+        stored[count + i] = lines::origin_at(brought, i);
+        i += 1;
+    }
+    stored
+}
+
 impl Session {
     // A session with no lines yet. Refused: a wish or limit out of range (6), a starting point that is not finite (9). The last stands in 01's
     // order, but no admitted wish and limit meet it (law `never-refused`).
@@ -101,6 +148,7 @@ impl Session {
                 judged: Judged::Fine,
                 session: Session {
                     lines: blank_lines(),
+                    origins: blank_origins(),
                     count: 0,
                     rigid,
                     wish,
@@ -117,35 +165,47 @@ impl Session {
         }
     }
 
-    // The session with a batch of lines, four numbers each, behind its own, and how all of them stand. Only the new lines are worked.
-    // A refused batch leaves the session as it was: refused are a session of more than 256 lines (4), numbers that are no whole lines (2),
+    // The session with a batch of lines, four numbers each, behind its own, and how all of them stand. Only the new lines are worked, and their origins are
+    // unknown. A refused batch leaves the session as it was: refused are a session of more than 256 lines (4), numbers that are no whole lines (2),
     // too many lines (4), a line (6, 7), the solve (8, 9). The last two stand in 01's order, but no session that a start and later batches
     // handed out meets them (law `never-refused`).
     pub fn batch(self, numbers: &[f32]) -> Fed
         ensures { λ r. ⌜ r ≡ fedAs self (now (numbers .entry)) ⌝ }
         ensures { λ r. ⌜ (Handed self → Continues self (now (numbers .entry)) r) ⌝ }
     {
+        let none = [0u32; 1];
+        self.batch_with_origins(numbers, &none[0..0])
+    }
+
+    // The same for a batch that brings the origins of its lines, three numbers each, which are kept as they stand; or none. Another count of them is
+    // refused (2), as numbers that are no whole lines are.
+    pub fn batch_with_origins(self, numbers: &[f32], origins: &[u32]) -> Fed
+        ensures { λ r. ⌜ r ≡ fedWith self (now (numbers .entry)) (now (origins .entry)) ⌝ }
+        ensures { λ r. ⌜ (Handed self → ContinuesWith self (now (numbers .entry)) (now (origins .entry)) r) ⌝ }
+    {
         let count = self.count;
-        let judged = judge_batch(count, numbers);
+        let judged = judge_batch(count, numbers, origins);
         if let Judged::Fault(_) = judged {
             return Fed {
                 judged,
                 session: self,
             };
         }
-        work(self, numbers)
+        work(self, numbers, origins)
     }
 }
 
 // A batch that is admitted and fits, stored and worked.
-fn work(session: Session, numbers: &[f32]) -> Fed
-    requires { ⌜ session .count + length (now numbers) / 4 ≤ mostLines ⌝ }
-    ensures { λ r. ⌜ r ≡ settled session (linesOf (now (numbers .entry))) (worked session (linesOf (now (numbers .entry)))) ⌝ }
+fn work(session: Session, numbers: &[f32], brought: &[u32]) -> Fed
+    requires { ⌜ (session .count + length (now numbers) / 4 ≤ mostLines) × (fitting (length (now brought)) (length (now numbers) / 4) ≡ true) ⌝ }
+    ensures { λ r. ⌜ r ≡ settled session (linesOf (now (numbers .entry))) (now (brought .entry)) (worked session (linesOf (now (numbers .entry)))) ⌝ }
 {
     let from = session.count;
     let count = from + numbers.len() / 4;
     let before = session.lines;
     let lines = store(before, from, numbers);
+    let kept = session.origins;
+    let origins = store_origins(kept, from, brought, numbers.len() / 4);
     let phase = session.phase;
     let failed = session.failed;
     let wish = session.wish;
@@ -159,12 +219,18 @@ fn work(session: Session, numbers: &[f32]) -> Fed
         phase,
         failed,
     );
-    settle(session, lines, count, answer)
+    settle(session, lines, origins, count, answer)
 }
 
 // The session as the solve leaves it.
-fn settle(session: Session, lines: [Line; Line::MOST], count: usize, answer: Answer) -> Fed
-    ensures { λ r. ⌜ r ≡ settledOn session lines count (outcomeOf answer) ⌝ }
+fn settle(
+    session: Session,
+    lines: [Line; Line::MOST],
+    origins: [Origin; Line::MOST],
+    count: usize,
+    answer: Answer,
+) -> Fed
+    ensures { λ r. ⌜ r ≡ settledOn session lines origins count (outcomeOf answer) ⌝ }
 {
     let wish = session.wish;
     match answer {
@@ -172,6 +238,7 @@ fn settle(session: Session, lines: [Line; Line::MOST], count: usize, answer: Ans
             judged: Judged::Fine,
             session: Session {
                 lines,
+                origins,
                 count,
                 rigid: session.rigid,
                 wish,

@@ -16,10 +16,30 @@ use crate::line_lists::LineList;
 use crate::list_vectors::ask_rust;
 use crate::words::same_vector;
 
-/// The edge lines, which are rigid, and the solve over them and the neighbours' lines.
+/// Where a line comes from, as request T-06 writes it: 1, the obstacle's place and the edge's left vertex; 2, the neighbour's
+/// place and 0; all 0 where no line is meant.
+pub type Origin = [u32; 3];
+
+/// The edge lines, which are rigid, where each of them comes from, and the solve over them and the neighbours' lines.
 pub struct Pass {
     pub edge_lines: Vec<EdgeLine>,
+    edges: Vec<Origin>,
     pub solved: Solved,
+}
+
+impl Pass {
+    /// The origin of the line at an index, if there is such a line among the obstacles' and the scene's.
+    pub fn origin_at(&self, scene: &Scene, index: usize) -> Option<Origin> {
+        let place = |neighbour| [2, neighbour as u32, 0];
+        let neighbours = (0..scene.lines.len()).map(place);
+        self.edges.iter().copied().chain(neighbours).nth(index)
+    }
+
+    /// That of the line that failed.
+    pub fn failed_origin(&self, scene: &Scene) -> Origin {
+        let index = self.solved.counts.failed_line;
+        index.map_or([0; 3], |index| self.origin_at(scene, index).unwrap())
+    }
 }
 
 pub enum Passes {
@@ -34,34 +54,38 @@ pub enum Passes {
 
 /// Fails where builds, or the whole and its parts, differ in a bit.
 pub fn ask(scene: &Scene) -> Result<Passes, String> {
-    let lines = lines_of_edges(scene, scene.velocity)?;
+    let (lines, edges) = lines_of_edges(scene, scene.velocity)?;
     if !lines.iter().all(admits) {
         return Ok(Passes::NotAdmittedFirst(lines));
     }
-    let first = solve(scene, lines)?;
+    let first = solve(scene, lines, edges)?;
     if first.solved.answer.is_ok() {
         check_whole(scene, &[&first])?;
         return Ok(Passes::First(first));
     }
-    let lines = lines_of_edges(scene, Vec2::ZERO)?;
+    let (lines, edges) = lines_of_edges(scene, Vec2::ZERO)?;
     if !lines.iter().all(admits) {
         check_fallback(scene, &lines)?;
         return Ok(Passes::NotAdmittedSecond(lines));
     }
-    let second = solve(scene, lines)?;
+    let second = solve(scene, lines, edges)?;
     check_whole(scene, &[&first, &second])?;
     Ok(Passes::Both(first, second))
 }
 
-fn lines_of_edges(scene: &Scene, velocity: Vec2) -> Result<Vec<EdgeLine>, String> {
+/// And the origin of each.
+fn lines_of_edges(scene: &Scene, velocity: Vec2) -> Result<(Vec<EdgeLine>, Vec<Origin>), String> {
     let mut lines = Vec::new();
-    for obstacle in &scene.obstacles {
-        lines.extend(edge_lines(&scene.encounter(obstacle, velocity))?.lines);
+    let mut origins = Vec::new();
+    for (place, obstacle) in scene.obstacles.iter().enumerate() {
+        let made = edge_lines(&scene.encounter(obstacle, velocity))?;
+        lines.extend(made.lines);
+        origins.extend(made.makers.iter().map(|left| [1, place as u32, *left as u32]));
     }
-    Ok(lines)
+    Ok((lines, origins))
 }
 
-fn solve(scene: &Scene, edge_lines: Vec<EdgeLine>) -> Result<Pass, String> {
+fn solve(scene: &Scene, edge_lines: Vec<EdgeLine>, edges: Vec<Origin>) -> Result<Pass, String> {
     let list = LineList {
         wish: scene.wish,
         limit: scene.limit,
@@ -71,7 +95,11 @@ fn solve(scene: &Scene, edge_lines: Vec<EdgeLine>) -> Result<Pass, String> {
             .collect(),
     };
     let solved = ask_rust(&list)?;
-    Ok(Pass { edge_lines, solved })
+    Ok(Pass {
+        edge_lines,
+        edges,
+        solved,
+    })
 }
 
 fn all_lines<'a>(

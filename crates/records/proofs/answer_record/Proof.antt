@@ -15,7 +15,7 @@ returns-2 c = sym (some-room _ _ (c .before .before .before .before .if1 .left) 
 
 returns-3 : tie.Need-returns-3
 unfolding answered
-returns-3 c = c .before .before .write-outcome .ensures ∙ sym (some-room _ _ (c .before .before .before .before .before .before .before .before .before .if1 .left) ∙ rw (read-solved _ _ (c .before .before .before .before .before .before .before .before .read-scene .ensures) (c .before .before .before .before .before .before .enum-told .given .1), ← c .before .before .before .before .compute-avoiding-velocity .ensures))
+returns-3 c = c .before .before .write-outcome .ensures ∙ sym (some-room _ _ (c .before .before .before .before .before .before .before .before .before .if1 .left) ∙ rw (read-solved _ _ (c .before .before .before .before .before .before .before .before .read-scene .ensures) (c .before .before .before .before .before .before .enum-told .given .1), ← c .before .before .before .before .compute-avoiding-velocity .ensures .0))
 
 pub answer-record-spec : {M : Type 1} → statement M
 answer-record-spec =

@@ -5,10 +5,10 @@ use Rattle.replay_cuts.proofs.in_turns.Statement.{statement}
 use Rattle.replay_cuts.proofs.in_turns.Tie as tie
 
 abbrev Inv-loop : tie.InvT-loop
-Inv-loop answers numbers cut lines now₀ turn₀ now turn = now .place ≤ lines
+Inv-loop answers numbers origins cut lines now₀ turn₀ now turn = now .place ≤ lines
 
 abbrev μ-loop : tie.MeasureT-loop
-μ-loop answers numbers cut lines now₀ turn₀ now turn = lines - turn
+μ-loop answers numbers origins cut lines now₀ turn₀ now turn = lines - turn
 
 pub in-turns-spec : {M : Type 1} → statement M
 in-turns-spec =

@@ -6,7 +6,7 @@ use Rattle.replay_failures.proofs.walked.Statement.{statement}
 use Rattle.replay_failures.proofs.walked.Tie as tie
 
 abbrev Inv-loop : tie.InvT-loop
-Inv-loop walk₀ head₀ rest₀ walk head rest = (length head ≡ 12) × (length rest ≡ 2633)
+Inv-loop walk₀ head₀ rest₀ walk head rest = (length head ≡ 24) × (length rest ≡ 2633)
 
 abbrev μ-loop : tie.MeasureT-loop
 μ-loop walk₀ head₀ rest₀ walk head rest = walk .left

@@ -6,8 +6,8 @@ use Rattle.session.proofs.blank.Tie as tie
 
 returns : tie.Need-returns
 unfolding blankSession
-returns c = simp (← c .blank-lines .ensures)
+returns c = simp (← c .blank-origins .ensures, ← c .before .blank-lines .ensures)
 
 pub blank-spec : {M : Type 1} → statement M
 blank-spec =
-    tie.close (tie.spec (λ c κs. search needs) returns)
+    tie.close (tie.spec (λ c κs. search needs) (λ c κs. search needs) returns)

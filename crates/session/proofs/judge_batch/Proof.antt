@@ -20,8 +20,8 @@ returns-3 : tie.Need-returns-3
 unfolding batchFault
 returns-3 c =
     simp (
-      lines-long (now (c .before .before .before .before .before .args .numbers)),
-      sym (c .before .fits-behind .ensures) ∙ not-true _ (c .if3 .taken),
+      lines-long (now (c .before .before .before .before .before .before .args .numbers)),
+      sym (c .before .is-fitting .ensures) ∙ not-true _ (c .if3 .taken),
       eq-eqb _ _ (c .before .before .if2 .left),
       le-leb _ _ (c .before .before .before .if1 .left),
     )
@@ -30,13 +30,25 @@ returns-4 : tie.Need-returns-4
 unfolding batchFault
 returns-4 c =
     simp (
+      lines-long (now (c .before .before .before .before .before .before .before .before .args .numbers)),
+      sym (c .before .fits-behind .ensures) ∙ not-true _ (c .if4 .taken),
+      sym (c .before .before .before .is-fitting .ensures) ∙ not-false _ (c .before .before .if3 .left),
+      eq-eqb _ _ (c .before .before .before .before .if2 .left),
+      le-leb _ _ (c .before .before .before .before .before .if1 .left),
+    )
+
+returns-5 : tie.Need-returns-5
+unfolding batchFault
+returns-5 c =
+    simp (
       ← c .judge-lines .ensures,
-      lines-long (now (c .before .before .before .before .before .before .args .numbers)),
-      sym (c .before .before .fits-behind .ensures) ∙ not-false _ (c .before .if3 .left),
-      eq-eqb _ _ (c .before .before .before .if2 .left),
-      le-leb _ _ (c .before .before .before .before .if1 .left),
+      lines-long (now (c .before .before .before .before .before .before .before .before .before .args .numbers)),
+      sym (c .before .before .fits-behind .ensures) ∙ not-false _ (c .before .if4 .left),
+      sym (c .before .before .before .before .is-fitting .ensures) ∙ not-false _ (c .before .before .before .if3 .left),
+      eq-eqb _ _ (c .before .before .before .before .before .if2 .left),
+      le-leb _ _ (c .before .before .before .before .before .before .if1 .left),
     )
 
 pub judge-batch-spec : {M : Type 1} → statement M
 judge-batch-spec =
-    tie.close (tie.spec returns returns-2 (λ c κs. search needs) returns-3 (λ c κs. search needs) returns-4)
+    tie.close (tie.spec returns returns-2 (λ c κs. search needs) returns-3 (λ c κs. search needs) returns-4 (λ c κs. search needs) returns-5)

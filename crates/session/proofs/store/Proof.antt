@@ -1,28 +1,17 @@
 -- `session::store` meets its contract. The invariant: the lines from i on, stored behind those that are, give the same array. Assumes nothing.
-use Prim.Native.Nat.{ℕ, suc, _+_, _-_, _/_, _≤_, _<_}
+use Prim.Native.Nat.{_+_, _-_, _/_, _≤_}
 use mathlib.Core.Path.{_≡_, sym, _∙_}
-use mathlib.Core.List.{List}
 use native.Mathlib.Omega.{arith}
 use native.Mathlib.Nat.{add-zero}
-use native.Mathlib.Numerals.{add-one}
 use denote.Ref.{now}
-use lib.ListN.{length, drop, getD, set, length-set, drop-of-length-le}
-use lib.Seq.{sets, drop-cons}
-use Rattle.lines.specs.declared.Line.{Line}
+use lib.ListN.{length, drop, length-set}
+use lib.Seq.{sets}
 use Rattle.lines.specs.Lines.{linesOf, offLine}
 use Rattle.lines.proofs.Rows.{lines-long}
+use Rattle.session.proofs.StoreLaws.{store-on, store-done}
 use borrow.Author.Needs.{needs}
 use Rattle.session.proofs.store.Statement.{statement}
 use Rattle.session.proofs.store.Tie as tie
-
--- one line more, and no line left
-store-on : (l m : List Line) (n i : ℕ) (d x : Line) → i < length m → x ≡ getD m i d → sets l (n + i) (drop i m) ≡ sets (set l (n + i) x) (n + (i + 1)) (drop (i + 1) m)
-store-on l m n i d x h e =
-    let k : n + (i + 1) ≡ suc (n + i) = omega arith in
-    rw (drop-cons m i d h, e, k, add-one)
-
-store-done : (l m : List Line) (n i : ℕ) → length m ≤ i → sets l (n + i) (drop i m) ≡ l
-store-done l m n i h = rw (drop-of-length-le m h)
 
 abbrev Inv-loop : tie.InvT-loop
 Inv-loop count numbers stored₀ i₀ stored i = (i ≤ length numbers / 4) × (length stored ≡ 256) × (sets stored₀ count (linesOf numbers) ≡ sets stored (count + i) (drop i (linesOf numbers)))

@@ -1,6 +1,8 @@
--- `dodgy_2d::edge_lines::edge_lines` meets its contract. The invariant: the lines of the obstacles before i, joined with what the rest makes, are all of them. Assumes nothing.
+-- `dodgy_2d::edge_lines::edge_lines` meets its contract. The invariant: the lines of the obstacles before i, joined with what the rest makes, are all
+-- of them, and so are their origins. Assumes nothing.
 use Prim.Native.Nat.{_-_, _*_, _≤_}
-use mathlib.Core.Path.{_≡_, sym, _∙_}
+use mathlib.Core.Path.{_≡_, refl, sym, _∙_}
+use mathlib.Core.List.{_++_}
 use native.Mathlib.Omega.{arith}
 use denote.Ref.{now}
 use lib.ListN.{length, take, drop}
@@ -9,65 +11,93 @@ use Rattle.lines.specs.Lines.{linesOf}
 use Rattle.obstacles.specs.Obstacles.{lines}
 use Rattle.dodgy_2d.specs.Scenes.{obstaclesFault}
 use Rattle.dodgy_2d.specs.Outcomes.{joined, edgeLines}
+use Rattle.dodgy_2d.specs.Origins.{edgeOrigins}
+use Rattle.dodgy_2d.specs.Read.{wallsIn, counted, none-told}
 use Rattle.dodgy_2d.proofs.HeadsInOrder.{headsFrom, own-fine, own-room, own-there}
 use Rattle.dodgy_2d.proofs.EdgesJoined.{joined-none, edges-on, edges-done}
+use Rattle.dodgy_2d.proofs.OriginsNoted.{origins-on, origins-done, walls-told}
 use borrow.Author.Needs.{needs}
 use Rattle.dodgy_2d.proofs.edge_lines.edge_lines.Statement.{statement}
 use Rattle.dodgy_2d.proofs.edge_lines.edge_lines.Tie as tie
 
 abbrev Inv-loop : tie.InvT-loop
-Inv-loop agent n vertices margin horizon numbers₀ kinds counts count₀ offset₀ i₀ numbers count offset i = (i ≤ n)
+Inv-loop agent n vertices margin horizon numbers₀ walls₀ kinds counts count₀ offset₀ i₀ numbers walls count offset i = (i ≤ n)
     × (count ≤ offset)
     × (offset ≤ 192)
     × (2 * offset ≤ length vertices)
     × (length numbers ≡ 1024)
     × (obstaclesFault offset (headsFrom kinds counts n i) (drop (2 * offset) vertices) ≡ fine)
     × (edgeLines agent margin horizon vertices 0 (headsFrom kinds counts n 0) ≡ joined (lines (linesOf (take (4 * count) numbers))) (edgeLines agent margin horizon vertices offset (headsFrom kinds counts n i)))
+    × (length walls ≡ 192)
+    × (edgeOrigins agent margin horizon vertices 0 0 (headsFrom kinds counts n 0) ≡ wallsIn count walls ++ edgeOrigins agent margin horizon vertices i offset (headsFrom kinds counts n i))
 
 abbrev μ-loop : tie.MeasureT-loop
-μ-loop agent n vertices margin horizon numbers₀ kinds counts count₀ offset₀ i₀ numbers count offset i = n - i
+μ-loop agent n vertices margin horizon numbers₀ walls₀ kinds counts count₀ offset₀ i₀ numbers walls count offset i = n - i
 
 loop-holds : tie.Need-loop-holds Inv-loop μ-loop
 unfolding linesOf
-loop-holds c = (omega arith, omega arith, omega arith, omega arith, search needs, c .before .before .pre .2, sym (joined-none _))
+loop-holds c = (omega arith, omega arith, omega arith, omega arith, c .before .before .before .pre .1, c .before .before .before .pre .2, sym (joined-none _), c .before .before .before .pre .3, refl)
 
 add-obstacle-requires : tie.Need-add-obstacle-requires Inv-loop μ-loop
 add-obstacle-requires c κs =
-    let a = c .before .before .before .before .before .before .args in
-    let l = c .before .before .before .loop in
+    let a = c .before .before .before .before .before .before .before .before .args in
+    let l = c .before .before .before .before .loop in
     let own = own-fine (a .t2) (a .t3) (a .n) (l .i) (omega arith) (omega arith) (l .offset) (now (a .vertices)) (omega arith) (l .inv .5) in
-    let room = rw (← c .before .wide .ensures .0) at (own-room (a .t2) (a .t3) (a .n) (l .i) (omega arith) (omega arith) (l .offset) (now (a .vertices)) (own .0)) in
-    let there = rw (← c .before .wide .ensures .0) at (own-there (a .t2) (a .t3) (a .n) (l .i) (omega arith) (omega arith) (l .offset) (now (a .vertices)) (l .inv .3) (own .0)) in
-    (search needs, room .0, omega (arith, room .1), omega arith, there)
+    let room = rw (← c .before .before .wide .ensures .0) at (own-room (a .t2) (a .t3) (a .n) (l .i) (omega arith) (omega arith) (l .offset) (now (a .vertices)) (own .0)) in
+    let there = rw (← c .before .before .wide .ensures .0) at (own-there (a .t2) (a .t3) (a .n) (l .i) (omega arith) (omega arith) (l .offset) (now (a .vertices)) (l .inv .3) (own .0)) in
+    (l .inv .4, room .0, omega (arith, room .1), omega arith, there, omega (arith, c .before .before .before .before .before .before .before .before .pre .0), l .inv .7)
 
 returns : tie.Need-returns Inv-loop μ-loop
 returns c =
-    let a = c .before .before .before .before .before .before .before .before .before .before .before .args in
-    let l = c .before .before .before .before .before .before .before .before .loop in
+    let a = c .before .before .before .before .before .before .before .before .before .before .before .before .before .before .before .args in
+    let l = c .before .before .before .before .before .before .before .before .before .before .before .loop in
     let own = own-fine (a .t2) (a .t3) (a .n) (l .i) (omega arith) (omega arith) (l .offset) (now (a .vertices)) (omega arith) (l .inv .5) in
-    let room = rw (← c .before .before .before .before .before .before .wide .ensures .0) at (own-room (a .t2) (a .t3) (a .n) (l .i) (omega arith) (omega arith) (l .offset) (now (a .vertices)) (own .0)) in
-    let step = rw (c .enum-told .given .1, c .before .before .before .before .before .before .wide .ensures .0) at (c .before .before .before .before .add-obstacle .ensures .2) in
-    (c .before .before .before .before .add-obstacle .ensures .0, omega (arith, c .before .before .before .before .add-obstacle .ensures .1, room .1), rw (c .enum-told .given .1) (sym (l .inv .6 ∙ edges-on (a .agent) (a .margin) (a .horizon) (now (a .vertices)) (a .t2) (a .t3) (a .n) (omega arith) (omega arith) (l .i) (l .offset) (lines (linesOf (take (4 * l .count) (l .numbers)))) _ (omega arith) step)))
+    let room = rw (← c .before .before .before .before .before .before .before .before .before .wide .ensures .0) at (own-room (a .t2) (a .t3) (a .n) (l .i) (omega arith) (omega arith) (l .offset) (now (a .vertices)) (own .0)) in
+    let step = rw (c .enum-told .given .1, c .before .before .before .before .before .before .before .before .before .wide .ensures .0) at (c .before .before .before .before .before .before .add-obstacle .ensures .2) in (
+      c .before .before .before .before .before .before .add-obstacle .ensures .0,
+      omega (arith, c .before .before .before .before .before .before .add-obstacle .ensures .1, room .1),
+      rw (c .enum-told .given .1) (sym (l .inv .6 ∙ edges-on (a .agent) (a .margin) (a .horizon) (now (a .vertices)) (a .t2) (a .t3) (a .n) (omega arith) (omega arith) (l .i) (l .offset) (lines (linesOf (take (4 * l .count) (l .numbers)))) _ (omega arith) step)),
+      rw (c .enum-told .given .1) none-told,
+      search needs,
+    )
 
 loop-again : tie.Need-loop-again Inv-loop μ-loop
 loop-again c =
-    let a = c .before .before .before .before .before .before .before .before .before .before .before .before .before .args in
-    let l = c .before .before .before .before .before .before .before .before .before .before .loop in
+    let a = c .before .before .before .before .before .before .before .before .before .before .before .before .before .before .before .before .before .args in
+    let l = c .before .before .before .before .before .before .before .before .before .before .before .before .before .loop in
     let own = own-fine (a .t2) (a .t3) (a .n) (l .i) (omega arith) (omega arith) (l .offset) (now (a .vertices)) (omega arith) (l .inv .5) in
-    let room = rw (← c .before .before .before .before .before .before .before .before .wide .ensures .0) at (own-room (a .t2) (a .t3) (a .n) (l .i) (omega arith) (omega arith) (l .offset) (now (a .vertices)) (own .0)) in
-    let step = rw (c .before .before .added .given .1, c .before .before .before .before .before .before .before .before .wide .ensures .0) at (c .before .before .before .before .before .before .add-obstacle .ensures .2) in
-    let there = rw (← c .before .before .before .before .before .before .before .before .wide .ensures .0) at (own-there (a .t2) (a .t3) (a .n) (l .i) (omega arith) (omega arith) (l .offset) (now (a .vertices)) (l .inv .3) (own .0)) in
-    let few = rw (c .before .before .added .given .1) at (c .before .before .before .before .before .before .add-obstacle .ensures .1) in
-    (omega arith, omega (arith, few), room .1, there, c .before .before .before .before .before .before .add-obstacle .ensures .0, rw (c .before .before .before .before .before .before .before .before .wide .ensures .0) (own .1), rw (c .before .before .before .before .before .before .before .before .wide .ensures .0) (l .inv .6 ∙ edges-on (a .agent) (a .margin) (a .horizon) (now (a .vertices)) (a .t2) (a .t3) (a .n) (omega arith) (omega arith) (l .i) (l .offset) (lines (linesOf (take (4 * l .count) (l .numbers)))) _ (omega arith) step))
+    let room = rw (← c .before .before .before .before .before .before .before .before .before .before .before .wide .ensures .0) at (own-room (a .t2) (a .t3) (a .n) (l .i) (omega arith) (omega arith) (l .offset) (now (a .vertices)) (own .0)) in
+    let step = rw (c .before .before .added .given .1, c .before .before .before .before .before .before .before .before .before .before .before .wide .ensures .0) at (c .before .before .before .before .before .before .before .before .add-obstacle .ensures .2) in
+    let noted = rw (c .before .before .before .before .before .before .before .before .before .before .before .wide .ensures .0) at (walls-told (c .before .before .before .before .before .before .before .before .add-obstacle .ensures .3) (c .before .before .added .given .1)) in
+    let there = rw (← c .before .before .before .before .before .before .before .before .before .before .before .wide .ensures .0) at (own-there (a .t2) (a .t3) (a .n) (l .i) (omega arith) (omega arith) (l .offset) (now (a .vertices)) (l .inv .3) (own .0)) in
+    let few = rw (c .before .before .added .given .1) at (c .before .before .before .before .before .before .before .before .add-obstacle .ensures .1) in (
+      omega arith,
+      omega (arith, few),
+      room .1,
+      there,
+      c .before .before .before .before .before .before .before .before .add-obstacle .ensures .0,
+      rw (c .before .before .before .before .before .before .before .before .before .before .before .wide .ensures .0) (own .1),
+      rw (c .before .before .before .before .before .before .before .before .before .before .before .wide .ensures .0) (l .inv .6 ∙ edges-on (a .agent) (a .margin) (a .horizon) (now (a .vertices)) (a .t2) (a .t3) (a .n) (omega arith) (omega arith) (l .i) (l .offset) (lines (linesOf (take (4 * l .count) (l .numbers)))) _ (omega arith) step),
+      search needs,
+      rw (c .before .before .before .before .before .before .before .before .before .before .before .wide .ensures .0) (l .inv .8 ∙ origins-on (a .agent) (a .margin) (a .horizon) (now (a .vertices)) (a .t2) (a .t3) (a .n) (omega arith) (omega arith) (l .i) (l .offset) (wallsIn (l .count) (l .walls)) _ (omega arith) noted),
+    )
+
+same-length-4 : tie.Need-same-length-4 Inv-loop μ-loop
+same-length-4 c = c .before .loop .inv .7 ∙ sym (c .before .before .before .before .before .pre .3)
 
 returns-2 : tie.Need-returns-2 Inv-loop μ-loop
 returns-2 c =
-    let a = c .before .before .before .before .args in
-    let l = c .before .loop in
-    (l .inv .4, omega arith, sym (l .inv .6 ∙ edges-done (a .agent) (a .margin) (a .horizon) (now (a .vertices)) (a .t2) (a .t3) (a .n) (omega arith) (omega arith) (l .i) (l .offset) (linesOf (take (4 * l .count) (l .numbers))) (omega arith)))
+    let a = c .before .before .before .before .before .args in
+    let l = c .before .loop in (
+      l .inv .4,
+      omega arith,
+      sym (l .inv .6 ∙ edges-done (a .agent) (a .margin) (a .horizon) (now (a .vertices)) (a .t2) (a .t3) (a .n) (omega arith) (omega arith) (l .i) (l .offset) (linesOf (take (4 * l .count) (l .numbers))) (omega arith)),
+      counted (sym (l .inv .8 ∙ origins-done (a .agent) (a .margin) (a .horizon) (now (a .vertices)) (a .t2) (a .t3) (a .n) (omega arith) (omega arith) (l .i) (l .offset) (wallsIn (l .count) (l .walls)) (omega arith))),
+      l .inv .7,
+    )
 
 pub edge-lines-spec : {M : Type 1} → statement M
 edge-lines-spec =
     tie.close (tie.spec Inv-loop μ-loop loop-holds (λ c. search needs) (λ c. search needs) (λ c κs. search needs) add-obstacle-requires
-    (λ c. search needs) (λ c. search needs) (λ c. search needs) returns (λ c. search needs) (λ c. search needs) (λ c. search needs) loop-again
-    (λ c. search needs) returns-2)
+    (λ c. search needs) (λ c. search needs) (λ c. search needs) (λ c. search needs) returns (λ c. search needs) (λ c. search needs)
+    (λ c. search needs) loop-again (λ c. search needs) same-length-4 returns-2)

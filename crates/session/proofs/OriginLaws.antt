@@ -1,0 +1,85 @@
+-- 02, T-06: sessions that differ only in origins end alike in all else (`origins-alike`, `all-alike`), and at each index the origin kept is the one that
+-- the line arrived with (`origins-kept`). Assumes nothing.
+use Prim.Native.Nat.{ℕ, _+_, _≤_, _<_}
+use mathlib.Core.Path.{_≡_, refl, sym, ap}
+use mathlib.Core.List.{List, [], _∷_, _++_}
+use native.Mathlib.Omega.{arith}
+use lib.ListN.{length, getD, List·getD-append}
+use lib.Seq.{getD-append-add, length-take-le}
+use lib.Ieee.{Float}
+use Rattle.admission.specs.Faults.{fine, faultOf}
+use Rattle.lines.specs.declared.Line.{Line}
+use Rattle.lines.specs.declared.Origin.{Origin}
+use Rattle.lines.specs.Lines.{linesOf}
+use Rattle.lines.specs.Origins.{unknown, originsOf}
+use Rattle.linear_programming.specs.Whole.{Outcome, stands, refusal}
+use Rattle.linear_programming.specs.Admit.{_⟫_}
+use Rattle.session.specs.declared.Session.{Session}
+use Rattle.session.specs.declared.Fed.{Fed}
+use Rattle.session.specs.Sessions.{originsIn}
+use Rattle.session.specs.Batches.{originsFor, originsFault, batchFault, settled, worked, fedWith}
+use Rattle.session.specs.Handed.{Handed}
+use Rattle.session.specs.Cuts.{Batch, fedBy, fedAll, WholeLines, none, more, arriving}
+use Rattle.session.specs.Alike.{labelled, Alike, alike, SameLines, no-batch, one-more}
+use Rattle.session.proofs.StoreLaws.{origins-each}
+use Rattle.session.proofs.HandedLaws.{continues}
+
+-- ---- alike in all else
+
+-- judged the same, and the sessions differ only in origins
+pub record AlikeFed (r q : Fed) : Type 0 where
+  pub judged-same : r .judged ≡ q .judged
+  pub sessions : Alike (r .session) (q .session)
+
+settled-alike : (s : Session) (qs : List Origin) (m : List Line) (os ps : List ℕ) (o : Outcome) → AlikeFed (settled s m os o) (settled (labelled qs s) m ps o)
+settled-alike s qs m os ps (stands ph f n) = record { judged-same = refl; sessions = alike _ }
+settled-alike s qs m os ps (refusal r) = record { judged-same = refl; sessions = alike qs }
+
+-- batches with the same lines and any origins, none or three numbers a line
+module _ (xs : List Float) (os ps : List ℕ) (theirs : originsFault (length (linesOf xs)) os ≡ fine) (others : originsFault (length (linesOf xs)) ps ≡ fine) where
+  same-fault : (n : ℕ) → batchFault n xs os ≡ batchFault n xs ps
+  unfolding batchFault
+  same-fault n = rw (theirs, others)
+
+  same-work : (s : Session) (qs : List Origin) → worked (labelled qs s) (linesOf xs) ≡ worked s (linesOf xs)
+  unfolding worked
+  same-work s qs = refl
+
+  -- "Two sessions that differ only in origins end alike in all else."
+  pub origins-alike : {s t : Session} → Alike s t → AlikeFed (fedWith s xs os) (fedWith t xs ps)
+  unfolding fedWith
+  origins-alike (alike {s} qs) =
+      rw (← same-fault (s .count), same-work s qs) (settled-alike s qs (linesOf xs) os ps (batchFault (s .count) xs os ⟫ worked s (linesOf xs)))
+
+alike-by : {s t : Session} (b c : Batch) → b .numbers ≡ c .numbers → originsFault (length (linesOf (b .numbers))) (b .brought) ≡ fine →
+    originsFault (length (linesOf (c .numbers))) (c .brought) ≡ fine → Alike s t → AlikeFed (fedBy s b) (fedBy t c)
+alike-by b c e theirs others a = rw (← e) (origins-alike (b .numbers) (b .brought) (c .brought) theirs (rw e others) a)
+
+-- any batches, one after the other
+pub all-alike : {s t : Session} {bs cs : List Batch} → Alike s t → SameLines bs cs → WholeLines bs → WholeLines cs → Alike (fedAll s bs) (fedAll t cs)
+all-alike a no-batch none none = a
+all-alike a (one-more {b} {c} e same) (more four theirs ws) (more four′ others vs) =
+    all-alike (alike-by b c e theirs others a .sessions) same ws vs
+
+-- ---- each line's own
+
+-- "At each index the origin kept is the one the line arrived with": a batch that is taken leaves those of the lines before it, and behind them stand those
+-- that its own lines arrived with
+module _ (s : Session) (h : Handed s) (b : Batch) (taken : faultOf (fedBy s b .judged) ≡ fine) where
+  kept-all : originsIn (fedBy s b .session) ≡ originsIn s ++ arriving b
+  kept-all = continues s h (b .numbers) (b .brought) .remembers taken
+
+  count-is : length (originsIn s) ≡ s .count
+  count-is = length-take-le (s .count) (s .origins) (omega (arith, h .origins-size, h .fits))
+
+  pub origin-stays : (i : ℕ) → i < s .count → getD (originsIn (fedBy s b .session)) i unknown ≡ getD (originsIn s) i unknown
+  origin-stays i before = rw kept-all (List·getD-append (originsIn s) (arriving b) unknown i (rw count-is before))
+
+  pub origins-kept : (i : ℕ) → getD (originsIn (fedBy s b .session)) (s .count + i) unknown ≡ getD (arriving b) i unknown
+  origins-kept i =
+      let k : s .count + i ≡ length (originsIn s) + i = ap (λ (n : ℕ). n + i) (sym count-is) in
+      rw (kept-all, k) (getD-append-add (originsIn s) (arriving b) i unknown)
+
+-- "kept as they stand": the numbers that are brought for line i of a batch are its origin; without them it is unknown
+pub brought-kept : (n i : ℕ) (os : List ℕ) → i < n → getD (originsFor n os) i unknown ≡ getD (originsOf os) i unknown
+brought-kept n i os h = sym (origins-each n i os h)
