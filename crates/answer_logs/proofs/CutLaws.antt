@@ -45,7 +45,7 @@ size-least : (s : List ℕ) → 2 ≤ sizeIn s
 unfolding sizeIn
 size-least s = omega arith
 
-found-overlong : (s : List ℕ) → 0 < length s → longestAnswer < sizeIn s → foundIn s ≡ bad 2
+pub found-overlong : (s : List ℕ) → 0 < length s → longestAnswer < sizeIn s → foundIn s ≡ bad 2
 found-overlong s h k =
     found-there s h ∙ ap (foundAs (sizeIn s)) (overlong-reply (take (sizeIn s) s) (omega (arith, size-take (sizeIn s) s (size-least s))))
 

@@ -147,3 +147,20 @@ module _ (s : List ℕ) (bytes : AllBytes s) where
       let high : 128 ≤ getD s 3 0 = refusal-coded s f other in
       let code : (128 + m) % 256 ≡ getD s 3 0 = omega (arith, bytes 3) in
       its-bytes s refusalLength whole n ∙ rw (length-bytes refusalLength n, code, whole .version)
+
+-- ---- the bytes of what was read
+
+-- the length that the record names, and that it has
+pub outcome-size : (s : List ℕ) (a : Answer) → answerIn s ≡ said.outcome a → (pairOf s 0 ≡ outcomeLength) × (length s ≡ 2 + outcomeLength)
+unfolding answerIn
+outcome-size s a e =
+    read-outcome (answerFault s) (eqb (pairOf s 0) outcomeLength) (outcomeIn s) _ a e λ f b o.
+    let n : pairOf s 0 ≡ outcomeLength = eqb-true _ _ b in
+    (n, faultless s f .matched ∙ ap (λ (k : ℕ). 2 + k) n)
+
+pub refusal-size : (s : List ℕ) (n : ℕ) → answerIn s ≡ said.refusal n → (pairOf s 0 ≡ refusalLength) × (length s ≡ 2 + refusalLength)
+unfolding answerIn
+refusal-size s m e =
+    read-refusal (answerFault s) (eqb (pairOf s 0) outcomeLength) (outcomeIn s) _ m e λ f b o.
+    let n : pairOf s 0 ≡ refusalLength = refusal-named s f (eqb-false _ _ b) in
+    (n, faultless s f .matched ∙ ap (λ (k : ℕ). 2 + k) n)
