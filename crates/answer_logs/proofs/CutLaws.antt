@@ -101,7 +101,7 @@ module _ (s : List ℕ) (sure : waits s ≡ false) where
         ⊎-elim (λ e. inl (leb-false (sizeIn s) longestAnswer e)) (λ e. inr (ltb-false (length s) (sizeIn s) e)) (and-false (leb (sizeIn s) longestAnswer) (ltb (length s) (sizeIn s)) (both .1)),
       )
 
-  found-append : (more : List ℕ) → foundIn (s ++ more) ≡ foundIn s
+  pub found-append : (more : List ℕ) → foundIn (s ++ more) ≡ foundIn s
   found-append more = ⊎-elim (found-append-overlong s more (tests .0)) (found-append-whole s more) (tests .1)
 
   placed : Placed s (foundIn s)
@@ -155,7 +155,7 @@ abbrev pub closing : ℕ → ℕ → Wholes → Records
 closing n place (reached l used) = aheadAll l (if ltb used n then refusedAt 2 (place + length l) else whole [])
 closing n place (stopped m p) = refusedAt m p
 
-waits-cut : (s : List ℕ) → waits s ≡ true → length s < sizeIn s
+pub waits-cut : (s : List ℕ) → waits s ≡ true → length s < sizeIn s
 unfolding waits
 waits-cut s h =
     ⊎-elim (λ e. omega (arith, ltb-true (length s) 2 e, size-least s)) (λ e. ltb-true (length s) (sizeIn s) (and-right (leb (sizeIn s) longestAnswer) (ltb (length s) (sizeIn s)) e))
@@ -197,7 +197,7 @@ closed (suc left) place s = close-waits left place s (λ size. closed left (plac
 
 -- ---- few bytes wait for the next part
 
-waiting-few : (s : List ℕ) → waits s ≡ true → length s < longestAnswer
+pub waiting-few : (s : List ℕ) → waits s ≡ true → length s < longestAnswer
 unfolding waits
 waiting-few s h =
     ⊎-elim (λ e. omega (arith, ltb-true (length s) 2 e))

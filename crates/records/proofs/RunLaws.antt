@@ -54,7 +54,7 @@ nothing-more w v e =
     let skip : v .skip ≡ w .skip = sym (ap (λ (x : Worked). x .skip) e) in
     ap (λ (n : ℕ). made n (v .answers) (v .skip)) used ∙ ap (λ (x : List ℕ). made 0 x (v .skip)) answers ∙ ap (made 0 []) skip
 
-worked-out : (skip : ℕ) (a : List ℕ) → worked unlimited (worked unlimited skip a .skip) (drop (worked unlimited skip a .used) a) ≡ stopped (worked unlimited skip a .skip)
+pub worked-out : (skip : ℕ) (a : List ℕ) → worked unlimited (worked unlimited skip a .skip) (drop (worked unlimited skip a .used) a) ≡ stopped (worked unlimited skip a .skip)
 worked-out skip a = nothing-more (worked unlimited skip a) _ (simp append-nil at (cut unlimited skip a [] .same))
 
 -- where nothing is left to work, fewer bytes are left than the longest record has
@@ -78,7 +78,7 @@ kept-short skip a =
 -- ---- reads
 
 -- the answers to a with b behind it: those of the work on a, then those to what it leaves, with b behind it
-cut-answers : (skip : ℕ) (a b : List ℕ) →
+pub cut-answers : (skip : ℕ) (a b : List ℕ) →
     worked unlimited skip a .answers ++ answersFrom (worked unlimited skip a .skip) (drop (worked unlimited skip a .used) a ++ b) ≡ answersFrom skip (a ++ b)
 unfolding answersFrom
 cut-answers skip a b =
@@ -102,7 +102,7 @@ run-from ((b ∷ read) ∷ reads) kept skip e =
     ∙ ap (answersFrom skip) (append-assoc kept (b ∷ read) (joined reads))
 
 -- no bytes, no part
-nothing-read : worked unlimited 0 [] ≡ stopped 0
+pub nothing-read : worked unlimited 0 [] ≡ stopped 0
 unfolding worked parts
 nothing-read = refl
 

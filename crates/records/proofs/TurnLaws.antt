@@ -65,7 +65,7 @@ module _ (input output : List ℕ) (before : Stream) (read : ℕ) where
     fits : (2 * length input + longestAnswer ≤ length output) × (before .kept + read ≤ length input)
     fits = has-room (length input) (length output) (before .kept) read room
 
-    stepped : turnOver input output before read ≡ lentBy (turned (take (before .kept) input) (before .skip) (take read (drop (before .kept) input))) input output
+    pub stepped : turnOver input output before read ≡ lentBy (turned (take (before .kept) input) (before .skip) (take read (drop (before .kept) input))) input output
     unfolding turnOver if_then_else_
     stepped = rw room
 
@@ -152,7 +152,7 @@ module _ (input output held out : List ℕ) (before t : Stream) (read : ℕ) (e 
 mid-length : (n : ℕ) (l : List ℕ) → length (midOf n (length l - n) l) ≡ length l - n
 mid-length n l = length-take-le (length l - n) (drop n l) (rw length-drop (omega arith))
 
-lent-parts : (l : Turned) (input output held out : List ℕ) (t : Stream) → lent t held out ≡ lentBy l input output →
+pub lent-parts : (l : Turned) (input output held out : List ℕ) (t : Stream) → lent t held out ≡ lentBy l input output →
     (take (t .put) out ≡ l .answers) × (take (t .kept) held ≡ l .kept) × (t .skip ≡ l .skip) × (t .more ≡ l .more)
 lent-parts l input output held out t e = (
   rw (ap (λ (x : Lent). x .output) e) (take-at (l .answers) _ (t .put) (sym (ap (λ (x : Lent). x .turn .put) e))),

@@ -1,0 +1,2 @@
+-- The laws of `compare`.
+pub mod TurnLaws

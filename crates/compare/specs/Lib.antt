@@ -1,0 +1,2 @@
+-- The definitions that the contracts of `compare` cite.
+pub mod Turns
