@@ -278,6 +278,29 @@ impl Script {
         answer
     }
 
+    /// Every question a <= b, held to a walk's fallbacks before each record: how many answers are the walk's, and the first
+    /// question whose answer is not.
+    fn ask_all(&mut self, walked: &[u32]) -> (usize, Option<(usize, usize)>) {
+        self.command(13, [walked.len() - 1, 0, 0]);
+        self.input.extend(walked.iter().flat_map(|number| number.to_be_bytes()));
+        let (mut good, mut differs) = (0, None);
+        for a in 0..walked.len() {
+            for b in a..walked.len() {
+                let answer = ask(&self.log, &self.buffer[..self.length], a as u64, b as u64);
+                match answer.map(|count| count + u64::from(walked[a]) == u64::from(walked[b])) {
+                    Ok(true) => good += 1,
+                    _ => differs = differs.or(Some((a, b))),
+                }
+            }
+        }
+        self.told(Ok(good as u64));
+        if let Some((a, b)) = differs {
+            self.told(Ok(a as u64));
+            self.told(Ok(b as u64));
+        }
+        (good, differs)
+    }
+
     fn set_log(&mut self, at: usize, byte: u8) {
         self.command(7, [at, 0, 0]);
         self.input.push(byte);
@@ -379,21 +402,28 @@ fn records(count: usize, draw: &mut Draw) -> Vec<Vec<u8>> {
         .collect()
 }
 
-/// Every pair of a log with so many records, or those whose first is a multiple of `apart`; then the same log record by record,
-/// with a build each time (behind 130 records, about each entry).
-fn whole_log(script: &mut Script, count: usize, apart: usize, draw: &mut Draw) {
+/// The full walk.
+fn fallbacks_of(records: &[Vec<u8>]) -> u32 {
+    records.iter().filter(|record| record[1] == 16 && record[3] >= 3).count() as u32
+}
+
+/// Every pair of a log with so many records, each answer told where they are few; then the same log record by record, with a
+/// build each time (behind 130 records, about each entry).
+fn whole_log(script: &mut Script, count: usize, draw: &mut Draw) {
     let records = records(count, draw);
     let log = records.concat();
-    let places = places(&log).expect("a good log");
+    let walked: Vec<u32> = (0..=count).map(|n| fallbacks_of(&records[..n])).collect();
+    assert!(places(&log).expect("a good log").iter().map(|place| place.1).eq(walked.iter().copied()));
     script.log(&log);
     script.build(13 + 8 * (count / 64 + 1) + 3);
-    for a in (0..=count).step_by(apart) {
-        for b in a..=count {
-            let walked = records[a..b].iter().filter(|r| r[1] == 16 && r[3] >= 3).count() as u64;
-            assert_eq!(script.ask(a as u64, b as u64), Ok(walked));
-            assert_eq!(walked, u64::from(places[b].1 - places[a].1));
+    if count <= 128 {
+        for a in 0..=count {
+            for b in a..=count {
+                assert_eq!(script.ask(a as u64, b as u64), Ok(u64::from(fallbacks_of(&records[a..b]))));
+            }
         }
     }
+    assert_eq!(script.ask_all(&walked), ((count + 1) * (count + 2) / 2, None));
     let end = count as u64;
     for (a, b) in [(1, 0), (end, end + 1), (end + 1, end + 1), (end + 64, end + 64), (u64::from(u32::MAX), 0)] {
         assert_eq!(script.ask(a, b), Err(13));
@@ -410,6 +440,25 @@ fn whole_log(script: &mut Script, count: usize, apart: usize, draw: &mut Draw) {
             script.build(room);
         }
     }
+}
+
+/// One answer that is not the walk's is found among all pairs: where the walk has one more before a record, and where an entry has.
+fn told_apart(script: &mut Script, draw: &mut Draw) {
+    let records = records(128, draw);
+    let walked: Vec<u32> = (0..=128).map(|n| fallbacks_of(&records[..n])).collect();
+    let pairs = 129 * 130 / 2;
+    script.log(&records.concat());
+    script.build(37);
+    for n in [0, 1, 63, 64, 128] {
+        let mut other = walked.clone();
+        other[n] += 1;
+        assert_eq!(script.ask_all(&other), (pairs - 128, Some(if n == 0 { (0, 1) } else { (0, n) })));
+    }
+    let entry = number(&script.buffer, 33) as u32;
+    script.set_index(33, &(entry + 1).to_be_bytes());
+    assert_eq!(script.ask_all(&walked), (pairs - 128, Some((0, 128))));
+    script.set_index(33, &entry.to_be_bytes());
+    assert_eq!(script.ask_all(&walked), (pairs, None));
 }
 
 /// Each byte of a log and of its index changed, and six questions asked; what lies outside of what one rests on does not change it.
@@ -620,14 +669,15 @@ fn main() {
     };
     let mut draw = Draw(10);
     let mut script = Script { input: vec![], output: vec![], log: vec![], buffer: vec![0; 4096], length: 0 };
-    for (count, apart) in [(0, 1), (63, 1), (64, 1), (65, 1), (127, 1), (128, 1), (1000, 37)] {
-        whole_log(&mut script, count, apart, &mut draw);
+    for count in [0, 63, 64, 65, 127, 128, 1000] {
+        whole_log(&mut script, count, &mut draw);
     }
     changed_bytes(&mut script, &mut draw);
     forged(&mut script, &mut draw);
     smallest(&mut script);
     limits(&mut script);
     in_parts(&mut script, &mut draw);
+    told_apart(&mut script, &mut draw);
     fs::write(input, &script.input).expect("the cases are written");
     fs::write(output, &script.output).expect("their answers are written");
 }

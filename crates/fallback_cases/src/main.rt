@@ -1,13 +1,14 @@
-// Runs cases of `fallback_index`: standard input holds logs, indexes and what is asked of them, command behind command; standard
-// output what each call answered, and the bytes that it left. oracle/indexes makes the cases and says what must come out.
-// A command is a byte, three numbers of four bytes, and the bytes that it brings.
-use fallback_index::Extent;
+// Runs cases of `index_building` and `fallback_index`: standard input holds logs, indexes and what is asked of them, command behind
+// command; standard output what each call answered, and the bytes that it left. oracle/indexes makes the cases and says what must
+// come out. A command is a byte, three numbers of four bytes, and the bytes that it brings.
 use fallback_index::Fallbacks;
-use fallback_index::IndexWritten;
-use fallback_index::PartBuilt;
 use fallback_index::Update;
+use index_building::Extent;
+use index_building::IndexWritten;
+use index_building::PartBuilt;
 use libc::STDIN_FILENO;
 use libc::STDOUT_FILENO;
+ghost use Prim.Native.Nat.{_≤_};
 
 // How many bytes of log and index there are, and whether to go on.
 struct Held {
@@ -28,6 +29,14 @@ impl Held {
         index: 0,
         open: false,
     };
+}
+
+// How many answers were a walk's; and of the first that was not, if there is one, the question.
+struct Agreed {
+    good: u64,
+    all: bool,
+    a: u64,
+    b: u64,
 }
 
 // Writes an answer: 0 and a number, or 1 and a refusal's. Its bytes are put together in those that a command brought.
@@ -106,7 +115,7 @@ fn build(log: &[u8], index: &mut [u8], brought: &mut [u8], held: Held, room: usi
         return Held::CLOSED;
     }
     let there = held.log;
-    let written = fallback_index::build_index(&log[0..there], &mut index[0..room]);
+    let written = index_building::build_index(&log[0..there], &mut index[0..room]);
     let length = put_written(brought, written, held.index);
     io::write_all(STDOUT_FILENO, &index[0..room]);
     hold(true, there, length)
@@ -125,6 +134,105 @@ fn ask(log: &[u8], index: &[u8], brought: &mut [u8], held: Held, a: usize, b: us
     let answer = fallback_index::count_fallbacks(&log[0..there], &index[0..length], a, b);
     put_count(brought, answer);
     held
+}
+
+// 13: every question a <= b of so many records, held to a walk's fallbacks before each, which the input brings, four bytes a
+// number: how many answers are the walk's, and the first question, if any, whose answer is not.
+fn ask_all(log: &[u8], index: &[u8], brought: &mut [u8], held: Held, count: usize) -> Held {
+    if count > 1000 {
+        return Held::CLOSED;
+    }
+    if !bring(brought, 0, 4 * count + 4) {
+        return Held::CLOSED;
+    }
+    if log.len() < held.log {
+        return Held::CLOSED;
+    }
+    if index.len() < held.index {
+        return Held::CLOSED;
+    }
+    let there = held.log;
+    let length = held.index;
+    let agreed = every_first(&log[0..there], &index[0..length], brought, count);
+    put_agreed(brought, agreed);
+    held
+}
+
+fn every_first(log: &[u8], index: &[u8], walked: &[u8], count: usize) -> Agreed
+    requires { ⌜ count ≤ 1000 ⌝ }
+{
+    let mut agreed = Agreed {
+        good: 0,
+        all: true,
+        a: 0,
+        b: 0,
+    };
+    let mut a = 0;
+    while a <= count {
+        agreed = every_second(log, index, walked, a, count, agreed);
+        a += 1;
+    }
+    agreed
+}
+
+fn every_second(
+    log: &[u8],
+    index: &[u8],
+    walked: &[u8],
+    a: usize,
+    count: usize,
+    before: Agreed,
+) -> Agreed
+    requires { ⌜ count ≤ 1000 ⌝ }
+{
+    let mut agreed = before;
+    let mut b = a;
+    while b <= count {
+        let answer = fallback_index::count_fallbacks(log, index, a, b);
+        agreed = compared(agreed, is_walked(answer, walked, a, b), a as u64, b as u64);
+        b += 1;
+    }
+    agreed
+}
+
+// Whether an answer, and the walk's fallbacks before a, are those before b.
+fn is_walked(answer: Fallbacks, walked: &[u8], a: usize, b: usize) -> bool
+    requires { ⌜ a ≤ b ⌝ }
+    requires { ⌜ b ≤ 1000 ⌝ }
+{
+    let before_a = words::word_at(walked, 4 * a) as u64;
+    let before_b = words::word_at(walked, 4 * b) as u64;
+    match answer {
+        Fallbacks::Count(count) => std::num::wrapping_add_u64(before_a, count) == before_b,
+        Fallbacks::Refused(_) => false,
+    }
+}
+
+fn compared(agreed: Agreed, good: bool, a: u64, b: u64) -> Agreed {
+    if good {
+        return Agreed {
+            good: std::num::wrapping_add_u64(agreed.good, 1),
+            ..agreed
+        };
+    }
+    if agreed.all {
+        return Agreed {
+            all: false,
+            a,
+            b,
+            ..agreed
+        };
+    }
+    agreed
+}
+
+fn put_agreed(brought: &mut [u8], agreed: Agreed) {
+    put(brought, 0, agreed.good);
+    if agreed.all {
+        return;
+    }
+    put(brought, 0, agreed.a);
+    put(brought, 0, agreed.b);
 }
 
 // 5: an append of a record that the input brings, to an index of so many bytes.
@@ -227,7 +335,7 @@ fn build_part(index: &mut [u8], brought: &mut [u8], held: Held, size: usize, roo
         return Held::CLOSED;
     }
     let extent = extent_at(brought);
-    let built = fallback_index::build_part(&brought[24..end], extent, &mut index[0..room]);
+    let built = index_building::build_part(&brought[24..end], extent, &mut index[0..room]);
     put_part(brought, built);
     io::write_all(STDOUT_FILENO, &index[0..room]);
     held
@@ -245,7 +353,7 @@ fn build_end(index: &mut [u8], brought: &mut [u8], held: Held, left: usize, room
         return Held::CLOSED;
     }
     let extent = extent_at(brought);
-    let written = fallback_index::build_end(&brought[0..left], extent, &mut index[0..room]);
+    let written = index_building::build_end(&brought[0..left], extent, &mut index[0..room]);
     put_written(brought, written, 0);
     io::write_all(STDOUT_FILENO, &index[0..room]);
     held
@@ -299,6 +407,7 @@ fn command(log: &mut [u8], index: &mut [u8], brought: &mut [u8], held: Held) -> 
         10 => append_parts(brought, held, x, y, z),
         11 => build_part(index, brought, held, x, y),
         12 => build_end(index, brought, held, x, y),
+        13 => ask_all(log, index, brought, held, x),
         _ => Held::CLOSED,
     }
 }

@@ -16,18 +16,20 @@ use Rattle.answer_records.specs.Replies as said
 use Rattle.answer_records.specs.Replies.{Said, answerIn}
 use Rattle.answer_logs.specs.Logs.{Entry, outcome, refusal, Records, whole, refusedAt}
 use Rattle.fallback_index.specs.declared.Fallbacks.the-variants as answer
-use Rattle.fallback_index.specs.declared.IndexWritten.{IndexWritten}
-use Rattle.fallback_index.specs.declared.IndexWritten.the-variants as index
+use Rattle.index_building.specs.declared.IndexWritten.{IndexWritten}
+use Rattle.index_building.specs.declared.IndexWritten.the-variants as index
 use Rattle.fallback_index.specs.declared.Update.the-variants as update
 use Rattle.log_walks.specs.Figures.{sizes, fallback, fallbacks, fallbacksAmong}
 use Rattle.log_walks.specs.Parts.{recordsOf}
-use Rattle.fallback_index.specs.Indexes.{greatest, indexLength, indexOf, laidOver, Standing, standing, refusedOver, putOver, putIndex}
-use Rattle.fallback_index.specs.Builds.{builtBy, builtUpTo, builtOver}
+use Rattle.index_building.specs.Indexes.{greatest, indexLength, indexOf, laidOver, Standing, standing, refusedOver, putOver, putIndex}
+use Rattle.index_building.specs.Builds.{builtBy, builtUpTo, builtOver}
 use Rattle.fallback_index.specs.Questions.{namedCount, headIn, entryIn, stretchIn, questionOf, questionIn}
 use Rattle.fallback_index.specs.Appends.{newEntryFits, grownFault, grown, grownBy, updated, updateOf, updateIn, updatedOver, appendedUpTo, appendedOver}
 use Rattle.log_walks.proofs.SplitLaws.{Splits, splits, all-bytes, few, fallbacks-few, records-there, splits-append, alone-outcome, alone-refusal}
-use Rattle.fallback_index.proofs.IndexLaws.{count-read, index-length, head-there}
-use Rattle.fallback_index.proofs.EntryLaws.{one-more, index-more, fallbacks-more}
+use Rattle.index_building.proofs.LengthLaws.{index-length}
+use Rattle.index_building.proofs.EntryLaws.{one-more}
+use Rattle.fallback_index.proofs.IndexLaws.{count-read, head-there}
+use Rattle.fallback_index.proofs.MoreLaws.{index-more, fallbacks-more}
 use Rattle.fallback_index.proofs.QuestionLaws.{builtFrom, count-fits, found-before, answered, built-answers}
 
 -- ---- the numbers of a built index

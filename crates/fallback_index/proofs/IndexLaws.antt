@@ -4,7 +4,7 @@ use native.Mathlib.Omega.{arith}
 use native.Mathlib.Nat.{zero-add, add-zero}
 use mathlib.Core.Path.{_≡_, refl, sym, ap, _∙_}
 use mathlib.Core.List.{List, _++_}
-use lib.ListN.{length, take, drop, getD, length-append}
+use lib.ListN.{length, take, drop, getD}
 use lib.Seq.{take-at, drop-at, drop-drop}
 use borrow.Author.Tests.{le-leb, eq-eqb}
 use Rattle.words.specs.Words.{wordOf, wordBytes}
@@ -12,8 +12,9 @@ use Rattle.fields.specs.Bytes.{bigEndian, bigEndianNumber, bigEndianFrom}
 use Rattle.fields.proofs.ByteLaws.{number-of-bytes}
 use Rattle.admission.specs.Faults.{fine}
 use Rattle.answer_logs.specs.Logs.{Entry}
-use Rattle.fallback_index.specs.Indexes.{greatest, entriesFor, indexLength, entryWith, entryOf, entries, head, startOf, indexOf}
+use Rattle.index_building.specs.Indexes.{greatest, entriesFor, indexLength, entryWith, entryOf, entries, head, indexOf}
 use Rattle.fallback_index.specs.Questions.{namedRest, namedLog, namedCount, offsetIn, beforeIn, headFault, headIn, entryIn}
+use Rattle.index_building.proofs.LengthLaws.{head-length, one-length}
 
 -- four bytes are read back
 bytes-read : (x : ℕ) → x ≤ greatest → x / 16777216 % 256 * 16777216 + x / 65536 % 256 * 65536 + x / 256 % 256 * 256 + x % 256 ≡ x
@@ -23,10 +24,6 @@ bytes-read x h = omega (arith, number-of-bytes 4 x (omega arith))
 -- ---- an entry
 
 module _ (offset before : ℕ) where
-  pub entry-length : length (entryWith offset before) ≡ 8
-  unfolding entryWith wordBytes
-  entry-length = refl
-
   pub offset-read : offset ≤ greatest → offsetIn (entryWith offset before) ≡ offset
   unfolding entryWith wordBytes wordOf
   offset-read h = bytes-read offset h
@@ -38,14 +35,6 @@ module _ (offset before : ℕ) where
 -- ---- the fields before the entries
 
 module _ (logLength count : ℕ) where
-  pub head-length : length (head logLength count) ≡ 13
-  unfolding head wordBytes
-  head-length = refl
-
-  pub start-length : length (startOf logLength count) ≡ 21
-  unfolding startOf head entryWith wordBytes
-  start-length = refl
-
   version-read : getD (head logLength count) 4 0 ≡ 1
   unfolding head wordBytes
   version-read = refl
@@ -79,29 +68,16 @@ module _ (logLength count : ℕ) where
 -- ---- the entries
 
 module _ (l : List Entry) where
-  one-length : (j : ℕ) → length (entryOf l j) ≡ 8
-  unfolding entryOf
-  one-length j = entry-length _ _
-
-  pub entries-length : (j n : ℕ) → length (entries l j n) ≡ 8 * n
-  unfolding entries
-  entries-length j zero = refl
-  entries-length j (suc n) = length-append (entryOf l j) (entries l (suc j) n) ∙ omega (arith, one-length j, entries-length (suc j) n)
-
   entry-at : (k j n : ℕ) → k < n → take 8 (drop (8 * k) (entries l j n)) ≡ entryOf l (j + k)
   unfolding entries
   entry-at k j zero h = absurd (omega arith)
-  entry-at zero j (suc n) h = take-at (entryOf l j) (entries l (suc j) n) 8 (one-length j) ∙ rw add-zero
+  entry-at zero j (suc n) h = take-at (entryOf l j) (entries l (suc j) n) 8 (one-length l j) ∙ rw add-zero
   entry-at (suc k) j (suc n) h =
       let on : 8 * suc k ≡ 8 + 8 * k = omega arith in
       let next : suc j + k ≡ j + suc k = omega arith in
-      rw (on, ← drop-drop (8 * k) 8 (entryOf l j ++ entries l (suc j) n), drop-at (entryOf l j) (entries l (suc j) n) 8 (one-length j)) (entry-at k (suc j) n (omega arith) ∙ ap (entryOf l) next)
+      rw (on, ← drop-drop (8 * k) 8 (entryOf l j ++ entries l (suc j) n), drop-at (entryOf l j) (entries l (suc j) n) 8 (one-length l j)) (entry-at k (suc j) n (omega arith) ∙ ap (entryOf l) next)
 
   module _ (logLength : ℕ) where
-    pub index-length : length (indexOf logLength l) ≡ indexLength (length l)
-    unfolding indexOf
-    index-length = length-append (head logLength (length l)) (entries l 0 (entriesFor (length l))) ∙ omega (arith, head-length logLength (length l), entries-length 0 (entriesFor (length l)))
-
     pub head-there : headIn (indexOf logLength l) ≡ head logLength (length l)
     unfolding headIn indexOf
     head-there = take-at (head logLength (length l)) (entries l 0 (entriesFor (length l))) 13 (head-length logLength (length l))

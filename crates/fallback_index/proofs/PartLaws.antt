@@ -14,8 +14,9 @@ use Rattle.words.specs.Words.{wordOf}
 use Rattle.admission.specs.Faults.{fine, fault, _⊳_}
 use Rattle.fallback_index.specs.declared.Fallbacks.the-variants as answer
 use Rattle.log_walks.specs.declared.Met.{Met}
-use Rattle.fallback_index.specs.Questions.{namedLog, namedCount, headFault, placesFault, before, between, headIn, entryPlace, entryIn, stretchIn, questionOf, questionIn}
+use Rattle.fallback_index.specs.Questions.{namedLog, namedCount, headFault, placesFault, before, between, headIn, entryIn, stretchIn, questionOf, questionIn}
 use Rattle.fallback_index.specs.Appends.{updateOf, updateIn}
+use Rattle.index_building.specs.Indexes.{entryPlace}
 use Rattle.fallback_index.specs.Parts.{upTo}
 
 module _ (all at : ℕ) where

@@ -13,11 +13,12 @@ use Rattle.log_walks.specs.declared.Met.the-variants as met
 use Rattle.log_walks.specs.Figures.{sizes, fallbacks, fallbacksAmong}
 use Rattle.log_walks.specs.Parts.{recordsOf}
 use Rattle.log_walks.specs.Walks.{more, walked, reach}
-use Rattle.fallback_index.specs.Indexes.{greatest, entryOf, head, indexOf}
+use Rattle.index_building.specs.Indexes.{greatest, entryOf, head, indexOf}
 use Rattle.fallback_index.specs.Questions.{offsetIn, beforeIn, namedLog, namedCount, headFault, rangeFault, placesFault, before, questionOf, headIn, entryIn, stretchIn, questionIn}
 use Rattle.log_walks.proofs.SplitLaws.{Splits, splits, all-bytes, few, splits-behind, walked-whole, fallbacks-on, sizes-within, fallbacks-few}
 use Rattle.log_walks.proofs.WalkLaws.{walked-alike, stretch-walked}
-use Rattle.fallback_index.proofs.IndexLaws.{offset-read, before-read, log-read, count-read, head-fine, index-length, head-there, entry-there}
+use Rattle.fallback_index.proofs.IndexLaws.{offset-read, before-read, log-read, count-read, head-fine, head-there, entry-there}
+use Rattle.index_building.proofs.LengthLaws.{index-length}
 
 -- ---- what a question rests on
 

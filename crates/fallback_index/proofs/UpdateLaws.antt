@@ -2,13 +2,13 @@
 use Prim.Native.Nat.{ℕ, _+_, _-_, _*_, _/_, _%_, _≤_, _<_}
 use native.Mathlib.Omega.{arith}
 use native.Mathlib.Nat.{sub-zero}
-use native.Mathlib.Decide.{decLe, ℕ-discrete}
+use native.Mathlib.Decide.{decLe}
 use mathlib.Core.Path.{_≡_, refl, sym, ap, _∙_}
 use mathlib.Core.List.{List, [], _++_, append-assoc}
 use lib.Dec.{eqb, leb}
 use lib.ListN.{length, take, drop, getD, length-drop, length-append, take-append-drop}
 use lib.Seq.{sets, length-take-le, drop-append-le}
-use borrow.Author.Tests.{le-leb, lt-leb, leb-true, eq-eqb, ne-eqb, eqb-true}
+use borrow.Author.Tests.{le-leb, lt-leb, leb-true, eqb-true}
 use Rattle.words.specs.Words.{wordOf}
 use Rattle.arithmetic.specs.Binary32.{if_then_else_}
 use Rattle.admission.specs.Faults.{Fault, fine, fault, must, _⊳_, unlessFault}
@@ -21,15 +21,16 @@ use Rattle.fallback_index.specs.declared.Fallbacks.the-variants as answe
 use Rattle.log_walks.specs.declared.Met.{Met}
 use Rattle.log_walks.specs.declared.Met.the-variants as met
 use Rattle.fallback_index.specs.declared.Update.the-variants as update
-use Rattle.fallback_index.specs.declared.IndexWritten.{IndexWritten}
-use Rattle.fallback_index.specs.declared.IndexWritten.the-variants as index
+use Rattle.index_building.specs.declared.IndexWritten.{IndexWritten}
+use Rattle.index_building.specs.declared.IndexWritten.the-variants as index
 use Rattle.log_walks.specs.Figures.{fallback}
-use Rattle.fallback_index.specs.Indexes.{greatest, indexLength, newEntry, head, laidOver, Standing, standing}
+use Rattle.index_building.specs.Indexes.{greatest, indexLength, entryPlace, newEntry, head, laidOver, Standing, standing}
+use Rattle.index_building.specs.Stores.{storeFault, storedOver}
 use Rattle.fallback_index.specs.Questions.{namedLog, namedCount, headFault, placesFault, before, headIn, entryIn, stretchIn, questionOf}
 use Rattle.fallback_index.specs.Appends.{grownFault, grown, grownBy, asked, unlessBad, updateOf, updateIn, updated, updatedOver, appendedUpTo, appendedOver}
-use Rattle.fallback_index.specs.Parts.{storedOver}
-use Rattle.fallback_index.proofs.IndexLaws.{head-length, entry-length}
-use Rattle.fallback_index.proofs.LaidLaws.{laid-sets, nothing-laid}
+use Rattle.index_building.proofs.LengthLaws.{head-length}
+use Rattle.index_building.proofs.LaidLaws.{laid-sets, nothing-laid}
+use Rattle.index_building.proofs.StoredLaws.{new-length}
 
 -- ---- what a question that was answered says of the head
 
@@ -79,7 +80,7 @@ module _ (most total n : ℕ) (h first last stretch new : List ℕ) (count : ℕ
 pub record Fits (n total count fell : ℕ) : Type 0 where
   pub log : total ≤ greatest
   pub records : count ≤ greatest
-  pub old : n ≡ 13 + 8 * ((count + 63) / 64)
+  pub old : n ≡ entryPlace (count + 63)
 
 grown-fits : (n c total count fell t k f : ℕ) → n ≡ indexLength c → count ≡ c + 1 → update.Numbers t k f ≡ grown greatest total count fell → Fits n t k f
 unfolding grown grownFault
@@ -124,15 +125,7 @@ numbers-fit log old new t k f e = update-fits (length log) (length old) (headIn 
 
 -- ---- the stores
 
-pub new-length : (count total fell : ℕ) → 13 + 8 * ((count + 63) / 64) + length (newEntry count total fell) ≡ indexLength count
-unfolding newEntry if_then_else_
-new-length count total fell = go (ℕ-discrete (count % 64) 0)
-  where
-    go : Dec (count % 64 ≡ 0) → 13 + 8 * ((count + 63) / 64) + length (newEntry count total fell) ≡ indexLength count
-    go (yes p) = rw (eq-eqb (count % 64) 0 p) (omega (arith, entry-length total fell))
-    go (no p) = rw (ne-eqb (count % 64) 0 p) (omega arith)
-
-module _ (l : List ℕ) (n total count fell : ℕ) (room : n ≤ length l) (old : n ≡ 13 + 8 * ((count + 63) / 64)) (fits : indexLength count ≤ length l) where
+module _ (l : List ℕ) (n total count fell : ℕ) (room : n ≤ length l) (old : n ≡ entryPlace (count + 63)) (fits : indexLength count ≤ length l) where
   abbrev kept : List ℕ
   kept = head total count ++ drop 13 (take n l)
 
@@ -153,30 +146,21 @@ module _ (l : List ℕ) (n total count fell : ℕ) (room : n ≤ length l) (old 
       ∙ sym (append-assoc (head total count) (drop 13 (take n l)) (drop n l))
       ∙ ap (λ (k : ℕ). kept ++ drop k l) (sym kept-length)
 
-  pub update-stored : sets (sets l 0 (head total count)) (13 + 8 * ((count + 63) / 64)) (newEntry count total fell) ≡ laidOver (updated total count fell (take n l)) l
+  pub update-stored : sets (sets l 0 (head total count)) (entryPlace (count + 63)) (newEntry count total fell) ≡ laidOver (updated total count fell (take n l)) l
   unfolding updated
   update-stored =
       rw head-stored
-      (laid-sets kept l (omega (arith, kept-length)) (newEntry count total fell) (13 + 8 * ((count + 63) / 64)) (omega (arith, kept-length)) (omega (arith, kept-length, new-length count total fell))
+      (laid-sets kept l (omega (arith, kept-length)) (newEntry count total fell) (entryPlace (count + 63)) (omega (arith, kept-length)) (omega (arith, kept-length, new-length count total fell))
       ∙ ap (λ (x : List ℕ). laidOver x l) (append-assoc (head total count) (drop 13 (take n l)) (newEntry count total fell)))
 
 pub append-stored : (l : List ℕ) (n total count fell : ℕ) → n ≤ length l → Fits n total count fell → storedOver l total count fell ≡ updatedOver l n (update.Numbers total count fell)
-unfolding storedOver
+unfolding storedOver storeFault
 append-stored l n total count fell room f = go (decLe (indexLength count) (length l))
   where
     go : Dec (indexLength count ≤ length l) → storedOver l total count fell ≡ updatedOver l n (update.Numbers total count fell)
-    go (yes p) = rw (le-leb (indexLength count) (length l) p, update-stored l n total count fell room (f .old) p)
-    go (no p) = rw (lt-leb (indexLength count) (length l) (omega arith))
-
-module _ (l : List ℕ) (total count fell : ℕ) where
-  pub stored-short : length l < indexLength count → standing (index.Refused 10) l ≡ storedOver l total count fell
-  unfolding storedOver
-  stored-short h = rw (lt-leb (indexLength count) (length l) h)
-
-  pub stored-done : (m out : List ℕ) (needed : ℕ) → needed ≡ indexLength count → indexLength count ≤ length l →
-      m ≡ sets l 0 (head total count) → out ≡ sets m (13 + 8 * ((count + 63) / 64)) (newEntry count total fell) → standing (index.Length needed) out ≡ storedOver l total count fell
-  unfolding storedOver
-  stored-done m out needed e h p q = rw (le-leb (indexLength count) (length l) h, q, p, e)
+    go (yes p) =
+        rw (le-leb total greatest (f .log), le-leb count greatest (f .records), le-leb (indexLength count) (length l) p, update-stored l n total count fell room (f .old) p)
+    go (no p) = rw (le-leb total greatest (f .log), le-leb count greatest (f .records), lt-leb (indexLength count) (length l) (omega arith))
 
 -- ---- an append's answers
 
@@ -191,7 +175,7 @@ module _ (log l new : List ℕ) (n : ℕ) where
     append-refused r e = rw (le-leb n (length l) room, ← rw sub-zero at e)
 
     module _ (t k f : ℕ) (e : update.Numbers t k f ≡ updateIn greatest log (take (n - 0) (drop 0 l)) new) where
-      pub append-fits : Fits n t k f
+      append-fits : Fits n t k f
       append-fits = rw (length-take-le n l room) at (numbers-fit log (take n l) new t k f (rw sub-zero at e))
 
       pub append-done : (s : Standing IndexWritten) → s ≡ storedOver l t k f → s ≡ appendedOver log l n new

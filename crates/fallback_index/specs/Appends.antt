@@ -16,10 +16,10 @@ use Rattle.log_walks.specs.declared.Met.{Met}
 use Rattle.log_walks.specs.declared.Met.the-variants as met
 use Rattle.fallback_index.specs.declared.Update.{Update}
 use Rattle.fallback_index.specs.declared.Update.the-variants as update
-use Rattle.fallback_index.specs.declared.IndexWritten.{IndexWritten}
-use Rattle.fallback_index.specs.declared.IndexWritten.the-variants as index
+use Rattle.index_building.specs.declared.IndexWritten.{IndexWritten}
+use Rattle.index_building.specs.declared.IndexWritten.the-variants as index
 use Rattle.log_walks.specs.Figures.{fallback}
-use Rattle.fallback_index.specs.Indexes.{apart, headBytes, greatest, indexLength, newEntry, head, Standing, standing, refusedOver, laidOver}
+use Rattle.index_building.specs.Indexes.{apart, headBytes, greatest, indexLength, newEntry, head, Standing, standing, refusedOver, laidOver}
 use Rattle.fallback_index.specs.Questions.{namedCount, before, questionOf, headIn, entryIn, stretchIn}
 
 -- ---- an append's numbers by its parts

@@ -13,7 +13,7 @@ use Rattle.fallback_index.specs.declared.Fallbacks.the-variants as answe
 use Rattle.log_walks.specs.declared.Met.{Met}
 use Rattle.log_walks.specs.declared.Met.the-variants as met
 use Rattle.log_walks.specs.Walks.{more, walked}
-use Rattle.fallback_index.specs.Indexes.{apart, indexVersion, headBytes, entryBytes, indexLength}
+use Rattle.index_building.specs.Indexes.{apart, indexVersion, headBytes, entryBytes, indexLength, entryPlace}
 
 -- ---- the parts' numbers
 
@@ -78,9 +78,6 @@ unfoldable pub headIn : List ℕ → List ℕ
 headIn index = take headBytes index
 
 -- "the last entry at or before" a record
-abbrev pub entryPlace : ℕ → ℕ
-entryPlace a = headBytes + entryBytes * (a / apart)
-
 unfoldable pub entryIn : List ℕ → ℕ → List ℕ
 entryIn index a = take entryBytes (drop (entryPlace a) index)
 

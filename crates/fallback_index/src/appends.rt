@@ -1,29 +1,26 @@
-// The steps of an append: its parts, its numbers, and the stores.
-use crate::Fallbacks;
-use crate::IndexWritten;
+// The steps of an append: its parts and its numbers.
 use crate::Update;
-use crate::puts;
 use crate::questions;
 use admission::Judged;
 use answer_records::Reply;
+use index_building::IndexWritten;
 ghost use mathlib.Core.Path.{_≡_};
 ghost use Prim.Native.Nat.{_+_, _/_, _%_, _≤_};
 ghost use lib.ListN.{length};
 ghost use Rattle.admission.specs.Faults.{faultOf};
 ghost use Rattle.answer_records.specs.Replies.{answerIn};
-ghost use Rattle.fallback_index.specs.Indexes.{greatest, standing};
+ghost use Rattle.index_building.specs.Indexes.{greatest};
 ghost use Rattle.fallback_index.specs.Appends.{grownFault, grown, grownBy, updateIn};
-ghost use Rattle.fallback_index.specs.Parts.{storedOver};
 
 // An append's numbers, from a whole log and index: they hand over the parts that it rests on.
 pub(crate) fn update_in(log: &[u8], index: &[u8], record: &[u8]) -> Update
     ensures { λ r. ⌜ r ≡ updateIn greatest (now (log .entry)) (now (index .entry)) (now («record» .entry)) ⌝ }
 {
-    let head = questions::start_within(index.len(), Fallbacks::HEAD_BYTES);
-    let first = questions::end_within(index.len(), head, Fallbacks::ENTRY_BYTES);
+    let head = questions::start_within(index.len(), IndexWritten::HEAD_BYTES);
+    let first = questions::end_within(index.len(), head, IndexWritten::ENTRY_BYTES);
     let count = words::word_at(&index[0..head], 9) as usize;
-    let at = questions::start_within(index.len(), questions::entry_at(count));
-    let to = questions::end_within(index.len(), at, Fallbacks::ENTRY_BYTES);
+    let at = questions::start_within(index.len(), index_building::entry_at(count));
+    let to = questions::end_within(index.len(), at, IndexWritten::ENTRY_BYTES);
     let from = questions::start_within(log.len(), words::word_at(&index[at..to], 0) as usize);
     let past = questions::end_within(log.len(), from, questions::most_bytes(count));
     crate::update_by_parts(
@@ -89,25 +86,4 @@ fn judge_grown(most: u64, total: u64, count: u64, before: u64) -> Judged
         return admission::fault_unless(before <= most, 4);
     }
     Judged::Fine
-}
-
-// Stores the head, and the entry that the count calls for, over an index's bytes.
-pub(crate) fn store(buffer: &mut [u8], total: u64, count: usize, before: u64) -> IndexWritten
-    requires { ⌜ total ≤ greatest ⌝ }
-    requires { ⌜ count ≤ greatest ⌝ }
-    ensures { λ r. ⌜ standing r (now (buffer .exit)) ≡ storedOver (now (buffer .entry)) total count before ⌝ }
-{
-    let needed = questions::entry_at(count) + Fallbacks::ENTRY_BYTES;
-    if buffer.len() < needed {
-        return IndexWritten::Refused(10);
-    }
-    puts::put_head(buffer, total as u32, count as u32);
-    puts::put_new_entry(
-        buffer,
-        questions::entry_at(count + 63),
-        count as u64,
-        total,
-        before,
-    );
-    IndexWritten::Length(needed)
 }

@@ -1,27 +1,21 @@
 // The steps of a question: where the parts of a log and an index lie, their faults, and the fallbacks before a record.
 use crate::Fallbacks;
 use admission::Judged;
+use index_building::IndexWritten;
 use log_walks::Met;
 ghost use mathlib.Core.Path.{_≡_};
 ghost use Prim.Native.Nat.{_+_, _*_, _%_, _≤_, _<_};
 ghost use lib.ListN.{getD};
 ghost use Rattle.admission.specs.Faults.{_⊳_, faultOf};
-ghost use Rattle.fallback_index.specs.Questions.{namedLog, namedCount, headFault, rangeFault, placesFault, before, between, entryPlace};
+ghost use Rattle.fallback_index.specs.Questions.{namedLog, namedCount, headFault, rangeFault, placesFault, before, between};
 ghost use Rattle.fallback_index.specs.Parts.{upTo, countIn};
-ghost use Rattle.fallback_index.specs.Indexes.{greatest};
+ghost use Rattle.index_building.specs.Indexes.{greatest};
 
-// Where the last entry at or before a record stands.
-pub(crate) fn entry_at(a: usize) -> usize
-    ensures { λ r. ⌜ r ≡ entryPlace a ⌝ }
-{
-    Fallbacks::HEAD_BYTES + Fallbacks::ENTRY_BYTES * (a / Fallbacks::APART)
-}
-
-// The bytes that the records from that entry to a record can have.
+// The bytes that the records from the last entry at or before a record to it can have.
 pub(crate) fn most_bytes(a: usize) -> usize
     ensures { λ r. ⌜ r ≡ 18 * (a % 64) ⌝ }
 {
-    18 * (a % Fallbacks::APART)
+    18 * (a % IndexWritten::APART)
 }
 
 // A place, or the end of all bytes where it lies past that.
@@ -78,15 +72,17 @@ fn judge_head(n: usize, head: &[u8]) -> Judged
     if n < 5 {
         return Judged::Fault(2);
     }
-    if version_of(head) != Fallbacks::VERSION {
+    if version_of(head) != IndexWritten::VERSION {
         return Judged::Fault(1);
     }
-    if n < Fallbacks::HEAD_BYTES {
+    if n < IndexWritten::HEAD_BYTES {
         return Judged::Fault(2);
     }
     let count = words::word_at(head, 9) as usize;
     admission::fault_unless(
-        n == Fallbacks::HEAD_BYTES + Fallbacks::ENTRY_BYTES * (count / Fallbacks::APART + 1),
+        n
+            == IndexWritten::HEAD_BYTES
+                + IndexWritten::ENTRY_BYTES * (count / IndexWritten::APART + 1),
         2,
     )
 }

@@ -1,0 +1,10 @@
+-- The laws of `index_building`.
+pub mod LengthLaws
+pub mod EntryLaws
+pub mod PutLaws
+pub mod LaidLaws
+pub mod BuildLaws
+pub mod WholeLaws
+pub mod StreamLaws
+pub mod StoredLaws
+pub mod Examples
