@@ -1,26 +1,21 @@
 -- The obstacles' lines joined, obstacle behind obstacle: in the definitions, and in the numbers that hold them. Assumes nothing.
 use Prim.Native.Nat.{ℕ, _+_, _-_, _*_, _/_, _≤_, _<_}
 use mathlib.Core.Path.{_≡_, refl, sym, ap, _∙_}
-use mathlib.Core.List.{List, [], _++_, append-assoc, append-nil}
+use mathlib.Core.List.{List, [], _∷_, _++_, append-assoc, append-nil}
 use native.Mathlib.Omega.{arith}
-use lib.ListN.{length, take, drop, getD}
-use lib.Seq.{paste, take-paste, length-take-le}
+use lib.ListN.{length, take, drop, getD, length-drop}
+use lib.Seq.{sets, length-sets, paste, take-paste, take-add, take-at, drop-at, length-take-le}
 use lib.Ieee.{Float}
 use Rattle.admission.specs.declared.Head.{Head}
-use Rattle.admission.specs.Faults.{fine, fault, faultOf, judgedAs}
 use Rattle.admission.specs.Heads.{headOf}
-use Rattle.admission.proofs.FaultLaws.{no-fault}
 use Rattle.lines.specs.declared.Line.{Line}
-use Rattle.lines.specs.Lines.{linesOf}
+use Rattle.lines.specs.Lines.{linesOf, fourOf}
 use Rattle.lines.proofs.Rows.{lines-append}
+use Rattle.lines.proofs.Numbers.{stored-take}
 use Rattle.edges.specs.declared.Agent.{Agent}
-use Rattle.obstacles.specs.declared.ObstacleLines.{ObstacleLines}
 use Rattle.obstacles.specs.Vertices.{verticesOf}
-use Rattle.obstacles.specs.Obstacles.{Answer, lines, refused, obstacleEdges, linesAlone}
-use Rattle.obstacles.specs.Read.{answerAs}
+use Rattle.obstacles.specs.Obstacles.{Answer, lines, refused, obstacleLines, obstacleEdges}
 use Rattle.obstacles.proofs.VertexNumbers.{part-size}
-use Rattle.obstacles.proofs.EdgesInOrder.{lines-of-edges, made-many}
-use Rattle.obstacles.proofs.HandedOver.{lines-few, alone-lines, handed-lines, handed-edges}
 use Rattle.dodgy_2d.specs.Outcomes.{joined, linesAt, edgeLines}
 use Rattle.dodgy_2d.specs.Origins.{leftsAt}
 use Rattle.dodgy_2d.proofs.HeadsInOrder.{headsFrom, heads-next, heads-none}
@@ -50,58 +45,77 @@ module _ (agent : Agent) (margin horizon : Float) (v : List Float) (ks cs : List
   unfolding edgeLines
   edges-done i offset l h = rw (heads-none ks cs n i kinds counts h) (ap lines (append-nil l))
 
--- ---- one obstacle's answer, by what it says
+-- ---- one obstacle: the vertices that it is lent are its own
 
--- the lines alone, of the vertices from the offset on, are the obstacle's, and few
-module _ (agent : Agent) (margin horizon : Float) (v : List Float) (offset : ℕ) (h : Head) (few : h .count ≤ 64) (there : 2 * (offset + h .count) ≤ length v) where
+module _ (agent : Agent) (margin horizon : Float) (v : List Float) (offset : ℕ) (h : Head) (there : 2 * (offset + h .count) ≤ length v) where
   abbrev part : List Float
   part = take (2 * (offset + h .count) - 2 * offset) (drop (2 * offset) v)
-
-  abbrev found-alone : Answer
-  found-alone = linesAlone agent (h .kind) part margin horizon
-
-  abbrev found-edges : List ℕ
-  found-edges = obstacleEdges agent (h .kind) (length part / 2) (verticesOf part) margin horizon
 
   cut : 2 * (offset + h .count) - 2 * offset ≡ 2 * h .count
   cut = omega arith
 
-  alone-there : found-alone ≡ linesAt agent margin horizon v offset h
-  alone-there = rw cut (alone-lines agent (h .kind) (h .count) _ margin horizon (part-size v offset (h .count) (omega arith)) few)
+  pub part-many : length part / 2 ≡ h .count
+  part-many = rw cut (part-size v offset (h .count) (omega arith))
 
-  edges-there : found-edges ≡ leftsAt agent margin horizon v offset h
-  edges-there = rw (cut, part-size v offset (h .count) (omega arith))
+  pub part-lines : obstacleLines agent (h .kind) (length part / 2) (verticesOf part) margin horizon ≡ linesAt agent margin horizon v offset h
+  part-lines = rw (cut, part-size v offset (h .count) (omega arith))
 
-  pub found-lines : {found : ObstacleLines} → found ≡ answerAs found-alone found-edges →
-      found ≡ answerAs (linesAt agent margin horizon v offset h) (leftsAt agent margin horizon v offset h)
-  found-lines e = e ∙ rw (alone-there, edges-there)
+  pub part-lefts : obstacleEdges agent (h .kind) (length part / 2) (verticesOf part) margin horizon ≡ leftsAt agent margin horizon v offset h
+  part-lefts = rw (cut, part-size v offset (h .count) (omega arith))
 
-  pub found-few : {found : ObstacleLines} → found ≡ answerAs found-alone found-edges → found .count ≤ h .count
-  found-few e = lines-few agent (h .kind) (h .count) _ margin horizon _ (found-lines e)
+-- ---- its own lines behind the `count` that stand
 
-  told-edges : (a : Answer) → linesAt agent margin horizon v offset h ≡ a → answerAs a (leftsAt agent margin horizon v offset h) .judged ≡ judgedAs fine →
-      take (answerAs a (leftsAt agent margin horizon v offset h) .count) (answerAs a (leftsAt agent margin horizon v offset h) .edges) ≡ leftsAt agent margin horizon v offset h
-  told-edges (lines l) e fair =
-      handed-edges l (leftsAt agent margin horizon v offset h)
-      (made-many agent (h .kind) (h .count) _ margin horizon (lines-of-edges agent (h .kind) (h .count) _ margin horizon e))
-  told-edges (refused r) e fair = absurd (no-fault r (sym (ap faultOf fair)))
+pub standing-own : (b : List Float) (count own : ℕ) → 4 * (count + own) ≤ length b →
+    linesOf (take (4 * (count + own)) b) ≡ linesOf (take (4 * count) b) ++ linesOf (take (4 * own) (drop (4 * count) b))
+standing-own b count own fits =
+    let e : 4 * (count + own) ≡ 4 * count + 4 * own = omega arith in
+    let front : length (take (4 * count) b) ≡ 4 * count = length-take-le (4 * count) b (omega arith) in
+    rw (e, take-add (4 * count) (4 * own) b) (lines-append (take (4 * count) b) (take (4 * own) (drop (4 * count) b)) (rw front (omega arith)))
 
-  -- the left vertices of the lines that are found
-  pub found-lefts : {found : ObstacleLines} → found ≡ answerAs found-alone found-edges → found .judged ≡ judgedAs fine →
-      take (found .count) (found .edges) ≡ leftsAt agent margin horizon v offset h
-  found-lefts e fair = rw (found-lines e) (told-edges (linesAt agent margin horizon v offset h) refl (rw (found-lines e) at fair))
+-- one line more
+module _ (b : List Float) (count own : ℕ) (l : Line) (fits : 4 * (count + own) + 4 ≤ length b) where
+  abbrev stored : List Float
+  stored = sets b (4 * (count + own)) (fourOf l)
 
-fault-same : {r s : ℕ} → fault r ≡ fault s → r ≡ s
-fault-same e = cc
+  abbrev standing : List Float
+  standing = take (4 * own) (drop (4 * count) b)
 
-module _ (es : List ℕ) where
-  pub told-refused : (a : Answer) (r : ℕ) → answerAs a es .judged ≡ judgedAs (fault r) → a ≡ refused r
-  told-refused (lines l) r e = absurd (no-fault r (ap faultOf e))
-  told-refused (refused s) r e = ap refused (fault-same (ap faultOf e))
+  parts : take (4 * count) stored ++ take (4 * (own + 1)) (drop (4 * count) stored) ≡ take (4 * count) b ++ (standing ++ fourOf l)
+  parts =
+      let whole : 4 * count + 4 * (own + 1) ≡ 4 * (count + own + 1) = omega arith in
+      let front : 4 * (count + own) ≡ 4 * count + 4 * own = omega arith in
+      sym (take-add (4 * count) (4 * (own + 1)) stored)
+      ∙ ap (λ (k : ℕ). take k stored) whole
+      ∙ stored-take b (count + own) l fits
+      ∙ ap (λ (k : ℕ). take k b ++ fourOf l) front
+      ∙ ap (λ (x : List Float). x ++ fourOf l) (take-add (4 * count) (4 * own) b)
+      ∙ append-assoc (take (4 * count) b) standing (fourOf l)
 
-  told-lines : (a : Answer) → answerAs a es .judged ≡ judgedAs fine → a ≡ lines (linesOf (take (4 * answerAs a es .count) (answerAs a es .lines)))
-  told-lines (lines l) e = ap lines (sym (handed-lines l es))
-  told-lines (refused s) e = absurd (no-fault s (sym (ap faultOf e)))
+  long : length (take (4 * count) b) ≡ 4 * count
+  long = length-take-le (4 * count) b (omega arith)
+
+  stored-long : length (take (4 * count) stored) ≡ 4 * count
+  stored-long = length-take-le (4 * count) stored (rw (length-sets b (4 * (count + own)) (fourOf l)) (omega arith))
+
+  pub others-stay : take (4 * count) stored ≡ take (4 * count) b
+  others-stay =
+      sym (take-at (take (4 * count) stored) _ (4 * count) stored-long)
+      ∙ ap (λ (x : List Float). take (4 * count) x) parts
+      ∙ take-at (take (4 * count) b) (standing ++ fourOf l) (4 * count) long
+
+  own-numbers : take (4 * (own + 1)) (drop (4 * count) stored) ≡ standing ++ fourOf l
+  own-numbers =
+      sym (drop-at (take (4 * count) stored) _ (4 * count) stored-long)
+      ∙ ap (λ (x : List Float). drop (4 * count) x) parts
+      ∙ drop-at (take (4 * count) b) (standing ++ fourOf l) (4 * count) long
+
+  pub own-next : linesOf (take (4 * (own + 1)) (drop (4 * count) stored)) ≡ linesOf standing ++ (l ∷ [])
+  unfolding linesOf
+  own-next =
+      let size : length standing ≡ 4 * own = length-take-le (4 * own) (drop (4 * count) b) (rw length-drop (omega arith)) in
+      rw own-numbers (lines-append standing (fourOf l) (rw size (omega arith)))
+
+-- ---- the neighbours
 
 -- numbers copied behind `count` lines are lines behind them
 pub copied-lines : (numbers more : List Float) (count made : ℕ) → 4 * count ≤ length numbers → 4 * made ≤ length more → linesOf (take (4 * (count + made)) (paste numbers (4 * count) more (4 * made))) ≡ linesOf (take (4 * count) numbers) ++ linesOf (take (4 * made) more)
@@ -109,10 +123,3 @@ copied-lines numbers more count made h k =
     let e : 4 * (count + made) ≡ 4 * count + 4 * made = omega arith in
     let whole : length (take (4 * count) numbers) ≡ 4 * count = length-take-le (4 * count) numbers h in
     rw (e, take-paste numbers (4 * count) more (4 * made) h k) (lines-append (take (4 * count) numbers) (take (4 * made) more) (rw whole (omega arith)))
-
--- an answer that stands, copied behind `count` lines
-pub added-lines : (numbers : List Float) (count : ℕ) (found : ObstacleLines) (a : Answer) (es : List ℕ) → found ≡ answerAs a es → found .judged ≡ judgedAs fine → 4 * count ≤ length numbers → 4 * found .count ≤ length (found .lines)
-    → lines (linesOf (take (4 * (count + found .count)) (paste numbers (4 * count) (found .lines) (4 * found .count)))) ≡ joined (lines (linesOf (take (4 * count) numbers))) a
-added-lines numbers count found a es e fair h k =
-    let told : a ≡ lines (linesOf (take (4 * found .count) (found .lines))) = rw (← e) at (told-lines es a (rw e at fair)) in
-    rw told (ap lines (copied-lines numbers (found .lines) count (found .count) h k))

@@ -4,13 +4,13 @@ use mathlib.Core.Path.{_≡_, refl, sym, ap, _∙_}
 use mathlib.Core.List.{List, [], _∷_, _++_, map, map-append, append-assoc, append-nil}
 use native.Mathlib.Omega.{arith}
 use native.Mathlib.Nat.{add-zero, zero-add}
-use lib.ListN.{length, take, drop, getD, set, length-append, length-map, List·getD-eq-default, List·getD-append}
+use lib.ListN.{length, take, getD, set, length-append, length-map, List·getD-eq-default, List·getD-append}
 use lib.Seq.{length-take-le, getD-take, getD-append-add}
 use lib.Ieee.{Float}
 use Rattle.admission.specs.Heads.{headOf}
 use Rattle.lines.specs.declared.Origin.{Origin}
 use Rattle.lines.specs.Origins.{origin, unknown, edgeOrigin, neighbourOrigin}
-use Rattle.lines.proofs.Fold.{take-next, take-set-next}
+use Rattle.lines.proofs.Fold.{take-set-next}
 use Rattle.linear_programming.specs.Whole.{Outcome, refusal}
 use Rattle.common.specs.declared.Vec2.{Vec2}
 use Rattle.edges.specs.declared.Agent.{Agent}
@@ -20,7 +20,7 @@ use Rattle.dodgy_2d.specs.declared.Scene.{Scene}
 use Rattle.dodgy_2d.specs.Scenes.{headsIn}
 use Rattle.dodgy_2d.specs.Outcomes.{passAt}
 use Rattle.dodgy_2d.specs.Origins.{originsAt, edgeOrigins, neighboursFrom, failedOrigin, passOrigin}
-use Rattle.dodgy_2d.specs.Read.{wallsIn, WallsAre, counted, none-told}
+use Rattle.dodgy_2d.specs.Read.{wallsIn, WallsAre, counted}
 use Rattle.dodgy_2d.proofs.HeadsInOrder.{headsFrom, heads-next, heads-none}
 
 -- ---- one wall more
@@ -32,22 +32,20 @@ wall-said place left h =
     let v : (256 * place + left) % 256 ≡ left = omega arith in
     rw (p, v)
 
-module _ (walls edges : List ℕ) (at place i : ℕ) (origins : List Origin) (there : at + i < length walls) (own : i < length edges) (byte : getD edges i 0 < 256) where
-  pub noted-on : wallsIn (at + i) walls ≡ origins ++ map (edgeOrigin place) (take i edges) →
-      wallsIn (at + (i + 1)) (set walls (at + i) (256 * place + getD edges i 0)) ≡ origins ++ map (edgeOrigin place) (take (i + 1) edges)
-  noted-on e =
-      let k : at + (i + 1) ≡ at + i + 1 = omega arith in
-      let wall = 256 * place + getD edges i 0 in
-      rw (
-        k,
-        take-set-next walls (at + i) there wall,
-        map-append _ (take (at + i) walls) (wall ∷ []),
-        e,
-        wall-said place (getD edges i 0) byte,
-        take-next edges i own 0,
-        map-append (edgeOrigin place) (take i edges) (getD edges i 0 ∷ []),
-      )
-      (append-assoc origins (map (edgeOrigin place) (take i edges)) (edgeOrigin place (getD edges i 0) ∷ []))
+-- behind the walls that are noted, and the obstacle's own among them
+pub noted-on : (walls : List ℕ) (at place left : ℕ) (noted : List Origin) (lefts : List ℕ) → at < length walls → left < 256 →
+    wallsIn at walls ≡ noted ++ map (edgeOrigin place) lefts →
+    wallsIn (at + 1) (set walls at (256 * place + left)) ≡ noted ++ map (edgeOrigin place) (lefts ++ (left ∷ []))
+noted-on walls at place left noted lefts there byte e =
+    let wall = 256 * place + left in
+    rw (
+      take-set-next walls at there wall,
+      map-append _ (take at walls) (wall ∷ []),
+      e,
+      wall-said place left byte,
+      map-append (edgeOrigin place) lefts (left ∷ []),
+    )
+    (append-assoc noted (map (edgeOrigin place) lefts) (edgeOrigin place left ∷ []))
 
 -- ---- obstacle behind obstacle
 

@@ -3,20 +3,21 @@
 use crate::EdgeLines;
 use crate::judge::wide;
 use admission::Head;
-use admission::Judged;
 use edges::Agent;
+use obstacles::AdmittedLine;
 ghost use mathlib.Core.Path.{_≡_};
-ghost use Prim.Native.Nat.{_+_, _*_, _≤_, _<_};
+ghost use Prim.Native.Nat.{_+_, _*_, _/_, _≤_, _<_};
 ghost use mathlib.Core.List.{_++_, map};
 ghost use lib.ListN.{length, take};
 ghost use lib.Seq.{paste};
 ghost use Rattle.admission.specs.Faults.{fine};
 ghost use Rattle.lines.specs.Lines.{linesOf};
 ghost use Rattle.lines.specs.Origins.{edgeOrigin};
-ghost use Rattle.obstacles.specs.Obstacles.{lines as linesAre};
+ghost use Rattle.obstacles.specs.Vertices.{verticesOf};
+ghost use Rattle.obstacles.specs.Obstacles.{lines as linesAre, obstacleLines, obstacleEdges};
 ghost use Rattle.dodgy_2d.specs.Scenes.{headsOf, obstaclesFault};
-ghost use Rattle.dodgy_2d.specs.Outcomes.{joined, linesAt, edgeLines};
-ghost use Rattle.dodgy_2d.specs.Origins.{originsAt, edgeOrigins};
+ghost use Rattle.dodgy_2d.specs.Outcomes.{joined, edgeLines};
+ghost use Rattle.dodgy_2d.specs.Origins.{edgeOrigins};
 ghost use Rattle.dodgy_2d.specs.Read.{edgesOf, countIn, wallsIn, WallsAre};
 
 // Copies the first `n` numbers of `more` to those from `at` on.
@@ -31,24 +32,11 @@ pub(crate) fn copy(numbers: &mut [f32], at: usize, more: [f32; 256], n: usize)
     }
 }
 
-// Notes the walls of the first `n` lines of an obstacle from `at` on.
-fn note(walls: &mut [u32], at: usize, place: usize, edges: [u8; 64], n: usize)
-    requires { ⌜ (n ≤ 64) × (at + n ≤ length (now walls)) × (place < 16) ⌝ }
-    ensures { λ _. ⌜ wallsIn (at + n) (now (walls .exit)) ≡ wallsIn at (now (walls .entry)) ++ map (edgeOrigin place) (take n edges) ⌝ }
-{
-    let mut i = 0usize;
-    while i < n {
-        walls[at + i] = (256 * place + wide(edges[i])) as u32;
-        i += 1;
-    }
-}
-
-// The lines of one obstacle behind the `count` lines that stand, and their walls.
+// The lines of one obstacle behind the `count` lines that stand, and their walls. Its edges see the lines that it made itself, and no others.
 fn add_obstacle(
     agent: Agent,
     place: usize,
-    head: Head,
-    offset: usize,
+    kind: u8,
     vertices: &[f32],
     margin: f32,
     horizon: f32,
@@ -56,26 +44,39 @@ fn add_obstacle(
     walls: &mut [u32],
     count: usize,
 ) -> EdgeLines
-    requires { ⌜ (length (now numbers) ≡ 1024) × (head .count ≤ 64) × (count + head .count ≤ 192) × (offset ≤ 192) × (2 * (offset + head .count) ≤ length (now vertices)) × (place < 16) × (length (now walls) ≡ 192) ⌝ }
-    ensures { λ r. ⌜ (length (now (numbers .exit)) ≡ 1024) × (countIn r ≤ count + head .count) × (edgesOf r (now (numbers .exit)) ≡ joined (linesAre (linesOf (take (4 * count) (now (numbers .entry))))) (linesAt agent margin horizon (now (vertices .entry)) offset head)) × WallsAre (now (walls .exit)) (wallsIn count (now (walls .entry)) ++ originsAt agent margin horizon (now (vertices .entry)) place offset head) r ⌝ }
+    requires { ⌜ (length (now numbers) ≡ 1024) × (length (now walls) ≡ 192) × (count + length (now vertices) / 2 ≤ 192) × (place < 16) ⌝ }
+    ensures { λ r. ⌜ (length (now (numbers .exit)) ≡ 1024) × (length (now (walls .exit)) ≡ 192)
+        × (countIn r ≤ count + length (now (vertices .entry)) / 2)
+        × (edgesOf r (now (numbers .exit)) ≡ joined (linesAre (linesOf (take (4 * count) (now (numbers .entry)))))
+        (obstacleLines agent kind (length (now (vertices .entry)) / 2) (verticesOf (now (vertices .entry))) margin horizon))
+        × WallsAre (now (walls .exit)) (wallsIn count (now (walls .entry)) ++ map (edgeOrigin place)
+        (obstacleEdges agent kind (length (now (vertices .entry)) / 2) (verticesOf (now (vertices .entry))) margin horizon)) r ⌝ }
 {
-    let found = obstacles::get_lines_alone(
-        agent,
-        head.kind,
-        &vertices[2 * offset..2 * (offset + head.count)],
-        margin,
-        horizon,
-    );
-    let judged = found.judged;
-    if let Judged::Fault(number) = judged {
-        return EdgeLines::Refused(number);
+    let all = obstacles::edge_count(kind, vertices.len() / 2);
+    let mut own = 0usize;
+    let mut i = 0usize;
+    while i < all {
+        let found = obstacles::get_line_alone(
+            agent,
+            kind,
+            vertices,
+            i,
+            margin,
+            horizon,
+            &numbers[4 * count..4 * (count + own)],
+        );
+        i += 1;
+        match found {
+            AdmittedLine::Kept(line) => {
+                lines::put_line(numbers, count + own, line);
+                walls[count + own] = (256 * place + (i - 1)) as u32;
+                own += 1;
+            }
+            AdmittedLine::Nothing => {}
+            AdmittedLine::Refused(number) => return EdgeLines::Refused(number),
+        }
     }
-    let lines = found.lines;
-    let made = found.count;
-    copy(numbers, 4 * count, lines, 4 * made);
-    let edges = found.edges;
-    note(walls, count, place, edges, made);
-    EdgeLines::Count(count + made)
+    EdgeLines::Count(count + own)
 }
 
 // The lines of the first `n` obstacles, each with its vertices behind those of the ones before. An obstacle sees no other one's lines.
@@ -104,9 +105,8 @@ pub(crate) fn edge_lines(
         let added = add_obstacle(
             agent,
             i,
-            head,
-            offset,
-            vertices,
+            head.kind,
+            &vertices[2 * offset..2 * (offset + head.count)],
             margin,
             horizon,
             numbers,

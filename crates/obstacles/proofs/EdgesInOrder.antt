@@ -1,6 +1,6 @@
 -- The edges in order: one edge more, a refusal that stays; every answer refuses with 9 or has few lines, all admitted; and the lines are those of the edges
 -- that are told beside them. Assumes nothing.
-use Prim.Native.Nat.{ℕ, zero, suc, _+_, _-_, _≤_}
+use Prim.Native.Nat.{ℕ, zero, suc, _+_, _-_, _/_, _≤_, _<_}
 use mathlib.Core.Path.{_≡_, refl, ap}
 use mathlib.Core.List.{List, [], _∷_, _++_, append-nil}
 use native.Mathlib.Omega.{arith}
@@ -9,6 +9,8 @@ use native.Mathlib.Numerals.{add-one}
 use lib.Dec.{eqb}
 use lib.ListN.{length, length-append}
 use lib.Ieee.{Float}
+use borrow.Author.Tests.{lt-ltb}
+use Rattle.arithmetic.specs.Binary32.{if_then_else_}
 use Rattle.arithmetic.proofs.Choice.{if-all}
 use Rattle.common.specs.declared.Vec2.{Vec2}
 use Rattle.lines.specs.declared.Line.{Line}
@@ -18,9 +20,9 @@ use Rattle.admission.specs.Faults.{fine}
 use Rattle.admission.proofs.FaultLaws.{unless-case}
 use Rattle.edges.specs.declared.Agent.{Agent}
 use Rattle.edges.specs.Edges.{EdgeLine, nothing, made}
-use Rattle.obstacles.specs.Vertices.{edgeAt}
+use Rattle.obstacles.specs.Vertices.{verticesOf, edgeAt}
 use Rattle.edges.specs.EdgeLines.{lineForEdge}
-use Rattle.obstacles.specs.Obstacles.{Answer, lines, refused, Admitted, kept, nothingKept, notAdmitted, admitted, behind, addEdge, linesUpTo, edgeCount, obstacleLines, maker, makerBehind, makersUpTo, obstacleEdges}
+use Rattle.obstacles.specs.Obstacles.{Answer, lines, refused, Admitted, kept, nothingKept, notAdmitted, admitted, behind, addEdge, linesUpTo, edgeCount, lineAlone, obstacleLines, maker, makerBehind, makersUpTo, obstacleEdges}
 
 -- the answer refuses with 9, or its lines are at most n and pass the admission of a list
 pub data FewAdmitted (n : ℕ) : Answer → Type 0 where
@@ -43,12 +45,20 @@ pub few-edges : (kind n : ℕ) → edgeCount kind n ≤ n
 unfolding edgeCount
 few-edges kind n = if-all (λ (m : ℕ). m ≤ n) (eqb kind 2) (omega arith) (omega arith)
 
+pub few-counted : (kind n : ℕ) {m : ℕ} → m ≡ edgeCount kind n → m ≤ n
+few-counted kind n e = rw e (few-edges kind n)
+
 module _ (agent : Agent) (kind n : ℕ) (vs : List Vec2) (margin horizon : Float) where
   abbrev upTo : ℕ → Answer
   upTo = linesUpTo agent kind n vs margin horizon
 
   abbrev edge : ℕ → List Line → Admitted
   edge i ls = admitted (lineForEdge agent (edgeAt kind n vs i) margin horizon ls)
+
+  -- an edge's line that is asked for alone is its line
+  pub alone-edge : (xs : List Float) (i : ℕ) (ls : List Line) → length xs / 2 ≡ n → verticesOf xs ≡ vs → i < edgeCount kind n → lineAlone agent kind xs i margin horizon ls ≡ edge i ls
+  unfolding lineAlone if_then_else_
+  alone-edge xs i ls e f h = rw (e, f, lt-ltb i (edgeCount kind n) h)
 
   pub add-kept : (i : ℕ) (ls : List Line) (l : Line) → upTo i ≡ lines ls → kept l ≡ edge i ls → upTo (i + 1) ≡ lines (ls ++ (l ∷ []))
   unfolding linesUpTo addEdge

@@ -1,11 +1,10 @@
--- Lent numbers that the lines so far fill, and the left vertices of their edges beside them, with zeros behind: how they start, one line more, and the
--- answer that they are. Assumes nothing.
+-- Lent numbers that the lines so far fill, with zeros behind them: how they start, one line more, and the answer that they are. Assumes nothing.
 use Prim.Native.Nat.{ℕ, zero, suc, _+_, _-_, _*_, _≤_, _<_}
-use mathlib.Core.Path.{_≡_, refl, sym, ap, _∙_}
-use mathlib.Core.List.{List, [], _∷_, _++_}
+use mathlib.Core.Path.{_≡_, ap, _∙_}
+use mathlib.Core.List.{List, _++_}
 use native.Mathlib.Omega.{arith}
-use lib.ListN.{length, take, drop, set, replicate, length-append, length-replicate, take-append-drop}
-use lib.Seq.{sets, length-sets, drop-drop, length-take-le, append-snoc, set-at}
+use lib.ListN.{length, take, drop, replicate, take-append-drop}
+use lib.Seq.{sets, length-sets, drop-drop, length-take-le}
 use lib.Ieee.{Float}
 use Rattle.arithmetic.specs.Binary32.{0ᶠ}
 use Rattle.lines.specs.declared.Line.{Line}
@@ -14,7 +13,7 @@ use Rattle.admission.specs.Faults.{fine, judgedAs}
 use Rattle.lines.proofs.Rows.{lines-long}
 use Rattle.obstacles.specs.declared.ObstacleLines.{ObstacleLines}
 use Rattle.obstacles.specs.Obstacles.{lines}
-use Rattle.obstacles.specs.Read.{blankNumbers, blankEdges, answerAs}
+use Rattle.obstacles.specs.Read.{blankNumbers, answerAs}
 use Rattle.lines.proofs.Numbers.{numbers-back, stored-drop}
 
 drop-replicate : {A : Type 0} (k n : ℕ) (x : A) → drop k (replicate n x) ≡ replicate (n - k) x
@@ -48,36 +47,11 @@ filled-next b n l h f = record {
       stored-drop b n l (omega (arith, f .size)) ∙ ap (λ (x : List Float). drop 4 x) (f .rest) ∙ drop-drop 4 (4 * n) blankNumbers ∙ ap (λ (i : ℕ). drop i blankNumbers) k;
 }
 
--- the left vertices of the first n lines' edges, and zeros
-pub record Beside (n : ℕ) (es b : List ℕ) : Type 0 where
-  pub many : length es ≡ n
-  pub held : b ≡ es ++ replicate (64 - n) 0
-
-pub edges-long : (b : List ℕ) → b ≡ blankEdges → length b ≡ 64
-unfolding blankEdges
-edges-long b e = rw e
-
-pub beside-none : (b : List ℕ) → b ≡ blankEdges → Beside 0 [] b
-unfolding blankEdges
-beside-none b e = record { many = refl; held = e }
-
-pub beside-long : {n : ℕ} {es b : List ℕ} → n ≤ 64 → Beside n es b → length b ≡ 64
-beside-long {n} {es} h f = rw (f .held, length-append es (replicate (64 - n) 0), length-replicate {A = ℕ} (64 - n) 0, f .many) (omega arith)
-
-pub beside-next : {n : ℕ} {es b : List ℕ} (i : ℕ) → n < 64 → Beside n es b → Beside (n + 1) (es ++ (i ∷ [])) (set b n i)
-beside-next {n} {es} {b} i h f = record {
-  many = rw (length-append es (i ∷ []), f .many);
-  held =
-      let k : 64 - n ≡ suc (64 - (n + 1)) = omega arith in
-      rw (f .held, k) (set-at es 0 (replicate (64 - (n + 1)) 0) i n (f .many) ∙ sym (append-snoc es i (replicate (64 - (n + 1)) 0)));
-}
-
-pub filled-answer : (b : List Float) (n : ℕ) (es e : List ℕ) → n ≤ 64 → Filled n b → Beside n es e →
-    _≡_ {A = ObstacleLines} (record { lines = b; edges = e; count = n; judged = judgedAs fine }) (answerAs (lines (linesOf (take (4 * n) b))) es)
+pub filled-answer : (b : List Float) (n : ℕ) → n ≤ 64 → Filled n b → _≡_ {A = ObstacleLines} (record { lines = b; count = n; judged = judgedAs fine }) (answerAs (lines (linesOf (take (4 * n) b))))
 unfolding blankNumbers
-filled-answer b n es e h f g =
+filled-answer b n h f =
     let front : length (take (4 * n) b) ≡ 4 * n = length-take-le (4 * n) b (omega (arith, f .size)) in
     let many : length (linesOf (take (4 * n) b)) ≡ n = lines-long (take (4 * n) b) ∙ rw front (omega arith) in
     let same : numbersOf (linesOf (take (4 * n) b)) ≡ take (4 * n) b = numbers-back (take (4 * n) b) (rw front (omega arith)) in
     let whole : take (4 * n) b ++ replicate (256 - 4 * n) 0ᶠ ≡ b = rw (← drop-replicate (4 * n) 256 0ᶠ, ← f .rest) (take-append-drop (4 * n) b) in
-    rw (many, same, whole, g .many, g .held)
+    rw (many, same, whole)

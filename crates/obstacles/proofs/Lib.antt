@@ -1,7 +1,7 @@
--- The laws of `obstacles`: of vertices as numbers, of an obstacle's faults, of the edges in order, and of what is handed over.
+-- The laws of `obstacles`: of vertices as numbers, of an obstacle's faults, of the edges in order, of numbers filled with lines, and that answers agree.
 pub mod VertexNumbers
 pub mod ObstacleFaults
 pub mod EdgesInOrder
 pub mod Filled
-pub mod HandedOver
+pub mod Agreement
 pub mod Computed

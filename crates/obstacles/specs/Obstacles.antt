@@ -1,7 +1,7 @@
 -- The lines of one obstacle: all its edges in order, alone and behind its faults (01, "Rules of the edges", "Refusal numbers"). Definitions only. Assumes nothing.
 use Prim.Native.Nat.{ℕ, zero, suc, _-_, _/_}
 use mathlib.Core.List.{List, [], _∷_, _++_}
-use lib.Dec.{eqb, leb, ltb}
+use lib.Dec.{eqb, ltb}
 use lib.ListN.{length}
 use lib.Ieee.{Float}
 use Rattle.arithmetic.specs.Binary32.{if_then_else_}
@@ -9,7 +9,7 @@ use Rattle.common.specs.declared.Vec2.{Vec2}
 use Rattle.lines.specs.declared.Line.{Line}
 use Rattle.lines.specs.LineFaults.{lineFault}
 use Rattle.admission.specs.Faults.{_⊳_, unlessFault}
-use Rattle.admission.specs.Heads.{headOf, openKind, mostVertices}
+use Rattle.admission.specs.Heads.{headOf, openKind}
 use Rattle.edges.specs.declared.Agent.{Agent}
 use Rattle.edges.specs.Edges.{EdgeLine, nothing, made}
 use Rattle.obstacles.specs.declared.EdgeEnds.{EdgeEnds}
@@ -89,11 +89,11 @@ obstacleEdges agent kind n vs margin horizon = makersUpTo agent kind n vs margin
 
 -- ---- the calls
 
--- as they are, with nothing judged but that the answer holds as many lines (4)
-unfoldable pub linesAlone : Agent → ℕ → List Float → Float → Float → Answer
-linesAlone agent kind xs margin horizon =
+-- one edge's line behind lines that stand, with nothing judged; or there is no such edge
+unfoldable pub lineAlone : Agent → ℕ → List Float → ℕ → Float → Float → List Line → Admitted
+lineAlone agent kind xs i margin horizon ls =
     let n = length xs / 2 in
-    if leb n mostVertices then obstacleLines agent kind n (verticesOf xs) margin horizon else refused 4
+    if ltb i (edgeCount kind n) then admitted (lineForEdge agent (edgeAt kind n (verticesOf xs) i) margin horizon ls) else nothingKept
 
 -- the agent's first fault, then the obstacle's, then its lines
 unfoldable pub obstacleCall : Agent → ℕ → List Float → ℕ → Float → Float → Answer

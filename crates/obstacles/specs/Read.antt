@@ -1,6 +1,6 @@
 -- What each enum of the code says, in 01's values and numbers, and the struct that an answer is handed over in. Definitions only. Assumes nothing.
-use Prim.Native.Nat.{ℕ, _-_, _*_}
-use mathlib.Core.List.{List, [], _++_}
+use Prim.Native.Nat.{_-_, _*_}
+use mathlib.Core.List.{List, _++_}
 use lib.ListN.{length, replicate}
 use lib.Ieee.{Float}
 use Rattle.arithmetic.specs.Binary32.{0ᶠ}
@@ -18,26 +18,22 @@ admittedOf (admitted-line.Kept l) = kept l
 admittedOf admitted-line.Nothing = nothingKept
 admittedOf (admitted-line.Refused r) = notAdmitted r
 
+abbrev pub admittedAs : Admitted → AdmittedLine
+admittedAs (kept l) = admitted-line.Kept l
+admittedAs nothingKept = admitted-line.Nothing
+admittedAs (notAdmitted r) = admitted-line.Refused r
+
 -- ---- lines as numbers, four a line
 
 unfoldable pub blankNumbers : List Float
 blankNumbers = replicate 256 0ᶠ
 
-unfoldable pub blankEdges : List ℕ
-blankEdges = replicate 64 0
+-- what the code hands over: the numbers of the lines with zeros behind them, and their count; zeros alone beside a refusal
+abbrev pub answerAs : Answer → ObstacleLines
+answerAs (lines ls) = record { lines = numbersOf ls ++ replicate (256 - 4 * length ls) 0ᶠ; count = length ls; judged = judgedAs fine }
+answerAs (refused r) = record { lines = blankNumbers; count = 0; judged = judgedAs (fault r) }
 
--- what the code hands over: the numbers of the lines and the left vertices of their edges, with zeros behind them, and their count; zeros alone beside a
--- refusal
-abbrev pub answerAs : Answer → List ℕ → ObstacleLines
-answerAs (lines ls) es = record {
-  lines = numbersOf ls ++ replicate (256 - 4 * length ls) 0ᶠ;
-  edges = es ++ replicate (64 - length es) 0;
-  count = length ls;
-  judged = judgedAs fine;
-}
-answerAs (refused r) es = record { lines = blankNumbers; edges = blankEdges; count = 0; judged = judgedAs (fault r) }
-
--- the edges' lines in lent numbers and their left vertices, with what the loop over the edges says of them
-abbrev pub addedOf : AddedLines → List Float → List ℕ → ObstacleLines
-addedOf (added-lines.Count n) numbers edges = record { lines = numbers; edges = edges; count = n; judged = judgedAs fine }
-addedOf (added-lines.Refused r) numbers edges = answerAs (refused r) []
+-- the edges' lines in lent numbers, with what the loop over the edges says of them
+abbrev pub addedOf : AddedLines → List Float → ObstacleLines
+addedOf (added-lines.Count n) numbers = record { lines = numbers; count = n; judged = judgedAs fine }
+addedOf (added-lines.Refused r) numbers = answerAs (refused r)

@@ -11,27 +11,23 @@ use lines::Line;
 ghost use mathlib.Core.Path.{_≡_};
 ghost use Rattle.admission.specs.Faults.{faultOf};
 ghost use Rattle.obstacles.specs.ObstacleFaults.{vectorFault, agentFault, headFault, verticesFault};
-ghost use Prim.Native.Nat.{_/_};
-ghost use lib.ListN.{length};
-ghost use Rattle.obstacles.specs.Vertices.{verticesOf};
-ghost use Rattle.obstacles.specs.Obstacles.{linesAlone, obstacleCall, obstacleEdges, endsOf};
-ghost use Rattle.obstacles.specs.Read.{answerAs};
+ghost use Rattle.lines.specs.Lines.{linesOf};
+ghost use Rattle.obstacles.specs.Obstacles.{obstacleCall, edgeCount, lineAlone, endsOf};
+ghost use Rattle.obstacles.specs.Read.{admittedOf, answerAs};
 
 mod judge;
 mod obstacle;
 mod vertices;
 
-// The lines of one obstacle, four numbers each, the left vertex of the edge that each is of, and how many they are: blank behind them, and where the
-// obstacle is refused.
+// The lines of one obstacle, four numbers each, and how many they are: blank behind them, and where the obstacle is refused.
 pub struct ObstacleLines {
     pub lines: [f32; 256],
-    pub edges: [u8; 64],
     pub count: usize,
     pub judged: Judged,
 }
 
 // An edge's line after the admission of lines, or the number of its refusal.
-pub(crate) enum AdmittedLine {
+pub enum AdmittedLine {
     Kept(Line),
     Nothing,
     Refused(u8),
@@ -54,7 +50,7 @@ pub fn get_lines_for_agent_to_obstacle(
     margin: f32,
     horizon: f32,
 ) -> ObstacleLines
-    ensures { λ r. ⌜ r ≡ answerAs (obstacleCall agent kind (now (vertices .entry)) count margin horizon) (obstacleEdges agent kind count (verticesOf (now (vertices .entry))) margin horizon) ⌝ }
+    ensures { λ r. ⌜ r ≡ answerAs (obstacleCall agent kind (now (vertices .entry)) count margin horizon) ⌝ }
 {
     let beside = judge_agent(agent, margin, horizon);
     if let Judged::Fault(number) = beside {
@@ -67,21 +63,45 @@ pub fn get_lines_for_agent_to_obstacle(
     obstacle::lines_for_edges(agent, kind, vertices, margin, horizon)
 }
 
-// The lines alone, for a caller that has judged agent and obstacle: every number is taken as it is, every kind but 2 as closed, and an odd number at the end is
-// passed over. Refused: more vertices than the answer can hold lines, 64 (4), and an edge whose line is not admitted (9).
-pub fn get_lines_alone(
+// As many edges as vertices where the obstacle is closed, one less where it is open.
+pub fn edge_count(kind: u8, count: usize) -> usize
+    ensures { λ r. ⌜ r ≡ edgeCount kind count ⌝ }
+{
+    if kind != Head::OPEN {
+        return count;
+    }
+    if count == 0 {
+        return 0;
+    }
+    count - 1
+}
+
+// The line of one edge alone, the one from a vertex to the next, for a caller that has judged agent and obstacle and asks edge by edge: every number is taken
+// as it is, every kind but 2 as closed, and an odd number at the end is passed over. The existing lines are those that the obstacle's edges before it made.
+// Nothing where there is no such edge; refused with 9 where the line is not admitted.
+pub fn get_line_alone(
     agent: Agent,
     kind: u8,
     vertices: &[f32],
+    left_index: usize,
     margin: f32,
     horizon: f32,
-) -> ObstacleLines
-    ensures { λ r. ⌜ r ≡ answerAs (linesAlone agent kind (now (vertices .entry)) margin horizon) (obstacleEdges agent kind (length (now (vertices .entry)) / 2) (verticesOf (now (vertices .entry))) margin horizon) ⌝ }
+    existing_lines: &[f32],
+) -> AdmittedLine
+    ensures { λ r. ⌜ admittedOf r ≡ lineAlone agent kind (now (vertices .entry)) «left_index» margin horizon (linesOf (now («existing_lines» .entry))) ⌝ }
 {
-    if vertices.len() / 2 > Head::MOST {
-        return obstacle::refused(4);
+    if left_index < edge_count(kind, vertices.len() / 2) {
+        return obstacle::admitted_line(
+            agent,
+            kind,
+            vertices,
+            left_index,
+            margin,
+            horizon,
+            existing_lines,
+        );
     }
-    obstacle::lines_for_edges(agent, kind, vertices, margin, horizon)
+    AdmittedLine::Nothing
 }
 
 // The ends of one edge, left and right; or the obstacle has no such edge.
@@ -90,12 +110,12 @@ pub enum EdgeEnds {
     Absent,
 }
 
-// The ends of the edge from a vertex to the next, for a caller that has judged the obstacle: numbers and kind are taken as `get_lines_alone` takes them.
+// The ends of the edge from a vertex to the next, for a caller that has judged the obstacle: numbers and kind are taken as `get_line_alone` takes them.
 pub fn edge_ends(kind: u8, vertices: &[f32], left_index: usize) -> EdgeEnds
     ensures { λ r. ⌜ r ≡ endsOf kind (now (vertices .entry)) «left_index» ⌝ }
 {
     let count = vertices.len() / 2;
-    if left_index < obstacle::edge_count(kind, count) {
+    if left_index < edge_count(kind, count) {
         let right_index = vertices::next_index(count, left_index);
         let left = vertices::vertex_at(vertices, left_index);
         let right = vertices::vertex_at(vertices, right_index);

@@ -2,8 +2,8 @@
 use crate::AddedLines;
 use crate::AdmittedLine;
 use crate::ObstacleLines;
+use crate::edge_count;
 use crate::vertices;
-use admission::Head;
 use admission::Judged;
 use edges::Agent;
 use edges::EdgeLine;
@@ -13,25 +13,11 @@ ghost use lib.ListN.{length};
 ghost use Rattle.lines.specs.Lines.{linesOf};
 ghost use Rattle.obstacles.specs.Vertices.{verticesOf, edgeAt};
 ghost use Rattle.edges.specs.EdgeLines.{lineForEdge};
-ghost use Rattle.obstacles.specs.Obstacles.{edgeCount, admitted, obstacleLines, obstacleEdges, refused as refusedWith};
-ghost use Rattle.obstacles.specs.Read.{admittedOf, blankNumbers, blankEdges, addedOf, answerAs};
-ghost use mathlib.Core.List.{[]};
-
-// As many edges as vertices where the obstacle is closed, one less where it is open.
-pub(crate) fn edge_count(kind: u8, count: usize) -> usize
-    ensures { λ r. ⌜ (r ≡ edgeCount kind count) × (r ≤ count) ⌝ }
-{
-    if kind != Head::OPEN {
-        return count;
-    }
-    if count == 0 {
-        return 0;
-    }
-    count - 1
-}
+ghost use Rattle.obstacles.specs.Obstacles.{admitted, obstacleLines, refused as refusedWith};
+ghost use Rattle.obstacles.specs.Read.{admittedOf, blankNumbers, addedOf, answerAs};
 
 // The line of the edge from a vertex to the next, behind the lines made earlier: refused with 9 where it breaks the admission of lines.
-fn admitted_line(
+pub(crate) fn admitted_line(
     agent: Agent,
     kind: u8,
     vertices: &[f32],
@@ -54,8 +40,7 @@ fn admitted_line(
     AdmittedLine::Kept(line)
 }
 
-// Fills blank numbers with the lines of all edges, and beside each line the left vertex of its edge. The lines made so far are the only ones that the next
-// edge sees.
+// Fills blank numbers with the lines of all edges. The lines made so far are the only ones that the next edge sees.
 fn add_edges(
     agent: Agent,
     kind: u8,
@@ -63,15 +48,14 @@ fn add_edges(
     margin: f32,
     horizon: f32,
     lines: &mut [f32],
-    edges: &mut [u8],
 ) -> AddedLines
-    requires { ⌜ (length (now vertices) / 2 ≤ 64) × (now lines ≡ blankNumbers) × (now edges ≡ blankEdges) ⌝ }
-    ensures { λ r. ⌜ addedOf r (now (lines .exit)) (now (edges .exit)) ≡ answerAs (obstacleLines agent kind (length (now (vertices .entry)) / 2) (verticesOf (now (vertices .entry))) margin horizon) (obstacleEdges agent kind (length (now (vertices .entry)) / 2) (verticesOf (now (vertices .entry))) margin horizon) ⌝ }
+    requires { ⌜ (length (now vertices) / 2 ≤ 64) × (now lines ≡ blankNumbers) ⌝ }
+    ensures { λ r. ⌜ addedOf r (now (lines .exit)) ≡ answerAs (obstacleLines agent kind (length (now (vertices .entry)) / 2) (verticesOf (now (vertices .entry))) margin horizon) ⌝ }
 {
-    let all = edge_count(kind, vertices.len() / 2);
+    let edges = edge_count(kind, vertices.len() / 2);
     let mut count = 0usize;
     let mut i = 0usize;
-    while i < all {
+    while i < edges {
         let admitted = admitted_line(
             agent,
             kind,
@@ -85,7 +69,6 @@ fn add_edges(
         match admitted {
             AdmittedLine::Kept(line) => {
                 lines::put_line(lines, count, line);
-                edges[count] = (i - 1) as u8;
                 count += 1;
             }
             AdmittedLine::Nothing => {}
@@ -101,19 +84,12 @@ fn blank() -> [f32; 256]
     [0.0f32; 256]
 }
 
-fn blank_edges() -> [u8; 64]
-    ensures { λ r. ⌜ r ≡ blankEdges ⌝ }
-{
-    [0u8; 64]
-}
-
 // What stands beside a refusal: its number alone.
 pub(crate) fn refused(number: u8) -> ObstacleLines
-    ensures { λ r. ⌜ r ≡ answerAs (refusedWith number) [] ⌝ }
+    ensures { λ r. ⌜ r ≡ answerAs (refusedWith number) ⌝ }
 {
     ObstacleLines {
         lines: blank(),
-        edges: blank_edges(),
         count: 0,
         judged: Judged::Fault(number),
     }
@@ -128,22 +104,12 @@ pub(crate) fn lines_for_edges(
     horizon: f32,
 ) -> ObstacleLines
     requires { ⌜ length (now vertices) / 2 ≤ 64 ⌝ }
-    ensures { λ r. ⌜ r ≡ answerAs (obstacleLines agent kind (length (now (vertices .entry)) / 2) (verticesOf (now (vertices .entry))) margin horizon) (obstacleEdges agent kind (length (now (vertices .entry)) / 2) (verticesOf (now (vertices .entry))) margin horizon) ⌝ }
+    ensures { λ r. ⌜ r ≡ answerAs (obstacleLines agent kind (length (now (vertices .entry)) / 2) (verticesOf (now (vertices .entry))) margin horizon) ⌝ }
 {
     let mut lines = blank();
-    let mut edges = blank_edges();
-    match add_edges(
-        agent,
-        kind,
-        vertices,
-        margin,
-        horizon,
-        &mut lines,
-        &mut edges,
-    ) {
+    match add_edges(agent, kind, vertices, margin, horizon, &mut lines) {
         AddedLines::Count(count) => ObstacleLines {
             lines,
-            edges,
             count,
             judged: Judged::Fine,
         },

@@ -8,9 +8,7 @@ use lib.Ieee.{Float, nan}
 use Rattle.words.specs.Words.{wordOf}
 use Rattle.admission.specs.Faults.{Fault, fine, fault, faultOf}
 use Rattle.obstacles.specs.declared.ObstacleLines.{ObstacleLines}
-use Rattle.edges.specs.declared.Agent.{Agent}
-use Rattle.obstacles.specs.Vertices.{verticesOf}
-use Rattle.obstacles.specs.Obstacles.{obstacleCall, obstacleEdges}
+use Rattle.obstacles.specs.Obstacles.{obstacleCall}
 use Rattle.obstacles.specs.Read.{answerAs}
 use Rattle.replay_records.specs.Answers.{numberAt, vectorAt, agreesWith}
 use Rattle.replay_records.specs.Records.{firstNumbers}
@@ -32,9 +30,6 @@ isLinesOrRefusal answer s at xs n (fault r) = eqb answer (100 + r)
 unfoldable pub isAnswer : ℕ → List ℕ → ℕ → ObstacleLines → Bool
 isAnswer answer s at made = isLinesOrRefusal answer s at (made .lines) (made .count) (faultOf (made .judged))
 
-abbrev pub agentIn : List ℕ → Agent
-agentIn head = record { position = vectorAt head 20; velocity = vectorAt head 28 }
-
 -- whether the record's answer is the one to the obstacle and the agent that its head and its numbers make
 unfoldable pub isReplayed : List ℕ → List ℕ → Bool
 isReplayed head rest =
@@ -42,5 +37,10 @@ isReplayed head rest =
     && (leb (wordOf head 4) 384
     && isAnswer (wordOf head 8) rest (4 * wordOf head 4)
     (answerAs
-    (obstacleCall (agentIn head) (wordOf head 0) (firstNumbers rest (wordOf head 4)) (longAt head 12) (numberAt head 36) (numberAt head 40))
-    (obstacleEdges (agentIn head) (wordOf head 0) (longAt head 12) (verticesOf (firstNumbers rest (wordOf head 4))) (numberAt head 36) (numberAt head 40))))
+    (obstacleCall
+    (record { position = vectorAt head 20; velocity = vectorAt head 28 })
+    (wordOf head 0)
+    (firstNumbers rest (wordOf head 4))
+    (longAt head 12)
+    (numberAt head 36)
+    (numberAt head 40))))

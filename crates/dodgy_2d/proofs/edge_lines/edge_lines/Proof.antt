@@ -5,8 +5,9 @@ use mathlib.Core.Path.{_≡_, refl, sym, _∙_}
 use mathlib.Core.List.{_++_}
 use native.Mathlib.Omega.{arith}
 use denote.Ref.{now}
-use lib.ListN.{length, take, drop}
+use lib.ListN.{length, take, drop, getD}
 use Rattle.admission.specs.Faults.{fine}
+use Rattle.admission.specs.Heads.{headOf}
 use Rattle.lines.specs.Lines.{linesOf}
 use Rattle.obstacles.specs.Obstacles.{lines}
 use Rattle.dodgy_2d.specs.Scenes.{obstaclesFault}
@@ -14,7 +15,7 @@ use Rattle.dodgy_2d.specs.Outcomes.{joined, edgeLines}
 use Rattle.dodgy_2d.specs.Origins.{edgeOrigins}
 use Rattle.dodgy_2d.specs.Read.{wallsIn, counted, none-told}
 use Rattle.dodgy_2d.proofs.HeadsInOrder.{headsFrom, own-fine, own-room, own-there}
-use Rattle.dodgy_2d.proofs.EdgesJoined.{joined-none, edges-on, edges-done}
+use Rattle.dodgy_2d.proofs.EdgesJoined.{joined-none, edges-on, edges-done, part-many, part-lines, part-lefts}
 use Rattle.dodgy_2d.proofs.OriginsNoted.{origins-on, origins-done, walls-told}
 use borrow.Author.Needs.{needs}
 use Rattle.dodgy_2d.proofs.edge_lines.edge_lines.Statement.{statement}
@@ -38,48 +39,102 @@ loop-holds : tie.Need-loop-holds Inv-loop μ-loop
 unfolding linesOf
 loop-holds c = (omega arith, omega arith, omega arith, omega arith, c .before .before .before .pre .1, c .before .before .before .pre .2, sym (joined-none _), c .before .before .before .pre .3, refl)
 
+mul-add-obstacle : tie.Need-mul-add-obstacle Inv-loop μ-loop
+mul-add-obstacle c = omega arith
+
+add-add-obstacle : tie.Need-add-add-obstacle Inv-loop μ-loop
+add-add-obstacle c = omega (arith, c .before .wide .ensures .1)
+
+mul-add-obstacle-2 : tie.Need-mul-add-obstacle-2 Inv-loop μ-loop
+mul-add-obstacle-2 c = omega (arith, c .before .wide .ensures .1)
+
+mul-add-obstacle-3 : tie.Need-mul-add-obstacle-3 Inv-loop μ-loop
+mul-add-obstacle-3 c = omega (arith, c .before .wide .ensures .1)
+
+sub-add-obstacle : tie.Need-sub-add-obstacle Inv-loop μ-loop
+sub-add-obstacle c = omega arith
+
+part-add-obstacle-start : tie.Need-part-add-obstacle-start Inv-loop μ-loop
+part-add-obstacle-start c = omega arith
+
+part-add-obstacle-end : tie.Need-part-add-obstacle-end Inv-loop μ-loop
+part-add-obstacle-end c =
+    let a = c .before .before .before .before .before .before .before .args in
+    let l = c .before .before .before .loop in
+    let own = own-fine (a .t2) (a .t3) (a .n) (l .i) (omega arith) (omega arith) (l .offset) (now (a .vertices)) (omega arith) (l .inv .5) in
+    rw (c .before .wide .ensures .0)
+    (own-there (a .t2) (a .t3) (a .n) (l .i) (omega arith) (omega arith) (l .offset) (now (a .vertices)) (l .inv .3) (own .0))
+
 add-obstacle-requires : tie.Need-add-obstacle-requires Inv-loop μ-loop
 add-obstacle-requires c κs =
-    let a = c .before .before .before .before .before .before .before .before .args in
-    let l = c .before .before .before .before .loop in
+    let start = c .before .before .before .before .before .before .before .before .before .before in
+    let a = start .args in
+    let l = c .before .before .before .before .before .before .loop in
+    let wide = c .before .before .before .before .wide .ensures .0 in
     let own = own-fine (a .t2) (a .t3) (a .n) (l .i) (omega arith) (omega arith) (l .offset) (now (a .vertices)) (omega arith) (l .inv .5) in
-    let room = rw (← c .before .before .wide .ensures .0) at (own-room (a .t2) (a .t3) (a .n) (l .i) (omega arith) (omega arith) (l .offset) (now (a .vertices)) (own .0)) in
-    let there = rw (← c .before .before .wide .ensures .0) at (own-there (a .t2) (a .t3) (a .n) (l .i) (omega arith) (omega arith) (l .offset) (now (a .vertices)) (l .inv .3) (own .0)) in
-    (l .inv .4, room .0, omega (arith, room .1), omega arith, there, omega (arith, c .before .before .before .before .before .before .before .before .pre .0), l .inv .7)
+    let room = own-room (a .t2) (a .t3) (a .n) (l .i) (omega arith) (omega arith) (l .offset) (now (a .vertices)) (own .0) in
+    let there = own-there (a .t2) (a .t3) (a .n) (l .i) (omega arith) (omega arith) (l .offset) (now (a .vertices)) (l .inv .3) (own .0) in
+    let h = headOf (getD (a .t2) (l .i) 0) (getD (a .t3) (l .i) 0) in
+    let many = part-many (a .agent) (a .margin) (a .horizon) (now (a .vertices)) (l .offset) h there in
+    (l .inv .4, l .inv .7, rw (wide, many) (omega (arith, room .1)), omega (arith, start .pre .0))
 
 returns : tie.Need-returns Inv-loop μ-loop
 returns c =
-    let a = c .before .before .before .before .before .before .before .before .before .before .before .before .before .before .before .args in
-    let l = c .before .before .before .before .before .before .before .before .before .before .before .loop in
-    let own = own-fine (a .t2) (a .t3) (a .n) (l .i) (omega arith) (omega arith) (l .offset) (now (a .vertices)) (omega arith) (l .inv .5) in
-    let room = rw (← c .before .before .before .before .before .before .before .before .before .wide .ensures .0) at (own-room (a .t2) (a .t3) (a .n) (l .i) (omega arith) (omega arith) (l .offset) (now (a .vertices)) (own .0)) in
-    let step = rw (c .enum-told .given .1, c .before .before .before .before .before .before .before .before .before .wide .ensures .0) at (c .before .before .before .before .before .before .add-obstacle .ensures .2) in (
-      c .before .before .before .before .before .before .add-obstacle .ensures .0,
-      omega (arith, c .before .before .before .before .before .before .add-obstacle .ensures .1, room .1),
-      rw (c .enum-told .given .1) (sym (l .inv .6 ∙ edges-on (a .agent) (a .margin) (a .horizon) (now (a .vertices)) (a .t2) (a .t3) (a .n) (omega arith) (omega arith) (l .i) (l .offset) (lines (linesOf (take (4 * l .count) (l .numbers)))) _ (omega arith) step)),
+    let call = c .before .before .before .before .before .before in
+    let start = call .before .before .before .before .before .before .before .before .before .before .before in
+    let a = start .args in
+    let kinds : a .n ≤ length (a .t2) = omega (arith, start .pre .0) in
+    let counts : a .n ≤ length (a .t3) = omega (arith, start .pre .0) in
+    let l = call .before .before .before .before .before .before .before .loop in
+    let wide = call .before .before .before .before .before .wide .ensures .0 in
+    let own = own-fine (a .t2) (a .t3) (a .n) (l .i) kinds counts (l .offset) (now (a .vertices)) (omega arith) (l .inv .5) in
+    let room = rw (← wide) at (own-room (a .t2) (a .t3) (a .n) (l .i) kinds counts (l .offset) (now (a .vertices)) (own .0)) in
+    let there = own-there (a .t2) (a .t3) (a .n) (l .i) kinds counts (l .offset) (now (a .vertices)) (l .inv .3) (own .0) in
+    let h = headOf (getD (a .t2) (l .i) 0) (getD (a .t3) (l .i) 0) in
+    let lines-of = part-lines (a .agent) (a .margin) (a .horizon) (now (a .vertices)) (l .offset) h there in
+    let step = rw (c .enum-told .given .1, wide, lines-of) at (call .add-obstacle .ensures .3) in (
+      call .add-obstacle .ensures .0,
+      rw (c .enum-told .given .1) (omega arith),
+      rw (c .enum-told .given .1)
+          (sym (l .inv .6 ∙ edges-on (a .agent) (a .margin) (a .horizon) (now (a .vertices)) (a .t2) (a .t3) (a .n) kinds counts (l .i)
+          (l .offset) (lines (linesOf (take (4 * l .count) (l .numbers)))) _ (omega arith) step)),
       rw (c .enum-told .given .1) none-told,
-      search needs,
+      call .add-obstacle .ensures .1,
     )
 
 loop-again : tie.Need-loop-again Inv-loop μ-loop
 loop-again c =
-    let a = c .before .before .before .before .before .before .before .before .before .before .before .before .before .before .before .before .before .args in
-    let l = c .before .before .before .before .before .before .before .before .before .before .before .before .before .loop in
-    let own = own-fine (a .t2) (a .t3) (a .n) (l .i) (omega arith) (omega arith) (l .offset) (now (a .vertices)) (omega arith) (l .inv .5) in
-    let room = rw (← c .before .before .before .before .before .before .before .before .before .before .before .wide .ensures .0) at (own-room (a .t2) (a .t3) (a .n) (l .i) (omega arith) (omega arith) (l .offset) (now (a .vertices)) (own .0)) in
-    let step = rw (c .before .before .added .given .1, c .before .before .before .before .before .before .before .before .before .before .before .wide .ensures .0) at (c .before .before .before .before .before .before .before .before .add-obstacle .ensures .2) in
-    let noted = rw (c .before .before .before .before .before .before .before .before .before .before .before .wide .ensures .0) at (walls-told (c .before .before .before .before .before .before .before .before .add-obstacle .ensures .3) (c .before .before .added .given .1)) in
-    let there = rw (← c .before .before .before .before .before .before .before .before .before .before .before .wide .ensures .0) at (own-there (a .t2) (a .t3) (a .n) (l .i) (omega arith) (omega arith) (l .offset) (now (a .vertices)) (l .inv .3) (own .0)) in
-    let few = rw (c .before .before .added .given .1) at (c .before .before .before .before .before .before .before .before .add-obstacle .ensures .1) in (
+    let call = c .before .before .before .before .before .before .before .before in
+    let start = call .before .before .before .before .before .before .before .before .before .before .before in
+    let a = start .args in
+    let kinds : a .n ≤ length (a .t2) = omega (arith, start .pre .0) in
+    let counts : a .n ≤ length (a .t3) = omega (arith, start .pre .0) in
+    let l = call .before .before .before .before .before .before .before .loop in
+    let wide = call .before .before .before .before .before .wide .ensures .0 in
+    let own = own-fine (a .t2) (a .t3) (a .n) (l .i) kinds counts (l .offset) (now (a .vertices)) (omega arith) (l .inv .5) in
+    let room = rw (← wide) at (own-room (a .t2) (a .t3) (a .n) (l .i) kinds counts (l .offset) (now (a .vertices)) (own .0)) in
+    let there = own-there (a .t2) (a .t3) (a .n) (l .i) kinds counts (l .offset) (now (a .vertices)) (l .inv .3) (own .0) in
+    let h = headOf (getD (a .t2) (l .i) 0) (getD (a .t3) (l .i) 0) in
+    let added = c .before .before .added .given .1 in
+    let lines-of = part-lines (a .agent) (a .margin) (a .horizon) (now (a .vertices)) (l .offset) h there in
+    let lefts-of = part-lefts (a .agent) (a .margin) (a .horizon) (now (a .vertices)) (l .offset) h there in
+    let many = part-many (a .agent) (a .margin) (a .horizon) (now (a .vertices)) (l .offset) h there in
+    let step = rw (added, wide, lines-of) at (call .add-obstacle .ensures .3) in
+    let noted = rw (wide, lefts-of) at (walls-told (call .add-obstacle .ensures .4) added) in
+    let few = rw (added, wide, many) at (call .add-obstacle .ensures .2) in (
       omega arith,
-      omega (arith, few),
+      omega (arith, few, wide),
       room .1,
-      there,
-      c .before .before .before .before .before .before .before .before .add-obstacle .ensures .0,
-      rw (c .before .before .before .before .before .before .before .before .before .before .before .wide .ensures .0) (own .1),
-      rw (c .before .before .before .before .before .before .before .before .before .before .before .wide .ensures .0) (l .inv .6 ∙ edges-on (a .agent) (a .margin) (a .horizon) (now (a .vertices)) (a .t2) (a .t3) (a .n) (omega arith) (omega arith) (l .i) (l .offset) (lines (linesOf (take (4 * l .count) (l .numbers)))) _ (omega arith) step),
-      search needs,
-      rw (c .before .before .before .before .before .before .before .before .before .before .before .wide .ensures .0) (l .inv .8 ∙ origins-on (a .agent) (a .margin) (a .horizon) (now (a .vertices)) (a .t2) (a .t3) (a .n) (omega arith) (omega arith) (l .i) (l .offset) (wallsIn (l .count) (l .walls)) _ (omega arith) noted),
+      rw wide there,
+      call .add-obstacle .ensures .0,
+      rw wide (own .1),
+      rw wide
+          (l .inv .6 ∙ edges-on (a .agent) (a .margin) (a .horizon) (now (a .vertices)) (a .t2) (a .t3) (a .n) kinds counts (l .i) (l .offset)
+          (lines (linesOf (take (4 * l .count) (l .numbers)))) _ (omega arith) step),
+      call .add-obstacle .ensures .1,
+      rw wide
+          (l .inv .8 ∙ origins-on (a .agent) (a .margin) (a .horizon) (now (a .vertices)) (a .t2) (a .t3) (a .n) kinds counts (l .i)
+          (l .offset) (wallsIn (l .count) (l .walls)) _ (omega arith) noted),
     )
 
 same-length-4 : tie.Need-same-length-4 Inv-loop μ-loop
@@ -98,6 +153,7 @@ returns-2 c =
 
 pub edge-lines-spec : {M : Type 1} → statement M
 edge-lines-spec =
-    tie.close (tie.spec Inv-loop μ-loop loop-holds (λ c. search needs) (λ c. search needs) (λ c κs. search needs) add-obstacle-requires
-    (λ c. search needs) (λ c. search needs) (λ c. search needs) (λ c. search needs) returns (λ c. search needs) (λ c. search needs)
-    (λ c. search needs) loop-again (λ c. search needs) same-length-4 returns-2)
+    tie.close (tie.spec Inv-loop μ-loop loop-holds (λ c. search needs) (λ c. search needs) (λ c κs. search needs) mul-add-obstacle add-add-obstacle
+    mul-add-obstacle-2 mul-add-obstacle-3 sub-add-obstacle part-add-obstacle-start part-add-obstacle-end add-obstacle-requires (λ c. search needs)
+    (λ c. search needs) (λ c. search needs) (λ c. search needs) returns (λ c. search needs) (λ c. search needs) (λ c. search needs) loop-again
+    (λ c. search needs) same-length-4 returns-2)

@@ -4,8 +4,8 @@ use Rattle.obstacles.proofs.obstacle.refused.Statement.{statement}
 use Rattle.obstacles.proofs.obstacle.refused.Tie as tie
 
 returns : tie.Need-returns
-returns c = simp (← c .blank-edges .ensures, ← c .before .blank .ensures)
+returns c = simp (← c .blank .ensures)
 
 pub refused-spec : {M : Type 1} → statement M
 refused-spec =
-    tie.close (tie.spec (λ c κs. search needs) (λ c κs. search needs) returns)
+    tie.close (tie.spec (λ c κs. search needs) returns)
