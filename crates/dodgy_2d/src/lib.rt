@@ -7,7 +7,7 @@ use lines::Origin;
 ghost use mathlib.Core.Path.{_≡_};
 ghost use Rattle.dodgy_2d.specs.Outcomes.{sceneOutcome};
 ghost use Rattle.dodgy_2d.specs.Origins.{sceneOrigin};
-ghost use Rattle.dodgy_2d.specs.Read.{outcomeOf, originOf};
+ghost use Rattle.dodgy_2d.specs.Read.{originOf, sceneAnswerAs};
 
 mod edge_lines;
 mod judge;
@@ -64,8 +64,7 @@ impl SceneAnswer {
 // again for a cart at rest: 3 and 4, and 5 where that fails too, whose point is taken. Refused: the scene's first fault in the order of its fields
 // (6, 4, 3, 5, 7), an edge line that is not admitted (9). The solves' own 8 and 9 are never told of a scene (proofs/SceneTold.antt).
 pub fn compute_avoiding_velocity(scene: Scene) -> SceneAnswer
-    ensures { λ r. ⌜ outcomeOf r ≡ sceneOutcome scene ⌝ }
-    ensures { λ r. ⌜ originOf r ≡ sceneOrigin scene ⌝ }
+    ensures { λ r. ⌜ r ≡ sceneAnswerAs (sceneOutcome scene) (sceneOrigin scene) ⌝ }
 {
     let judged = judge::judge_scene(scene);
     if let Judged::Fault(number) = judged {

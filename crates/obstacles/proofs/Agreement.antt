@@ -1,5 +1,6 @@
 -- Two answers that one promise allows are the same: what they say can be turned back. Assumes nothing.
-use mathlib.Core.Path.{_≡_, refl, sym, ap, _∙_}
+use mathlib.Core.Path.{_≡_, refl}
+use Rattle.arithmetic.proofs.Agree.{agree-read}
 use Rattle.obstacles.specs.declared.AdmittedLine.{AdmittedLine}
 use Rattle.obstacles.specs.declared.AdmittedLine.the-variants as admitted-line
 use Rattle.obstacles.specs.Obstacles.{Admitted}
@@ -10,5 +11,5 @@ admitted-back (admitted-line.Kept l) = refl
 admitted-back admitted-line.Nothing = refl
 admitted-back (admitted-line.Refused r) = refl
 
-pub lines-agree : {one other : AdmittedLine} {promised : Admitted} → admittedOf one ≡ promised → admittedOf other ≡ promised → one ≡ other
-lines-agree {one} {other} e f = sym (admitted-back one) ∙ ap admittedAs (e ∙ sym f) ∙ admitted-back other
+pub admitted-agree : {one other : AdmittedLine} {promised : Admitted} → admittedOf one ≡ promised → admittedOf other ≡ promised → one ≡ other
+admitted-agree = agree-read admittedOf admittedAs admitted-back
