@@ -1,2 +1,3 @@
 -- The definitions that the contracts of `kept` cite.
 pub mod Kept
+pub mod Walks

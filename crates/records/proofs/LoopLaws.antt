@@ -48,13 +48,13 @@ module _ (n : ℕ) (r out : List ℕ) (h : n + length r ≤ length out) where
   front : length (take n out ++ r) ≡ n + length r
   front = rw (length-append, length-take-le n out (omega arith))
 
-  put-sized : length (putAt n r out .contents) ≡ length out
+  pub put-sized : length (putAt n r out .contents) ≡ length out
   put-sized = rw (length-append, front, length-drop) (omega arith)
 
-  put-front : take (n + length r) (putAt n r out .contents) ≡ take n out ++ r
+  pub put-front : take (n + length r) (putAt n r out .contents) ≡ take n out ++ r
   put-front = take-at (take n out ++ r) (drop (n + length r) out) (n + length r) front
 
-  put-behind : drop (n + length r) (putAt n r out .contents) ≡ drop (n + length r) out
+  pub put-behind : drop (n + length r) (putAt n r out .contents) ≡ drop (n + length r) out
   put-behind = drop-at (take n out ++ r) (drop (n + length r) out) (n + length r) front
 
 module _ (s out : List ℕ) (p : Place) (room : longestAnswer ≤ length out - p .put) (ahead : p .used ≤ length s) where
@@ -119,7 +119,7 @@ does s out p h =
 
 -- ---- the end of the loop
 
-drop-more : (m n : ℕ) (a b : List ℕ) → m ≤ n → drop m a ≡ drop m b → drop n a ≡ drop n b
+pub drop-more : (m n : ℕ) (a b : List ℕ) → m ≤ n → drop m a ≡ drop m b → drop n a ≡ drop n b
 drop-more m n a b h e =
     let all : m + (n - m) ≡ n = omega arith in
     rw all at (sym (drop-drop (n - m) m a) ∙ ap (drop (n - m)) e ∙ drop-drop (n - m) m b)

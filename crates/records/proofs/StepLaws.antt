@@ -23,10 +23,10 @@ use Rattle.records.proofs.PartLaws.{Lies, lies, skip-lies, hold-lies}
 
 -- ---- parts of lists
 
-rest-of : (n : ℕ) (l : List ℕ) → take (length l - n) (drop n l) ≡ drop n l
+pub rest-of : (n : ℕ) (l : List ℕ) → take (length l - n) (drop n l) ≡ drop n l
 rest-of n l = take-all (length l - n) (drop n l) (rw length-drop (omega arith))
 
-put-in-part : (n : ℕ) (bytes out part : List ℕ) → n ≤ length out → part ≡ bytes ++ drop (length bytes) (drop n out) →
+pub put-in-part : (n : ℕ) (bytes out part : List ℕ) → n ≤ length out → part ≡ bytes ++ drop (length bytes) (drop n out) →
     putMid n (length out - n) out part ≡ take n out ++ bytes ++ drop (n + length bytes) out
 put-in-part n bytes out part h e =
     let short : length (drop n out) ≤ length out - n = rw length-drop (omega arith) in

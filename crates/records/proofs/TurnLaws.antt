@@ -43,7 +43,7 @@ turned-on kept skip [] h = absurd (omega arith)
 turned-on kept skip (b ∷ read) h = refl
 
 -- what lies from a place on up to another
-part-left : (m n : ℕ) (l : List ℕ) → m + n ≤ length l → drop m (take (m + n) l) ≡ take n (drop m l)
+pub part-left : (m n : ℕ) (l : List ℕ) → m + n ≤ length l → drop m (take (m + n) l) ≡ take n (drop m l)
 part-left m n l h = rw (take-add m n l) (drop-at (take m l) (take n (drop m l)) m (length-take-le m l (omega arith)))
 
 -- ---- the turn
@@ -149,7 +149,7 @@ module _ (input output held out : List ℕ) (before t : Stream) (read : ℕ) (e 
 
 -- ---- a turn of a program
 
-mid-length : (n : ℕ) (l : List ℕ) → length (midOf n (length l - n) l) ≡ length l - n
+pub mid-length : (n : ℕ) (l : List ℕ) → length (midOf n (length l - n) l) ≡ length l - n
 mid-length n l = length-take-le (length l - n) (drop n l) (rw length-drop (omega arith))
 
 pub lent-parts : (l : Turned) (input output held out : List ℕ) (t : Stream) → lent t held out ≡ lentBy l input output →

@@ -5,6 +5,7 @@ use scene_records::NumberedScene;
 ghost use mathlib.Core.Path.{_≡_};
 ghost use Rattle.answer_records.specs.Answers.{writtenOf};
 ghost use Rattle.records.specs.Answered.{answerTo};
+ghost use Rattle.records.specs.Parts.{partOf, partIn};
 ghost use Rattle.records.specs.Turns.{lent, turnOver};
 
 mod flow;
@@ -56,7 +57,7 @@ pub(crate) struct Place {
 
 // What stands next in a stream: bytes of an overlong record to be skipped; the length that an overlong record names; a whole
 // record, by the count of its bytes; or nothing whole.
-pub(crate) enum Part {
+pub enum Part {
     Skipped(usize),
     Overlong(usize),
     Whole(usize),
@@ -85,6 +86,27 @@ pub fn answer_record(bytes: &[u8], buffer: &mut [u8]) -> Judged
     let scene = read.scene;
     let answer = dodgy_2d::compute_avoiding_velocity(scene);
     outcome::write_outcome(answer, buffer)
+}
+
+// The next part of what is left of a stream, with so many bytes still to be skipped. A record is overlong by its length field, as soon
+// as that is there; whole where all its bytes are.
+pub fn next_part(rest: &[u8], skip: usize) -> Part
+    ensures { λ r. ⌜ partOf r ≡ partIn skip (now (rest .entry)) ⌝ }
+{
+    if skip > 0 {
+        return parts::skipped(rest.len(), skip);
+    }
+    if rest.len() < 2 {
+        return Part::Cut;
+    }
+    let length = words::pair_at(rest, 0) as usize;
+    if length > NumberedScene::LONGEST_REST {
+        return Part::Overlong(length);
+    }
+    if rest.len() < 2 + length {
+        return Part::Cut;
+    }
+    Part::Whole(2 + length)
 }
 
 // One turn of a program that reads scene records and writes answers. At the input's start wait the bytes that the turn before kept,

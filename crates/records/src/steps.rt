@@ -3,7 +3,7 @@ use crate::Part;
 use crate::Place;
 use crate::Step;
 use crate::answer_record;
-use crate::parts::next_part;
+use crate::next_part;
 use admission::Judged;
 use answer_records::Answer;
 ghost use mathlib.Core.Path.{_≡_};

@@ -150,7 +150,7 @@ module _ (v w : Version) (p : SceneParts) where
 
 -- ---- the moves
 
-moved-taken : {C : Type 0} (s : List ℕ) (v w : Version) (t : List ℕ) (m : ℕ) → moved v w s ≡ got t m
+pub moved-taken : {C : Type 0} (s : List ℕ) (v w : Version) (t : List ℕ) (m : ℕ) → moved v w s ≡ got t m
     → ((p : SceneParts) → partsIn v s ≡ got p m → keeps w p ≡ true → movedBytes v w (length (p .neighbours)) s ≡ t → C) → C
 unfolding moved
 moved-taken s v w t m e next =

@@ -1,10 +1,10 @@
--- `records::parts::next_part` meets its contract. Assumes nothing.
+-- `records::next_part` meets its contract. Assumes nothing.
 use borrow.Author.Needs.{needs}
 use borrow.Author.Tests.{lt-ltb, le-ltb}
 use Rattle.arithmetic.specs.Binary32.{if_then_else_}
 use Rattle.records.specs.Parts.{partIn}
-use Rattle.records.proofs.parts.next_part.Statement.{statement}
-use Rattle.records.proofs.parts.next_part.Tie as tie
+use Rattle.records.proofs.next_part.Statement.{statement}
+use Rattle.records.proofs.next_part.Tie as tie
 
 returns : tie.Need-returns
 unfolding partIn if_then_else_

@@ -1,0 +1,2 @@
+-- The definitions that the contracts of `convert` cite.
+pub mod Turns
