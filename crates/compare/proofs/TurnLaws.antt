@@ -30,9 +30,6 @@ use Rattle.compare.specs.Turns.{keptIn, beginning, counted, Advances, Re
 
 -- ---- what is left of a side
 
-part-left : (m n : ℕ) (l : List ℕ) → m + n ≤ length l → drop m (take (m + n) l) ≡ take n (drop m l)
-part-left m n l h = rw (take-add m n l) (drop-at (take m l) (take n (drop m l)) m (length-take-le m l (omega arith)))
-
 module _ (from end count : ℕ) (l out : List ℕ) (within : from ≤ end) (fits : end ≤ length l) (e : kept count out ≡ keptOver from end l) where
   moved : kept count out ≡ kept (end - from) (shifted from (end - from) l)
   moved = e ∙ kept-there from end l within fits
@@ -45,7 +42,7 @@ module _ (from end count : ℕ) (l out : List ℕ) (within : from ≤ end) (fits
       let n : count ≡ end - from = ap (λ (m : Moved). m .count) moved in
       let sum : from + (end - from) ≡ end = omega arith in
       rw (ap (λ (m : Moved). m .contents) moved, n) (take-at (take (end - from) (drop from l)) (drop (end - from) l) (end - from) there)
-      ∙ sym (ap (λ (m : ℕ). drop from (take m l)) (sym sum) ∙ part-left from (end - from) l (omega arith))
+      ∙ sym (ap (λ (m : ℕ). drop from (take m l)) (sym sum) ∙ turns.part-left from (end - from) l (omega arith))
 
   left-fits : length out ≡ length l → count ≤ length out
   left-fits same = omega (arith, ap (λ (m : Moved). m .count) moved)
@@ -95,9 +92,6 @@ take-put w n l part h k =
     take-add w n (putMid w (length l - w) l part)
     ∙ rw (kept-stays w l part h, drop-at (take w l) (part ++ postOf w (length l - w) l) w (length-take-le w l h), take-append-le n part (postOf w (length l - w) l) k)
 
-pub mid-length : (n : ℕ) (l : List ℕ) → length (midOf n (length l - n) l) ≡ length l - n
-mid-length n l = length-take-le (length l - n) (drop n l) (rw length-drop (omega arith))
-
 module _ (before : Reading) (input ours theirs part : List ℕ) (brought : ℕ) (ready : Ready (length input) (length ours) (length theirs) before)
     (wanted : wants (before .ours) (before .stream .more) ≡ true) (sized : length part ≡ length (midOf (before .stream .kept) (length input - before .stream .kept) input)) (few : brought ≤ length part) where
   -- what the input holds when something was read behind what is kept, and where our answers go
@@ -122,8 +116,8 @@ module _ (before : Reading) (input ours theirs part : List ℕ) (brought : ℕ) 
   unfolding hasRoomFor
   room =
       let size : length filled ≡ length input = same-len-mid (before .stream .kept) (length input - before .stream .kept) input part sized in
-      let space : length rest ≡ length ours - before .ours = mid-length (before .ours) ours in
-      let lies : before .stream .kept + brought ≤ length input = omega (arith, ready .few, ready .long, sized ∙ mid-length (before .stream .kept) input) in
+      let space : length rest ≡ length ours - before .ours = turns.mid-length (before .ours) ours in
+      let lies : before .stream .kept + brought ≤ length input = omega (arith, ready .few, ready .long, sized ∙ turns.mid-length (before .stream .kept) input) in
       rw (size, space, le-leb (2 * length input + longestAnswer) (length ours - before .ours) (omega (arith, ready .room, short)), le-leb (before .stream .kept + brought) (length input) lies) refl
 
   module _ (next : Stream) (held out : List ℕ) (e : lent next held out ≡ turnOver filled rest (before .stream) brought) where
@@ -156,7 +150,7 @@ module _ (before : Reading) (input ours theirs part : List ℕ) (brought : ℕ) 
       answered-length = same-len-mid (before .ours) (length ours - before .ours) ours out spare
 
       pub mine-fits : before .ours + next .put ≤ length answered
-      mine-fits = omega (arith, put-fits, spare, mid-length (before .ours) ours, answered-length, ready .ours-fit)
+      mine-fits = omega (arith, put-fits, spare, turns.mid-length (before .ours) ours, answered-length, ready .ours-fit)
 
       pub held-length : length held ≡ length filled → length held ≡ length input
       held-length x = x ∙ same-len-mid (before .stream .kept) (length input - before .stream .kept) input part sized
@@ -189,7 +183,7 @@ module _ (before : Reading) (input ours theirs part : List ℕ) (brought : ℕ) 
 
   pub other-fits : length part ≡ length (midOf (before .theirs) (length theirs - before .theirs) theirs) → before .theirs + brought ≤ length filled-theirs
   other-fits sized =
-      omega (arith, few, sized, mid-length (before .theirs) theirs, same-len-mid (before .theirs) (length theirs - before .theirs) theirs part sized, ready .theirs-fit)
+      omega (arith, few, sized, turns.mid-length (before .theirs) theirs, same-len-mid (before .theirs) (length theirs - before .theirs) theirs part sized, ready .theirs-fit)
 
   module _ (r : Reading) (o t : List ℕ) (a : Advances heard (before .ours) ours (before .theirs + brought) filled-theirs r o t) where
     pub answers-follow : Follows before input ours theirs r input o t

@@ -6,8 +6,9 @@ use mathlib.Core.Path.{refl}
 use lib.ListN.{length}
 use denote.Ref.{now}
 use borrow.Rule.Slice.PartMut.{same-len-mid}
+use Rattle.records.proofs.TurnLaws.{mid-length}
 use Rattle.compare.specs.Turns.{answers-failed}
-use Rattle.compare.proofs.TurnLaws.{mid-length, other-fits, answers-follow, answers-ready, stays-ready}
+use Rattle.compare.proofs.TurnLaws.{other-fits, answers-follow, answers-ready, stays-ready}
 use Rattle.compare.proofs.answers_turn.Statement.{statement}
 use Rattle.compare.proofs.answers_turn.Tie as tie
 

@@ -6,8 +6,9 @@ use mathlib.Core.Path.{refl}
 use lib.ListN.{length}
 use denote.Ref.{now}
 use borrow.Rule.Slice.PartMut.{same-len-mid}
+use Rattle.records.proofs.TurnLaws.{mid-length}
 use Rattle.compare.specs.Turns.{scenes-failed}
-use Rattle.compare.proofs.TurnLaws.{put-fits, mid-length, mine-fits, held-length, scenes-follow, scenes-ready, stays-ready}
+use Rattle.compare.proofs.TurnLaws.{put-fits, mine-fits, held-length, scenes-follow, scenes-ready, stays-ready}
 use Rattle.compare.proofs.scenes_turn.Statement.{statement}
 use Rattle.compare.proofs.scenes_turn.Tie as tie
 
