@@ -3,6 +3,7 @@
 mod agree;
 mod bad_records;
 mod builds;
+mod calls;
 mod checks;
 mod common_vectors;
 mod coverage_table;

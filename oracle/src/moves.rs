@@ -5,7 +5,8 @@
 
 use std::fs;
 
-use crate::coverage_table::{self, Column};
+use crate::calls::{self, Call, SENTINEL};
+use crate::coverage_table::Column;
 use crate::random::Random;
 use crate::records::{
     numbered_record, reader, scene_record, with_length, Records, LONGEST_NUMBERED, LONGEST_REST,
@@ -17,19 +18,17 @@ use crate::words::hex_bytes;
 
 const SEED: u64 = 0x6D6F_7665_7300;
 const DRAWN: usize = 300;
-const SENTINEL: u8 = 0xA5;
 const REFUSED: u16 = 0xFF00;
 /// The longest buffer that is lent here.
 const MOST_ROOM: usize = 4_000;
 
-struct Call {
+struct Move {
     to: u8,
     room: usize,
     record: Vec<u8>,
 }
 
-/// What a call shows, and what it is told: the length, or the number of the refusal.
-type Shown = (&'static str, Call, Result<usize, u32>);
+type Shown = calls::Shown<Move>;
 
 const COLUMNS: [Column<Shown>; 11] = [
     ("in all", |_| true),
@@ -47,42 +46,12 @@ const COLUMNS: [Column<Shown>; 11] = [
 
 /// The same bytes at each call.
 pub fn set() -> Result<Set, String> {
-    let mut shown = Vec::new();
-    for (row, call, told) in named() {
-        if call.told() != told {
-            let record = hex_bytes(&call.record);
-            return Err(format!("{row}: {:?}, not {told:?}: {record}", call.told()));
-        }
-        shown.push((row, call, told));
-    }
-    let mut random = Random::new(SEED);
-    for _ in 0..DRAWN {
-        let call = drawn(&mut random);
-        let told = call.told();
-        shown.push(("drawn, with up to three faults", call, told));
-    }
-    if let Some((missing, _)) = COLUMNS.iter().find(|(_, kind)| !shown.iter().any(kind)) {
-        return Err(format!("no moves that {missing}"));
-    }
-    let mut rows: Vec<(&str, &str)> = shown.iter().map(|(row, ..)| (*row, *row)).collect();
-    rows.dedup();
-    let table = coverage_table::of(&shown, ("Moves", &COLUMNS), &rows, |row, shown| {
-        *row == shown.0
-    })?;
-    Ok(Set {
-        records: shown.iter().flat_map(|(_, call, _)| call.bytes()).collect(),
-        answers: shown
-            .iter()
-            .flat_map(|(_, call, _)| call.answer())
-            .collect(),
-        table,
-    })
+    calls::set(("Moves", &COLUMNS), named(), (SEED, DRAWN))
 }
 
 /// A drawn call, and its answer.
 pub fn at_scale(random: &mut Random) -> Result<Parts, String> {
-    let call = drawn(random);
-    Ok(vec![call.bytes(), call.answer()])
+    calls::at_scale::<Move>(random)
 }
 
 /// Every record of a stream that can be moved, there and back: both calls, and the answers. Back must be the record itself.
@@ -101,7 +70,7 @@ pub fn moved_again(file: &str) -> Result<Set, String> {
                 (to, there.len(), record),
                 (other(to), record.len(), &there[..]),
             ] {
-                let call = Call {
+                let call = Move {
                     to,
                     room,
                     record: record.to_vec(),
@@ -134,7 +103,7 @@ fn moved(to: u8, record: &[u8]) -> Result<Vec<u8>, u32> {
     Ok(scene_record(&read.scene))
 }
 
-impl Call {
+impl Call for Move {
     fn told(&self) -> Result<usize, u32> {
         let length = moved(self.to, &self.record)?.len();
         reader::must(length <= self.room, 10)?;
@@ -164,34 +133,34 @@ impl Call {
         };
         [&told.to_be_bytes()[..], &buffer].concat()
     }
-}
 
-/// A scene's record of either version, sometimes with faults, and a buffer about as long as the moved record.
-fn drawn(random: &mut Random) -> Call {
-    let to = random.pick(&[VERSION, NUMBERED]);
-    let from = if random.one_in(12) { to } else { other(to) };
-    let record = match (from, random.one_in(4)) {
-        (VERSION, false) => scene_record(&scene_vectors::drawn(random)),
-        (VERSION, true) => scene_vectors::spoiled(random),
-        (_, false) => {
-            let scene = scene_vectors::drawn(random);
-            let zeros = vec![0; scene.lines.len()];
-            let any = scene_vectors::drawn_numbers(random, &scene);
-            numbered_record(&scene, if random.one_in(3) { &any } else { &zeros })
+    /// A scene's record of either version, sometimes with faults, and a buffer about as long as the moved record.
+    fn drawn(random: &mut Random) -> Move {
+        let to = random.pick(&[VERSION, NUMBERED]);
+        let from = if random.one_in(12) { to } else { other(to) };
+        let record = match (from, random.one_in(4)) {
+            (VERSION, false) => scene_record(&scene_vectors::drawn(random)),
+            (VERSION, true) => scene_vectors::spoiled(random),
+            (_, false) => {
+                let scene = scene_vectors::drawn(random);
+                let zeros = vec![0; scene.lines.len()];
+                let any = scene_vectors::drawn_numbers(random, &scene);
+                numbered_record(&scene, if random.one_in(3) { &any } else { &zeros })
+            }
+            (_, true) => scene_vectors::spoiled_numbered(random),
+        };
+        let length = moved(to, &record).map_or(record.len(), |moved| moved.len());
+        let room = match random.below(4) {
+            0 => length,
+            1 => length + 1 + random.below(20),
+            2 => length - 1,
+            _ => random.below(length),
+        };
+        Move {
+            to,
+            room: room.min(MOST_ROOM),
+            record,
         }
-        (_, true) => scene_vectors::spoiled_numbered(random),
-    };
-    let length = moved(to, &record).map_or(record.len(), |moved| moved.len());
-    let room = match random.below(4) {
-        0 => length,
-        1 => length + 1 + random.below(20),
-        2 => length - 1,
-        _ => random.below(length),
-    };
-    Call {
-        to,
-        room: room.min(MOST_ROOM),
-        record,
     }
 }
 
@@ -213,7 +182,7 @@ fn named() -> Vec<Shown> {
         with_length(rest)
     };
     let nan = with_length([&[NUMBERED, 0x7F, 0xC0][..], &[0; 36]].concat());
-    let call = |row, to, room, record: Vec<u8>, told| (row, Call { to, room, record }, told);
+    let call = |row, to, room, record: Vec<u8>, told| (row, Move { to, room, record }, told);
     let mut calls = vec![
         call("no neighbour", 2, 41, none(1), Ok(41)),
         call("no neighbour", 1, 41, none(2), Ok(41)),

@@ -1,14 +1,14 @@
 //! Scenes of the kinds that the scene vectors are made of, lent with up to three faults: numbers out of range, counts one more or less than what is lent,
 //! parts cut or with more behind them; and buffers that just fit, or not.
 
-use super::Call;
+use super::Writing;
 use crate::lent::{self, beside, replace, resize};
 use crate::list_vectors::judge::{LINE_REACH, LONGEST, REACH};
 use crate::list_vectors::refused::too_large;
 use crate::random::Random;
 use crate::scene_vectors;
 
-type Spoil = fn(&mut Random, &mut Call);
+type Spoil = fn(&mut Random, &mut Writing);
 
 const SPOILS: [Spoil; 12] = [
     cart_number,
@@ -25,8 +25,8 @@ const SPOILS: [Spoil; 12] = [
     lines_lent,
 ];
 
-pub fn call(random: &mut Random) -> Call {
-    let mut call = Call::fitting(&scene_vectors::drawn(random));
+pub fn call(random: &mut Random) -> Writing {
+    let mut call = Writing::fitting(&scene_vectors::drawn(random));
     for _ in 0..random.below(4) {
         let spoil = random.pick(&SPOILS);
         spoil(random, &mut call);
@@ -40,7 +40,7 @@ pub fn call(random: &mut Random) -> Call {
     call
 }
 
-fn cart_number(random: &mut Random, call: &mut Call) {
+fn cart_number(random: &mut Random, call: &mut Writing) {
     let place = random.below(9);
     let most = if [4, 5, 8].contains(&place) {
         LONGEST
@@ -50,21 +50,21 @@ fn cart_number(random: &mut Random, call: &mut Call) {
     call.cart[place] = too_large(random, most);
 }
 
-fn line_number(random: &mut Random, call: &mut Call) {
+fn line_number(random: &mut Random, call: &mut Writing) {
     let number = too_large(random, LINE_REACH);
     replace(random, &mut call.lines, number);
 }
 
 /// A component of any place, so that a direction mostly leaves its band.
-fn line_band(random: &mut Random, call: &mut Call) {
+fn line_band(random: &mut Random, call: &mut Writing) {
     let number = random.within(2.0);
     replace(random, &mut call.lines, number);
 }
 
-fn neighbour_count(random: &mut Random, call: &mut Call) {
+fn neighbour_count(random: &mut Random, call: &mut Writing) {
     call.neighbours = beside(random, call.neighbours);
 }
 
-fn lines_lent(random: &mut Random, call: &mut Call) {
+fn lines_lent(random: &mut Random, call: &mut Writing) {
     resize(random, &mut call.lines, 8, 1.0);
 }

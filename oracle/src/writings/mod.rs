@@ -9,7 +9,8 @@ mod writer;
 
 use std::fs;
 
-use crate::coverage_table::{self, Column};
+use crate::calls::{self, Call, SENTINEL};
+use crate::coverage_table::Column;
 use crate::lent::Lent;
 use crate::random::Random;
 use crate::records::{reader, scene_record, Records};
@@ -20,11 +21,10 @@ use crate::words::{hex_bytes, Words};
 
 const SEED: u64 = 0x7772_6974_6573;
 const DRAWN: usize = 1_000;
-const SENTINEL: u8 = 0xA5;
 
 /// What is lent to the writer. The counts are arguments of their own and may say something else.
 #[derive(Clone)]
-pub struct Call {
+pub struct Writing {
     pub cart: [f32; 9],
     pub lent: Lent,
     pub neighbours: u32,
@@ -32,8 +32,7 @@ pub struct Call {
     pub buffer: usize,
 }
 
-/// What a call shows, and what the writer tells: the length, or the number of the refusal.
-type Shown = (&'static str, Call, Result<usize, u32>);
+type Shown = calls::Shown<Writing>;
 
 const COLUMNS: [Column<Shown>; 9] = [
     ("in all", |_| true),
@@ -49,51 +48,13 @@ const COLUMNS: [Column<Shown>; 9] = [
 
 /// The same bytes at each call.
 pub fn set() -> Result<Set, String> {
-    let mut shown = Vec::new();
-    for (row, call, told) in named::calls() {
-        if call.told() != told {
-            return Err(format!(
-                "{row}: {:?}, not {told:?}: {}",
-                call.told(),
-                hex_bytes(&call.record())
-            ));
-        }
-        shown.push((row, call, told));
-    }
-    let mut random = Random::new(SEED);
-    for _ in 0..DRAWN {
-        let call = drawn::call(&mut random);
-        let told = call.told();
-        shown.push(("drawn, with up to three faults", call, told));
-    }
-    if let Some((missing, _)) = COLUMNS.iter().find(|(_, kind)| !shown.iter().any(kind)) {
-        return Err(format!("no calls that {missing}"));
-    }
-    let mut rows: Vec<(&str, &str)> = shown.iter().map(|(row, ..)| (*row, *row)).collect();
-    rows.dedup();
-    let table = coverage_table::of(
-        &shown,
-        ("Calls of the writer", &COLUMNS),
-        &rows,
-        |row, shown| *row == shown.0,
-    )?;
-    Ok(Set {
-        records: shown
-            .iter()
-            .flat_map(|(_, call, _)| call.record())
-            .collect(),
-        answers: shown
-            .iter()
-            .flat_map(|(_, call, _)| call.answer())
-            .collect(),
-        table,
-    })
+    let what = ("Calls of the writer", &COLUMNS[..]);
+    calls::set(what, named::calls(), (SEED, DRAWN))
 }
 
 /// A drawn call, and its answer.
 pub fn at_scale(random: &mut Random) -> Result<Parts, String> {
-    let call = drawn::call(random);
-    Ok(vec![call.record(), call.answer()])
+    calls::at_scale::<Writing>(random)
 }
 
 /// Every version 1 record of a stream that is accepted must be written again to its bytes; the line that tells how many there were.
@@ -104,7 +65,7 @@ pub fn written_again(file: &str) -> Result<(), String> {
         let Ok(scene) = reader::read_version_1(record) else {
             continue;
         };
-        let call = Call::of(&scene, record.len());
+        let call = Writing::of(&scene, record.len());
         let mut buffer = call.sentinels();
         if writer::write(&call, &mut buffer) != Ok(record.len()) || buffer != record {
             return Err(format!("not written again: {}", hex_bytes(record)));
@@ -115,15 +76,15 @@ pub fn written_again(file: &str) -> Result<(), String> {
     Ok(())
 }
 
-impl Call {
+impl Writing {
     /// All parts of a scene, and a buffer of this length.
-    pub fn of(scene: &Scene, buffer: usize) -> Call {
+    pub fn of(scene: &Scene, buffer: usize) -> Writing {
         let [p, v, w] = [scene.position, scene.velocity, scene.wish];
         let lines = scene
             .lines
             .iter()
             .flat_map(|(point, direction)| [point, direction]);
-        Call {
+        Writing {
             cart: [
                 p.x,
                 p.y,
@@ -143,19 +104,21 @@ impl Call {
     }
 
     /// As long as the scene's record.
-    pub fn fitting(scene: &Scene) -> Call {
-        Call::of(scene, scene_record(scene).len())
+    pub fn fitting(scene: &Scene) -> Writing {
+        Writing::of(scene, scene_record(scene).len())
     }
 
     fn sentinels(&self) -> Vec<u8> {
         vec![SENTINEL; self.buffer]
     }
+}
 
-    pub fn told(&self) -> Result<usize, u32> {
+impl Call for Writing {
+    fn told(&self) -> Result<usize, u32> {
         writer::write(self, &mut self.sentinels())
     }
 
-    fn record(&self) -> Vec<u8> {
+    fn bytes(&self) -> Vec<u8> {
         let mut words = Words::new();
         self.cart.iter().for_each(|number| words.bits(*number));
         let lent = &self.lent;
@@ -187,5 +150,9 @@ impl Call {
             Err(number) => (number as u16, 0),
         };
         [&number.to_be_bytes()[..], &length.to_be_bytes(), &buffer].concat()
+    }
+
+    fn drawn(random: &mut Random) -> Writing {
+        drawn::call(random)
     }
 }

@@ -1,7 +1,7 @@
 //! Calls by hand, each with what the writer must tell (02, T-01): where the order of faults shows, each count one more and one less than what is lent, and
 //! buffers of every length.
 
-use super::{Call, Shown};
+use super::{Writing, Shown};
 use crate::lent::Lent;
 
 const NAN: f32 = f32::NAN;
@@ -23,8 +23,8 @@ pub fn calls() -> Vec<Shown> {
 }
 
 /// The cart of docs/RECORDS.md, no obstacle, no neighbour: 41 bytes.
-fn smallest() -> Call {
-    Call {
+fn smallest() -> Writing {
+    Writing {
         cart: [0.0, 0.0, 0.0, 0.0, 0.0, 1.0, 0.0, 0.0, 0.0],
         lent: Lent::of(&[]),
         neighbours: 0,
@@ -34,29 +34,29 @@ fn smallest() -> Call {
 }
 
 /// The call with something else lent of obstacles.
-fn lending(call: &Call, change: impl FnOnce(&mut Lent)) -> Call {
+fn lending(call: &Writing, change: impl FnOnce(&mut Lent)) -> Writing {
     let mut call = call.clone();
     change(&mut call.lent);
     call
 }
 
 /// With an open wall of two vertices, whose numbers are these.
-fn wall(vertices: &[f32]) -> Call {
+fn wall(vertices: &[f32]) -> Writing {
     lending(&walled(1, &[OPEN], &[2]), |lent| {
         lent.vertices = vertices.to_vec()
     })
 }
 
-fn with_line(call: Call, lines: &[f32]) -> Call {
-    Call {
+fn with_line(call: Writing, lines: &[f32]) -> Writing {
+    Writing {
         neighbours: 1,
         lines: lines.to_vec(),
         ..call
     }
 }
 
-fn walled(obstacles: u32, kinds: &[u8], counts: &[u8]) -> Call {
-    Call {
+fn walled(obstacles: u32, kinds: &[u8], counts: &[u8]) -> Writing {
+    Writing {
         lent: Lent {
             obstacles,
             kinds: kinds.to_vec(),
@@ -68,8 +68,8 @@ fn walled(obstacles: u32, kinds: &[u8], counts: &[u8]) -> Call {
 }
 
 /// 01's whole example: 59 bytes.
-fn example() -> Call {
-    Call {
+fn example() -> Writing {
+    Writing {
         cart: [0.0, 0.0, 0.0, 0.0, 0.5, 1.0, 0.0, 1.0, 2.0],
         buffer: 59,
         ..wall(&[-1.0, 1.0, 1.0, 1.0])
@@ -77,11 +77,11 @@ fn example() -> Call {
 }
 
 /// Two obstacles and two neighbours: 133 bytes.
-fn full() -> Call {
+fn full() -> Writing {
     let walls = lending(&walled(2, &[1, 2], &[3, 4]), |lent| {
         lent.vertices = (0..14).map(|place| place as f32).collect()
     });
-    Call {
+    Writing {
         neighbours: 2,
         lines: vec![0.0, 1.0, 1.0, 0.0, 0.0, -1.0, -1.0, 0.0],
         buffer: 140,
@@ -98,7 +98,7 @@ fn fewer() -> Vec<Shown> {
         (row, wall(&[]), Err(2)),
         (
             row,
-            Call {
+            Writing {
                 neighbours: 65,
                 ..wall(&[0.0])
             },
@@ -116,16 +116,16 @@ fn more() -> Vec<Shown> {
         (row, with_line(over.clone(), &[0.0, 1.0, 1.0, 0.0]), Err(2)),
         (
             row,
-            Call {
+            Writing {
                 neighbours: 65,
                 ..over.clone()
             },
             Err(4),
         ),
-        (row, Call { buffer: 0, ..over }, Err(2)),
+        (row, Writing { buffer: 0, ..over }, Err(2)),
         (
             row,
-            Call {
+            Writing {
                 lines: vec![0.0],
                 ..smallest()
             },
@@ -165,7 +165,7 @@ fn cart_numbers() -> Vec<Shown> {
     let mut shown = vec![
         (
             row,
-            Call {
+            Writing {
                 cart: [-0.0; 9],
                 ..smallest()
             },
@@ -173,7 +173,7 @@ fn cart_numbers() -> Vec<Shown> {
         ),
         (
             row,
-            Call {
+            Writing {
                 buffer: 0,
                 ..with_number(0, NAN)
             },
@@ -196,7 +196,7 @@ fn cart_numbers() -> Vec<Shown> {
     shown
 }
 
-fn with_number(place: usize, number: f32) -> Call {
+fn with_number(place: usize, number: f32) -> Writing {
     let mut call = smallest();
     call.cart[place] = number;
     call
@@ -239,7 +239,7 @@ fn one_beside() -> Vec<Shown> {
         shown.push((row, lending(&call, |lent| lent.obstacles = count), Err(2)));
         shown.push((
             row,
-            Call {
+            Writing {
                 neighbours: count,
                 ..call.clone()
             },
@@ -264,7 +264,7 @@ fn one_beside() -> Vec<Shown> {
         lines.resize(length, 0.0);
         shown.push((
             row,
-            Call {
+            Writing {
                 lines,
                 ..call.clone()
             },
@@ -278,7 +278,7 @@ fn one_beside() -> Vec<Shown> {
 fn limits() -> Vec<Shown> {
     let row = "as many as there may be, and one more";
     let line = [0.0, 1.0, 1.0, 0.0];
-    let near = |count: u32| Call {
+    let near = |count: u32| Writing {
         neighbours: count,
         lines: line.repeat(count as usize),
         buffer: 1_100,
@@ -291,7 +291,7 @@ fn limits() -> Vec<Shown> {
             &vec![0; obstacles as usize],
         )
     };
-    let together = |counts: [u8; 4]| Call {
+    let together = |counts: [u8; 4]| Writing {
         buffer: 1_600,
         ..lending(&walled(4, &[OPEN; 4], &counts), |lent| {
             lent.vertices = (0..384).map(|place| place as f32).collect()
@@ -309,7 +309,7 @@ fn limits() -> Vec<Shown> {
         ),
         (
             row,
-            Call {
+            Writing {
                 neighbours: u32::MAX,
                 ..smallest()
             },
@@ -334,7 +334,7 @@ fn buffers() -> Vec<Shown> {
             let told = if buffer < length { Err(10) } else { Ok(length) };
             shown.push((
                 row,
-                Call {
+                Writing {
                     buffer,
                     ..call.clone()
                 },

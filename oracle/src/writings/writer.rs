@@ -3,7 +3,7 @@
 
 use glam::Vec2;
 
-use super::Call;
+use super::Writing;
 use crate::edge_vectors::call::{CLOSED, OPEN};
 use crate::edge_vectors::judge::admits_horizon;
 use crate::list_vectors::judge::{
@@ -13,7 +13,7 @@ use crate::records::reader::must;
 use crate::records::{with_length, MOST_NEIGHBOURS, VERSION};
 
 /// The length that is written; or the number of the refusal, and then the buffer is as it was.
-pub fn write(call: &Call, buffer: &mut [u8]) -> Result<usize, u32> {
+pub fn write(call: &Writing, buffer: &mut [u8]) -> Result<usize, u32> {
     let record = with_length(rest(call)?);
     let start = buffer.get_mut(..record.len()).ok_or(10u32)?;
     start.copy_from_slice(&record);
@@ -21,7 +21,7 @@ pub fn write(call: &Call, buffer: &mut [u8]) -> Result<usize, u32> {
 }
 
 /// The bytes behind the length.
-fn rest(call: &Call) -> Result<Vec<u8>, u32> {
+fn rest(call: &Writing) -> Result<Vec<u8>, u32> {
     let mut rest = vec![VERSION];
     cart(&mut rest, call.cart)?;
     let (obstacles, left) = call.lent.read()?;
