@@ -3,3 +3,4 @@ pub mod PlaceLaws
 pub mod PartLaws
 pub mod TurnLaws
 pub mod ReadLaws
+pub mod OwnLaws
