@@ -6,3 +6,4 @@ pub mod ZeroLaws
 pub mod PutMoves
 pub mod MoveLaws
 pub mod ToldMoves
+pub mod Worked
