@@ -37,7 +37,7 @@ fn read(log: &[u8]) -> Option<Result<(Record, usize), u8>> {
     }
     let record = match (size, code) {
         (18, 1..=5) => Record::Outcome((code, word(log, 4), word(log, 8), (word(log, 12) >> 16) as u16, word(log, 14))),
-        (4, 129..=138) => Record::Refusal(code - 128),
+        (4, 129..=138 | 142) => Record::Refusal(code - 128),
         _ => return Some(Err(2)),
     };
     Some(Ok((record, size)))

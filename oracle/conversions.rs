@@ -1,5 +1,5 @@
 // An independent move of scene records between their versions, and streams to move: written from 01's records and
-// 02's T-07, with nothing of ours. It reads a record to its fields and writes these anew.
+// 02's T-07 and T-11, with nothing of ours. It reads a record to its fields and writes these anew.
 // usage: conversions moved TO < RECORDS       the records moved to version TO, up to the first that is refused
 //        conversions told TO < RECORDS        the line that ./convert tells of that one, or nothing
 //        conversions movable TO < RECORDS     those records of the stream that can be moved
@@ -65,9 +65,20 @@ impl<'a> Fields<'a> {
             total += vertices;
             must(vertices <= 64 && total <= 192, 4)?;
             must(kind == 1 || vertices > 0, 5)?;
-            self.numbers(2 * vertices, MOST)?;
+            self.outline(vertices, kind == 1)?;
         }
         Ok(())
+    }
+
+    // No vertex is the one before it again, by value; nor, in a closed outline, the last the first (T-11).
+    fn outline(&mut self, vertices: usize, closed: bool) -> Result<(), u8> {
+        let mut own: Vec<(f32, f32)> = Vec::new();
+        for _ in 0..vertices {
+            let vertex = (self.number(-MOST, MOST)?, self.number(-MOST, MOST)?);
+            must(own.last() != Some(&vertex), 14)?;
+            own.push(vertex);
+        }
+        must(!closed || vertices == 0 || own.first() != own.last(), 14)
     }
 
     fn line(&mut self, version: u8) -> Result<(u32, &'a [u8]), u8> {

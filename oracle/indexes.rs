@@ -20,7 +20,7 @@ fn read_record(bytes: &[u8]) -> Result<bool, u8> {
     }
     match (length, bytes[3]) {
         (16, code @ 1..=5) => Ok(code >= 3),
-        (2, 129..=138) => Ok(false),
+        (2, 129..=138 | 142) => Ok(false),
         _ => Err(2),
     }
 }
@@ -385,6 +385,8 @@ impl Draw {
 }
 
 const REFUSED: [u8; 4] = [0, 2, 1, 134];
+/// The codes of refusals: 129 to 138, and 142 (02, T-11).
+const REFUSALS: [u8; 11] = [129, 130, 131, 132, 133, 134, 135, 136, 137, 138, 142];
 
 fn outcome(code: u8, draw: &mut Draw) -> Vec<u8> {
     let mut record = vec![0, 16, 1, code];
@@ -395,7 +397,7 @@ fn outcome(code: u8, draw: &mut Draw) -> Vec<u8> {
 fn records(count: usize, draw: &mut Draw) -> Vec<Vec<u8>> {
     (0..count)
         .map(|_| match draw.below(8) {
-            0 => vec![0, 2, 1, 129 + draw.below(10) as u8],
+            0 => vec![0, 2, 1, REFUSALS[draw.below(11) as usize]],
             1 => REFUSED.to_vec(),
             n => outcome(1 + (n as u8 - 2) % 5, draw),
         })

@@ -12,7 +12,7 @@ const OUTCOMES: [&str; 5] = [
 ];
 
 // The refusals that an answer may have, and what each says.
-const REFUSALS: [(u8, &str); 10] = [
+const REFUSALS: [(u8, &str); 11] = [
     (1, "the version is not 1"),
     (2, "bytes are missing or left over"),
     (3, "an obstacle is neither closed nor open"),
@@ -23,6 +23,7 @@ const REFUSALS: [(u8, &str); 10] = [
     (8, "the ends of an interval are not in order"),
     (9, "an edge's line breaks the admission of lines"),
     (10, "an answer buffer is too short"),
+    (14, "an obstacle has a doubled vertex"),
 ];
 
 #[derive(Default)]
@@ -122,7 +123,7 @@ impl Draw {
 
 fn record(draw: &mut Draw) -> Vec<u8> {
     if draw.below(3) == 0 {
-        let (number, _) = REFUSALS[draw.below(10) as usize];
+        let (number, _) = REFUSALS[draw.below(REFUSALS.len() as u64) as usize];
         return vec![0, 2, 1, 128 + number];
     }
     let mut bytes = vec![0, 16, 1, 1 + draw.below(5) as u8];

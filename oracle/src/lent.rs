@@ -1,11 +1,9 @@
-//! Obstacles that are lent as numbers (02, T-01 and T-08): what they are by 01's "Refusal numbers" alone, fields in a scene's order, each first for numbers that
-//! are not lent (2), then by its own rule; and how they are spoiled.
-
-use glam::Vec2;
+//! Obstacles that are lent as numbers (02, T-01, T-08 and T-11): what they are by 01's "Refusal numbers" alone, fields in a scene's order, each first for numbers
+//! that are not lent (2), then by its own rule; and how they are spoiled.
 
 use crate::edge_vectors::call::{CLOSED, OPEN, SCENE_VERTICES};
-use crate::edge_vectors::judge::{count_fault, is_kind};
-use crate::list_vectors::judge::{admits_component, REACH};
+use crate::edge_vectors::judge::{count_fault, is_kind, outline, vertex};
+use crate::list_vectors::judge::REACH;
 use crate::list_vectors::refused::too_large;
 use crate::random::Random;
 use crate::records::reader::must;
@@ -54,23 +52,13 @@ impl Lent {
             must(count <= room, 4)?;
             count_fault(kind, count as u64).map_or(Ok(()), Err)?;
             room -= count;
-            let own = (0..count).map(|_| {
-                let x = component(vertices.next())?;
-                Ok(Vec2::new(x, component(vertices.next())?))
-            });
             obstacles.push(Obstacle {
                 closed: kind == CLOSED,
-                vertices: own.collect::<Result<_, u32>>()?,
+                vertices: outline(kind, count, || vertex(&mut vertices))?,
             });
         }
         Ok((obstacles, kinds.len() + counts.len() + vertices.len()))
     }
-}
-
-fn component(lent: Option<&f32>) -> Result<f32, u32> {
-    let number = *lent.ok_or(2u32)?;
-    must(admits_component(number), 6)?;
-    Ok(number)
 }
 
 // ---- how they are spoiled

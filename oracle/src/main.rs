@@ -8,6 +8,7 @@ mod checks;
 mod common_vectors;
 mod coverage_table;
 mod cut_vectors;
+mod doubled;
 mod edge_vectors;
 mod encounters;
 mod lent;
@@ -39,7 +40,9 @@ const USAGE: &str = "usage: oracle self-check
        oracle answer SCENES ANSWERS
        oracle speed FEED FOLDER
        oracle written_again SCENES
-       oracle moved_again SCENES RECORDS ANSWERS";
+       oracle moved_again SCENES RECORDS ANSWERS
+       oracle doubled edges|walls FILE
+       oracle doubled scenes|writings|moves RECORDS ANSWERS";
 
 fn main() -> ExitCode {
     let arguments: Vec<String> = env::args().skip(1).collect();
@@ -87,6 +90,7 @@ fn main() -> ExitCode {
         ["moved_again", scenes, calls, answers] => {
             write_set(calls, answers, moves::moved_again(scenes))
         }
+        ["doubled", set, ref files @ ..] => doubled::check(set, files),
         _ => Err(USAGE.to_string()),
     };
     match outcome {

@@ -30,7 +30,7 @@ struct Move {
 
 type Shown = calls::Shown<Move>;
 
-const COLUMNS: [Column<Shown>; 11] = [
+const COLUMNS: [Column<Shown>; 12] = [
     ("in all", |_| true),
     ("get 1", |shown| shown.2 == Err(1)),
     ("get 2", |shown| shown.2 == Err(2)),
@@ -41,6 +41,7 @@ const COLUMNS: [Column<Shown>; 11] = [
     ("get 7", |shown| shown.2 == Err(7)),
     ("get 10", |shown| shown.2 == Err(10)),
     ("get 11", |shown| shown.2 == Err(11)),
+    ("get 14", |shown| shown.2 == Err(14)),
     ("are moved", |shown| shown.2.is_ok()),
 ];
 
@@ -101,6 +102,11 @@ fn moved(to: u8, record: &[u8]) -> Result<Vec<u8>, u32> {
     }
     reader::must(read.numbers.iter().all(|number| *number == 0), 11)?;
     Ok(scene_record(&read.scene))
+}
+
+/// The answer to a call.
+pub fn answered(to: u8, room: usize, record: Vec<u8>) -> Vec<u8> {
+    Move { to, room, record }.answer()
 }
 
 impl Call for Move {
@@ -176,6 +182,11 @@ fn named() -> Vec<Shown> {
     let second = |number: u32| record(NUMBERED, &[&[0, 1], &number.to_be_bytes(), &line]);
     let left = record(NUMBERED, &[&[0, 1], &7u32.to_be_bytes(), &line, &[0]]);
     let empty_open = record(NUMBERED, &[&[1, 2, 0]]);
+    let point = |version: u8, behind: &[u8]| record(version, &[&[1, 1, 1], &[0; 8], behind]);
+    let twice = |version: u8| {
+        let vertices = [&[1, 2, 2, 0x80][..], &[0; 15]].concat();
+        record(version, &[&vertices, &[1], &7u32.to_be_bytes(), &line])
+    };
     let zeros = |version: u8, length: usize| {
         let mut rest = vec![0; length];
         rest[0] = version;
@@ -198,6 +209,14 @@ fn named() -> Vec<Shown> {
         call("a number that would be lost", 1, 99, second(u32::MAX), Err(11)),
         call("a byte left over before 11", 1, 0, left, Err(2)),
         call("an open obstacle without vertices", 1, 99, empty_open, Err(5)),
+        call("another kind", 1, 99, record(NUMBERED, &[&[1, 3]]), Err(3)),
+        call("another kind", 2, 99, record(VERSION, &[&[1, 0, 0]]), Err(3)),
+        call("one closed vertex", 1, 99, point(NUMBERED, &[]), Err(14)),
+        call("one closed vertex", 2, 99, point(VERSION, &[]), Err(14)),
+        call("one closed vertex before a byte left over", 1, 0, point(NUMBERED, &[0, 9]), Err(14)),
+        call("one closed vertex in the wrong version", 2, 99, point(NUMBERED, &[0]), Err(1)),
+        call("a doubled vertex before 11 and 10", 1, 0, twice(NUMBERED), Err(14)),
+        call("a doubled vertex before 11 and 10", 2, 0, twice(VERSION), Err(14)),
         call("from the wrong version", 1, 99, first, Err(1)),
         call("from the wrong version", 2, 99, second(0), Err(1)),
         call("from the wrong version", 2, 99, nan.clone(), Err(1)),

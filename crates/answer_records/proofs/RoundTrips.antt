@@ -16,8 +16,8 @@ use Rattle.admission.specs.Faults.{Fault, fine, fault, unlessFault}
 use Rattle.answer_records.specs.declared.Answer.{Answer}
 use Rattle.answer_records.specs.Replies as said
 use Rattle.answer_records.specs.Answers.{outcomeLength, refusalLength, answerBytes, refusalBytes}
-use Rattle.answer_records.specs.Replies.{isLength, lengthOfCode, answerFault, outcomeIn, answerIn}
-use Rattle.answer_records.proofs.ReplyLaws.{Faultless, faultless, refusal-named, refusal-coded}
+use Rattle.answer_records.specs.Replies.{isLength, isRefusalCode, lengthOfCode, answerFault, outcomeIn, answerIn}
+use Rattle.answer_records.proofs.ReplyLaws.{Faultless, faultless, code-within, refusal-named, refusal-coded}
 
 -- ---- numbers and their bytes
 
@@ -90,13 +90,16 @@ module _ (a : Answer) (fits : Fits a) where
       outcome-named : eqb (pairOf (answerBytes a) 0) outcomeLength ≡ true
       outcome-named = eq-eqb _ _ (its-length a)
 
-module _ (n : ℕ) (least : 1 ≤ n) (most : n ≤ 10) where
+-- a refusal by a number whose code the reader takes
+module _ (n : ℕ) (told : isRefusalCode (128 + n) ≡ true) where
   code-of : (128 + n) % 256 ≡ 128 + n
-  code-of = omega arith
+  code-of = let within = code-within (128 + n) told in omega arith
 
   refusal-fine : answerFault (refusalBytes n) ≡ fine
   unfolding answerFault refusalBytes bigEndian pairOf isLength lengthOfCode if_then_else_
-  refusal-fine = rw (code-of, le-leb 1 (128 + n) (omega arith), lt-leb (128 + n) 5 (omega arith), le-leb 129 (128 + n) (omega arith), le-leb (128 + n) 138 (omega arith))
+  refusal-fine =
+      let within = code-within (128 + n) told in
+      rw (code-of, le-leb 1 (128 + n) (omega arith), lt-leb (128 + n) 5 (omega arith), told)
 
   pub refusal-read-back : answerIn (refusalBytes n) ≡ said.refusal n
   unfolding answerIn refusalBytes bigEndian pairOf if_then_else_

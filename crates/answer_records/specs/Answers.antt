@@ -35,7 +35,7 @@ refusedCode = 128
 unfoldable pub answerBytes : Answer → List ℕ
 answerBytes a = bigEndian 2 outcomeLength ++ answerVersion ∷ a .code ∷ bigEndian 4 (a .x) ++ bigEndian 4 (a .y) ++ bigEndian 2 (a .failed) ++ bigEndian 4 (a .probes)
 
--- "a refused scene as 00 02 01 and 128 + number". A code is a byte: numbers go up to 10, and one over 127 is never read as a refusal's
+-- "a refused scene as 00 02 01 and 128 + number". A code is a byte: numbers go up to 14, and one over 127 is never read as a refusal's
 unfoldable pub refusalBytes : ℕ → List ℕ
 refusalBytes n = bigEndian 2 refusalLength ++ answerVersion ∷ (refusedCode + n) % 256 ∷ []
 

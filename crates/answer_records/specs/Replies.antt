@@ -26,9 +26,13 @@ saidOf (reply.Fault n) = unreadable n
 unfoldable pub isLength : ℕ → Bool
 isLength n = eqb n outcomeLength || eqb n refusalLength
 
--- "codes 1 to 5 and 129 to 138 only, the first with length 16, the second with length 2"; 0 is the length of no record. No other place knows the codes
+-- "codes 1 to 5 and 129 to 138 only, the first with length 16, the second with length 2", and 142 as these (02, T-11); 0 is the length of no record. No other
+-- place knows the codes
+abbrev pub isRefusalCode : ℕ → Bool
+isRefusalCode code = (leb 129 code && leb code 138) || eqb code 142
+
 unfoldable pub lengthOfCode : ℕ → ℕ
-lengthOfCode code = if leb 1 code && leb code 5 then outcomeLength else (if leb 129 code && leb code 138 then refusalLength else 0)
+lengthOfCode code = if leb 1 code && leb code 5 then outcomeLength else (if isRefusalCode code then refusalLength else 0)
 
 -- "fewer than two bytes, a length that is neither, or bytes that do not match it, 2; another version, 1; a code not of its length, 2"
 unfoldable pub answerFault : List ℕ → Fault

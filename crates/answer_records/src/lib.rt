@@ -60,7 +60,7 @@ pub fn write_answer(buffer: &mut [u8], answer: Answer) -> Judged
 }
 
 // Writes the record of a refused scene to the buffer's start; bytes behind it keep their contents. A buffer of fewer than 4 bytes is refused (10) and keeps
-// its contents. The code is 128 + number modulo 256, and the reader takes it for the numbers 1 to 10 alone.
+// its contents. The code is 128 + number modulo 256, and the reader takes it for the numbers 1 to 10 and 14 alone.
 pub fn write_refusal(buffer: &mut [u8], number: u8) -> Judged
     ensures { λ r. ⌜ writtenOf r (now (buffer .exit)) ≡ laid (refusalBytes number) (now (buffer .entry)) ⌝ }
 {
@@ -120,7 +120,7 @@ fn length_of_code(code: u8) -> u16
 {
     match code {
         1..=5 => Answer::LENGTH,
-        129..=138 => Answer::REFUSAL_LENGTH,
+        129..=138 | 142 => Answer::REFUSAL_LENGTH,
         _ => 0,
     }
 }

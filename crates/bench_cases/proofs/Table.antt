@@ -160,9 +160,12 @@ table =
     ∷ (obstacle 2 halfᶠ turned gives makes (lines []))
     -- its wall with a horizon out of range
     ∷ (numbers 2 2 (corners wall) (+ 2) (+ 2048) gives makes (refused 6))
-    -- P12
-    ∷ (obstacle 1 (+ 1) (vec (+ 5) (+ 0) ∷ []) gives makes (lines []))
-    ∷ (obstacle 1 (+ 1) (vec halfᶠ (+ 0) ∷ []) gives makes (refused 9))
+    -- P12, which 02's T-11 makes two refusals
+    ∷ (obstacle 1 (+ 1) (vec (+ 5) (+ 0) ∷ []) gives makes (refused 14))
+    ∷ (obstacle 1 (+ 1) (vec halfᶠ (+ 0) ∷ []) gives makes (refused 14))
+    -- a vertex again but for a zero's sign, at the end of a closed obstacle and of an open one
+    ∷ (obstacle 1 (+ 1) (vec (+ 0) (+ 5) ∷ vec (+ 1) (+ 5) ∷ vec (− 0) (+ 5) ∷ []) gives makes (refused 14))
+    ∷ (obstacle 2 (+ 1) (vec (+ 0) (+ 5) ∷ vec (− 0) (+ 5) ∷ []) gives makes (refused 14))
     -- no vertices, and a number left over
     ∷ (numbers 1 0 (+ 0 ∷ []) (+ 1) (+ 1) gives makes (refused 2))
     -- 256 lines pass, 257 get 4; limit 1,024 passes, the next f32 gets 6

@@ -288,8 +288,12 @@ fn walls(t: Tally) -> Tally {
 fn points(t: Tally) -> Tally {
     let aside = [5.0, 0.0];
     let near = [0.5, 0.0];
-    t.with(is_no_line(made(1, &aside, 1, 1.0)), 12)
-        .with(is_told(made(1, &near, 1, 1.0), 9), 12)
+    let closed = [0.0, 5.0, 1.0, 5.0, -0.0, 5.0];
+    let signed = [0.0, 5.0, -0.0, 5.0];
+    t.with(is_told(made(1, &aside, 1, 1.0), 14), 12)
+        .with(is_told(made(1, &near, 1, 1.0), 14), 12)
+        .with(is_told(made(1, &closed, 3, 1.0), 14), 12)
+        .with(is_told(made(2, &signed, 2, 1.0), 14), 12)
         .with(is_told(made(1, &near[0..1], 0, 1.0), 2), 12)
 }
 

@@ -120,8 +120,8 @@ module _ (b rest : List ℕ) (readable : Readable rest) where
   reply-readable : Readable (replyTo b ++ rest)
   reply-readable = read-readable (sceneIn b) refl
 
-refusal-readable : (n : ℕ) → 1 ≤ n → n ≤ 10 → (rest : List ℕ) → Readable rest → Readable (refusalBytes n ++ rest)
-refusal-readable n least most rest h = refusal-in-front (refusalBytes n) rest h n (refusal-read-back n least most)
+refusal-readable : (n : ℕ) → said.isRefusalCode (128 + n) ≡ true → (rest : List ℕ) → Readable rest → Readable (refusalBytes n ++ rest)
+refusal-readable n coded rest h = refusal-in-front (refusalBytes n) rest h n (refusal-read-back n coded)
 
 -- the answers to a stream, with a log behind them that can be read
 abbrev Answers : List ℕ → Type 0
@@ -135,7 +135,7 @@ part-readable skip l (skipped k) (skips one fits there) next rest h = next k one
 part-readable skip l (overlong n) (names z two far e) next rest h =
     let w = worked unlimited n (drop 2 l) in
     rw (append-assoc (refusalBytes 4) (w .answers) rest)
-    (refusal-readable 4 (omega arith) (omega arith) (w .answers ++ rest) (next 2 (omega arith) two n rest h))
+    (refusal-readable 4 refl (w .answers ++ rest) (next 2 (omega arith) two n rest h))
 part-readable skip l (whole k) (holds z two near there e) next rest h =
     let w = worked unlimited 0 (drop k l) in
     rw (append-assoc (replyTo (take k l)) (w .answers) rest)
@@ -150,7 +150,7 @@ last-readable : (left : ℕ) → Readable (lastAnswer left)
 unfolding lastAnswer
 last-readable left =
     if-all Readable (eqb left 0) no-record
-    (rw (append-nil (refusalBytes 2)) at (refusal-readable 2 (omega arith) (omega arith) [] no-record))
+    (rw (append-nil (refusalBytes 2)) at (refusal-readable 2 refl [] no-record))
 
 -- All that `feed` answers can be read.
 pub own-readable : (scenes : List ℕ) → Readable (answersTo scenes)

@@ -68,7 +68,7 @@ module _ (to : Version) (s : List ℕ) (h : AllBytes s) (t : List ℕ) (m : ℕ)
   moved-lies =
       moved-parts s h (way-to to) t m e λ p z read again here is.
       parts-taken t to p (length t) again λ n b d i f word right few byte fits read-cart read-os few-os list-os
-          read-ls few-ls list-ls end.
+      read-ls few-ls list-ls end.
       let long = lines-last t to p (length t) again in
       let named : pairOf t 0 ≡ n = got-same (pair-there t 0 (omega arith) ∙ word) .0 in
       holds (omega arith) (omega arith) (omega arith) (omega arith) (omega arith)
@@ -137,7 +137,7 @@ module _ (to : Version) (s : List ℕ) (next : (k : ℕ) → 1 ≤ k → k ≤ l
       ∙ converted-on (otherOf to) place (x ++ c .bytes)
       ∙ ap (convertedBy (otherOf to) place (x ++ c .bytes)) (back-met to (take k s) (take-bytes k s h) x j m (c .bytes))
       ∙ ap (λ (l : List ℕ). ahead (take k s) (convertedFrom (otherOf to) (nextPlace place) l))
-          (drop-at x (c .bytes) (length x) refl)
+      (drop-at x (c .bytes) (length x) refl)
       ∙ ap (ahead (take k s)) rest
       ∙ ap (λ (l : List ℕ). allMoved l n) (take-append-drop k s)
 

@@ -11,8 +11,8 @@ use Rattle.admission.specs.Faults.{Fault, fine, fault, _⊳_}
 use Rattle.admission.specs.Heads.{headOf}
 use Rattle.admission.proofs.FaultLaws.{⊳-fine, ⊳-assoc}
 use Rattle.lines.proofs.Fold.{left-next, left-none}
-use Rattle.obstacles.specs.ObstacleFaults.{headFault, verticesFault}
-use Rattle.obstacles.proofs.ObstacleFaults.{head-room, vertices-lent}
+use Rattle.obstacles.specs.ObstacleFaults.{headFault, outlineFault}
+use Rattle.obstacles.proofs.ObstacleFaults.{head-room, outline-lent}
 use Rattle.dodgy_2d.specs.Scenes.{headsOf, obstaclesFault}
 
 -- ---- the heads from the i-th up to the n-th
@@ -41,7 +41,7 @@ module _ (ks cs : List ℕ) (n i : ℕ) (kinds : n ≤ length ks) (counts : n �
   own = headOf (getD ks i 0) (getD cs i 0)
 
   abbrev pub ownFault : Fault
-  ownFault = headFault total own ⊳ verticesFault (own .count) (drop (2 * total) v)
+  ownFault = headFault total own ⊳ outlineFault own (drop (2 * total) v)
 
   abbrev left : Fault
   left = obstaclesFault total (headsFrom ks cs n i) (drop (2 * total) v)
@@ -51,7 +51,7 @@ module _ (ks cs : List ℕ) (n i : ℕ) (kinds : n ≤ length ks) (counts : n �
 
   one-more : i < n → left ≡ (ownFault ⊳ later)
   unfolding obstaclesFault
-  one-more h = rw (heads-next ks cs n i kinds counts h, ← behind total (own .count) v) (⊳-assoc (headFault total own) (verticesFault (own .count) (drop (2 * total) v)) _)
+  one-more h = rw (heads-next ks cs n i kinds counts h, ← behind total (own .count) v) (⊳-assoc (headFault total own) (outlineFault own (drop (2 * total) v)) _)
 
   pub obstacle-on : i < n → fine ≡ ownFault → left ≡ later
   obstacle-on h e = one-more h ∙ rw (← e)
@@ -70,7 +70,7 @@ module _ (ks cs : List ℕ) (n i : ℕ) (kinds : n ≤ length ks) (counts : n �
   -- and its vertices are there
   pub own-there : 2 * total ≤ length v → fine ≡ ownFault → 2 * (total + own .count) ≤ length v
   own-there h e =
-      let there = vertices-lent (own .count) (drop (2 * total) v) (⊳-fine (headFault total own) (sym e) .1) in
+      let there = outline-lent own (drop (2 * total) v) (⊳-fine (headFault total own) (sym e) .1) in
       omega (arith, length-drop (2 * total) v)
 
   -- where none is at fault, this one passes, and none behind it is at fault

@@ -22,7 +22,7 @@ use Rattle.lines.proofs.JudgeLaws.{faults-append}
 use Rattle.lines.proofs.Rows.{lines-long, lines-take}
 use Rattle.linear_programming.proofs.WholeProbes.{whole-fits}
 use Rattle.edges.specs.declared.Agent.{Agent}
-use Rattle.obstacles.specs.ObstacleFaults.{vectorFault, agentFault, headFault, verticesFault}
+use Rattle.obstacles.specs.ObstacleFaults.{vectorFault, agentFault, headFault, outlineFault}
 use Rattle.obstacles.specs.Obstacles.{Answer, lines, refused}
 use Rattle.obstacles.proofs.ObstacleFaults.{head-room}
 use Rattle.obstacles.proofs.EdgesInOrder.{FewAdmitted, refuses, few-admitted, lines-few-admitted}
@@ -81,7 +81,7 @@ unfolding edgeLines obstaclesFault linesFault
 edges-few-admitted agent margin horizon v xs offset [] few e = few-admitted {ls = []} (omega arith) refl
 edges-few-admitted agent margin horizon v xs offset (h ∷ hs) few e =
     let a = ⊳-fine (headFault offset h) e in
-    let b = ⊳-fine (verticesFault (h .count) xs) (a .1) in
+    let b = ⊳-fine (outlineFault h xs) (a .1) in
     let room = head-room offset h (a .0) .1 in
     let k : 192 - offset ≡ h .count + (192 - (offset + h .count)) = omega arith in
     rw k (joined-few-admitted (h .count) (192 - (offset + h .count)) _ _ (lines-few-admitted agent (h .kind) (h .count) _ margin horizon) (edges-few-admitted agent margin horizon v _ (offset + h .count) hs room (b .1)))

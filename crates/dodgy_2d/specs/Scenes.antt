@@ -12,7 +12,7 @@ use Rattle.common.specs.Vectors.{longest}
 use Rattle.lines.specs.declared.Line.{Line}
 use Rattle.lines.specs.Lines.{linesOf}
 use Rattle.lines.specs.LineFaults.{linesFault}
-use Rattle.obstacles.specs.ObstacleFaults.{vectorFault, agentFault, headFault, verticesFault}
+use Rattle.obstacles.specs.ObstacleFaults.{vectorFault, agentFault, headFault, outlineFault}
 use Rattle.dodgy_2d.specs.declared.Scene.{Scene}
 
 -- "At most 16 obstacles", "64 neighbour lines"
@@ -43,10 +43,10 @@ neighboursIn s = take (s .neighbours) (linesOf (s .lines))
 unfoldable pub cartFault : Scene → Fault
 cartFault s = agentFault (s .agent) (s .margin) (s .horizon) ⊳ vectorFault (s .wish) ⊳ must (inside 0ᶠ longest (s .limit)) 6
 
--- each obstacle's head, behind the running total of vertices, then its own vertices, then the obstacles behind it
+-- each obstacle's head, behind the running total of vertices, then its own vertices, none doubled, then the obstacles behind it
 unfoldable pub obstaclesFault : ℕ → List Head → List Float → Fault
 obstaclesFault total [] xs = fine
-obstaclesFault total (h ∷ hs) xs = headFault total h ⊳ verticesFault (h .count) xs ⊳ obstaclesFault (total + h .count) hs (drop (2 * h .count) xs)
+obstaclesFault total (h ∷ hs) xs = headFault total h ⊳ outlineFault h xs ⊳ obstaclesFault (total + h .count) hs (drop (2 * h .count) xs)
 
 unfoldable pub sceneFault : Scene → Fault
 sceneFault s =

@@ -10,7 +10,7 @@ ghost use mathlib.Core.Path.{_≡_};
 ghost use Prim.Native.Nat.{_*_, _≤_, _<_};
 ghost use lib.ListN.{length, take, drop};
 ghost use Rattle.admission.specs.Faults.{_⊳_, faultOf};
-ghost use Rattle.obstacles.specs.ObstacleFaults.{headFault, verticesFault};
+ghost use Rattle.obstacles.specs.ObstacleFaults.{headFault, outlineFault};
 ghost use Rattle.dodgy_2d.specs.Scenes.{headsOf, cartFault, obstaclesFault, sceneFault};
 
 // Position, velocity, margin, horizon, wish and limit.
@@ -33,13 +33,13 @@ pub(crate) fn wide(byte: u8) -> usize
 // An obstacle behind `total` vertices: its head, then its own vertices.
 fn judge_obstacle(total: usize, head: Head, vertices: &[f32]) -> Judged
     requires { ⌜ (total ≤ 192) × (length (now vertices) ≡ 384) ⌝ }
-    ensures { λ r. ⌜ faultOf r ≡ (headFault total head ⊳ verticesFault (head .count) (drop (2 * total) (now (vertices .entry)))) ⌝ }
+    ensures { λ r. ⌜ faultOf r ≡ (headFault total head ⊳ outlineFault head (drop (2 * total) (now (vertices .entry)))) ⌝ }
 {
     let judged = obstacles::judge_head(total, head);
     let Judged::Fine = judged else {
         return judged;
     };
-    obstacles::judge_vertices(&vertices[2 * total..vertices.len()], head.count)
+    obstacles::judge_outline(head, &vertices[2 * total..vertices.len()])
 }
 
 // The first `n` obstacles, each behind the vertices of those before it.

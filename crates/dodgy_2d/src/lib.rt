@@ -62,7 +62,7 @@ impl SceneAnswer {
 
 // The velocity of a scene: 1 where the lines are met, 2 where neighbours' lines had to be relaxed; where the obstacles' lines cannot be met, they are made
 // again for a cart at rest: 3 and 4, and 5 where that fails too, whose point is taken. Refused: the scene's first fault in the order of its fields
-// (6, 4, 3, 5, 7), an edge line that is not admitted (9). The solves' own 8 and 9 are never told of a scene (proofs/SceneTold.antt).
+// (6, 4, 3, 5, 14, 7), an edge line that is not admitted (9). The solves' own 8 and 9 are never told of a scene (proofs/SceneTold.antt).
 pub fn compute_avoiding_velocity(scene: Scene) -> SceneAnswer
     ensures { λ r. ⌜ r ≡ sceneAnswerAs (sceneOutcome scene) (sceneOrigin scene) ⌝ }
 {

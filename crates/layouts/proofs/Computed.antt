@@ -4,15 +4,17 @@ use mathlib.Core.Path.{_≡_, refl}
 use mathlib.Core.List.{List, [], _∷_}
 use lib.Ieee.{Float, nan}
 use Rattle.arithmetic.specs.Binary32.{bits, 0ᶠ}
-use Rattle.admission.specs.Faults.{Fault, fine, fault, within}
-use Rattle.admission.specs.Heads.{isKind, roomFor, isEmptyOpen}
+use Rattle.admission.specs.Faults.{Fault, fine, fault}
 use Rattle.lines.proofs.Computed.{computed}
-use Rattle.obstacles.specs.ObstacleFaults.{numberFault, vertexFault, verticesFault}
+use Rattle.obstacles.proofs.Computed.{faultsComputed}
 use Rattle.layouts.specs.declared.Layout.the-variants as layout
 use Rattle.layouts.specs.Layouts.{kindFault, countFault, ownFault, lentFault, layoutFault, vertexTotal, layoutIn, leftFault}
 
 abbrev pub 1ᶠ : Float
 1ᶠ = bits 0x3F80_0000
+
+abbrev pub -0ᶠ : Float
+-0ᶠ = bits 0x8000_0000
 
 -- 384 numbers, no two neighbouring vertices alike
 unfoldable pub alternating : ℕ → List Float
@@ -20,7 +22,7 @@ alternating zero = []
 alternating (suc n) = 0ᶠ ∷ 0ᶠ ∷ 1ᶠ ∷ 0ᶠ ∷ alternating n
 
 unfoldable pub layoutsComputed : Unit {0}
-unfolding computed within isKind roomFor isEmptyOpen numberFault kindFault countFault vertexFault verticesFault ownFault lentFault layoutFault vertexTotal layoutIn leftFault alternating
+unfolding computed faultsComputed kindFault countFault ownFault lentFault layoutFault vertexTotal layoutIn leftFault alternating
 layoutsComputed = tt
 
 -- "fewer" is told at the field that misses it, not up front
@@ -47,3 +49,24 @@ pub beyond :
     ≡ (fault 2 ∷ fine ∷ fault 2 ∷ fault 2 ∷ [])
 unfolding layoutsComputed
 beyond = refl
+
+-- 02, T-11: 14 is told at the second vertex, behind its own 6 and before anything behind it; −0 is 0
+pub doubled :
+    (layoutIn 1 (2 ∷ []) (2 ∷ []) (0ᶠ ∷ 0ᶠ ∷ -0ᶠ ∷ 0ᶠ ∷ []) ∷ layoutIn 1 (2 ∷ []) (3 ∷ []) (0ᶠ ∷ 0ᶠ ∷ 0ᶠ ∷ 0ᶠ ∷ nan ∷ []) ∷ layoutIn 1 (2 ∷ []) (2 ∷ []) (0ᶠ ∷ 0ᶠ ∷ 0ᶠ ∷ nan ∷ []) ∷ [])
+    ≡ (layout.Fault 14 ∷ layout.Fault 14 ∷ layout.Fault 6 ∷ [])
+unfolding layoutsComputed
+doubled = refl
+
+-- x alone, or y alone, or with another vertex between, or of two obstacles: no pair
+pub apart :
+    (layoutIn 1 (2 ∷ []) (3 ∷ []) (0ᶠ ∷ 0ᶠ ∷ 0ᶠ ∷ 1ᶠ ∷ 1ᶠ ∷ 1ᶠ ∷ []) ∷ layoutIn 1 (2 ∷ []) (3 ∷ []) (0ᶠ ∷ 0ᶠ ∷ 1ᶠ ∷ 0ᶠ ∷ 0ᶠ ∷ 0ᶠ ∷ []) ∷ layoutIn 2 (2 ∷ 2 ∷ []) (1 ∷ 1 ∷ []) (0ᶠ ∷ 0ᶠ ∷ 0ᶠ ∷ 0ᶠ ∷ []) ∷ [])
+    ≡ (layout.Vertices 3 ∷ layout.Vertices 3 ∷ layout.Vertices 2 ∷ [])
+unfolding layoutsComputed
+apart = refl
+
+-- the closing pair of a closed obstacle, of one vertex too; behind its last vertex, before the next kind
+pub closing :
+    (layoutIn 2 (1 ∷ 3 ∷ []) (3 ∷ []) (0ᶠ ∷ 0ᶠ ∷ 1ᶠ ∷ 0ᶠ ∷ 0ᶠ ∷ -0ᶠ ∷ []) ∷ layoutIn 1 (1 ∷ []) (1 ∷ []) (0ᶠ ∷ 0ᶠ ∷ []) ∷ layoutIn 1 (2 ∷ []) (1 ∷ []) (0ᶠ ∷ 0ᶠ ∷ []) ∷ layoutIn 1 (1 ∷ []) (2 ∷ []) (0ᶠ ∷ 0ᶠ ∷ 1ᶠ ∷ 0ᶠ ∷ []) ∷ [])
+    ≡ (layout.Fault 14 ∷ layout.Fault 14 ∷ layout.Vertices 1 ∷ layout.Vertices 2 ∷ [])
+unfolding layoutsComputed
+closing = refl

@@ -9,7 +9,8 @@ use lib.Ieee.{Float}
 use borrow.Author.Tests.{leb-true}
 use Rattle.admission.specs.Faults.{fine, must, _⊳_}
 use Rattle.admission.proofs.FaultLaws.{no-fault, ⊳-fine, must-fine}
-use Rattle.obstacles.proofs.ObstacleFaults.{vertices-lent}
+use Rattle.admission.specs.Heads.{headOf}
+use Rattle.obstacles.proofs.ObstacleFaults.{outline-lent}
 use Rattle.dodgy_2d.specs.Scenes.{mostObstacles}
 use Rattle.layouts.specs.Layouts.{kindFault, countFault, ownKind, ownCount, ownFault, lentFault, layoutFault, vertexTotal, leftFault}
 use Rattle.layouts.proofs.LentInOrder.{count-room, front-of, own-room, own-there, here, lentLeft, lentLater, lent-more}
@@ -44,7 +45,7 @@ all-lent total (suc n) ks cs xs h e =
     let kind = kind-lent ks (k .0) in
     let count = count-lent total (ownKind ks) cs (c .0) in
     let room = count-room total (ownKind ks) cs (c .0) in
-    let own = vertices-lent (ownCount cs) xs (c .1) in
+    let own = outline-lent (headOf (ownKind ks) (ownCount cs)) xs (c .1) in
     let rest = all-lent (total + ownCount cs) n (drop 1 ks) (drop 1 cs) (drop (2 * ownCount cs) xs) (room .1) (a .1) in
     record {
       kinds = omega (arith, rest .kinds, length-drop 1 ks);

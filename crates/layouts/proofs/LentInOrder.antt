@@ -11,10 +11,10 @@ use lib.Seq.{drop-cons, drop-drop, getD-drop}
 use lib.Ieee.{Float}
 use borrow.Author.Tests.{le-leb, lt-leb, leb-true, leb-false}
 use Rattle.admission.specs.Faults.{Fault, fine, fault, must, _⊳_, unlessFault}
-use Rattle.admission.specs.Heads.{isKind, roomFor, isEmptyOpen}
+use Rattle.admission.specs.Heads.{headOf, isKind, roomFor, isEmptyOpen}
 use Rattle.admission.proofs.FaultLaws.{no-fault, ⊳-fine, must-fine}
 use Rattle.admission.proofs.HeadLaws.{room-within}
-use Rattle.obstacles.proofs.ObstacleFaults.{vertices-lent}
+use Rattle.obstacles.proofs.ObstacleFaults.{outline-lent}
 use Rattle.dodgy_2d.specs.Scenes.{mostObstacles}
 use Rattle.layouts.specs.declared.Layout.{Layout}
 use Rattle.layouts.specs.declared.Layout.the-variants as layout
@@ -110,7 +110,7 @@ unfolding ownFault
 own-there total ks cs xs h e =
     let k = ⊳-fine (kindFault ks) e in
     let c = ⊳-fine (countFault total (ownKind ks) cs) (k .1) in
-    let there = vertices-lent (ownCount cs) (drop (2 * total) xs) (c .1) in
+    let there = outline-lent (headOf (ownKind ks) (ownCount cs)) (drop (2 * total) xs) (c .1) in
     omega (arith, length-drop (2 * total) xs)
 
 -- ---- the whole

@@ -1,5 +1,5 @@
 -- Obstacles lent as numbers, and their first fault in the order of a scene's fields (02, T-01 "Refusals: 2 to 7 as in the reader's field order, 2 meaning fewer or
--- more numbers lent than the counts say", and T-08). Each list is what is left of what was lent. Definitions only. Assumes nothing.
+-- more numbers lent than the counts say", T-08 and T-11). Each list is what is left of what was lent. Definitions only. Assumes nothing.
 use Prim.Native.Nat.{ℕ, zero, suc, _+_, _*_}
 use mathlib.Core.Bool.{not}
 use mathlib.Core.List.{List, [], _∷_}
@@ -7,8 +7,8 @@ use lib.Dec.{leb}
 use lib.ListN.{length, drop, getD}
 use lib.Ieee.{Float}
 use Rattle.admission.specs.Faults.{Fault, fine, fault, must, _⊳_, unlessFault}
-use Rattle.admission.specs.Heads.{isKind, roomFor, isEmptyOpen}
-use Rattle.obstacles.specs.ObstacleFaults.{verticesFault}
+use Rattle.admission.specs.Heads.{headOf, isKind, roomFor, isEmptyOpen}
+use Rattle.obstacles.specs.ObstacleFaults.{outlineFault}
 use Rattle.dodgy_2d.specs.Scenes.{mostObstacles}
 use Rattle.layouts.specs.declared.Layout.{Layout}
 use Rattle.layouts.specs.declared.Layout.the-variants as layout
@@ -34,7 +34,7 @@ ownCount cs = getD cs 0 0
 
 -- the obstacle in front, behind the running total of vertices
 unfoldable pub ownFault : ℕ → List ℕ → List ℕ → List Float → Fault
-ownFault total ks cs xs = kindFault ks ⊳ countFault total (ownKind ks) cs ⊳ verticesFault (ownCount cs) xs
+ownFault total ks cs xs = kindFault ks ⊳ countFault total (ownKind ks) cs ⊳ outlineFault (headOf (ownKind ks) (ownCount cs)) xs
 
 -- obstacle by obstacle, as many as n
 unfoldable pub lentFault : ℕ → ℕ → List ℕ → List ℕ → List Float → Fault

@@ -18,7 +18,8 @@ pub enum Layout {
 
 // Judges lent obstacles in the order of a scene's fields. Refused: more than 16 obstacles (4); then for each obstacle no kind lent for it (2), its kind (3),
 // no count lent for it (2), more than 64 vertices or more than 192 with those before it (4), an open one with none (5); then for each of its vertices each
-// component, not lent (2), not finite or out of range (6). What is lent beyond the counts is not looked at: `judge_leftovers` tells it.
+// component, not lent (2), not finite or out of range (6), then a vertex that is the one before it again (14); behind a closed one's last that it is the first
+// again (14). What is lent beyond the counts is not looked at: `judge_leftovers` tells it.
 pub fn judge_layout(obstacles: usize, kinds: &[u8], counts: &[u8], vertices: &[f32]) -> Layout
     ensures { λ r. ⌜ r ≡ layoutIn obstacles (now (kinds .entry)) (now (counts .entry)) (now (vertices .entry)) ⌝ }
 {
@@ -107,6 +108,9 @@ fn judge_obstacle(i: usize, total: usize, kinds: &[u8], counts: &[u8], vertices:
     let Judged::Fine = count else {
         return count;
     };
-    let own = wide(byte_at(counts, i));
-    obstacles::judge_vertices(&vertices[2 * total..vertices.len()], own)
+    let own = Head {
+        kind: byte_at(kinds, i),
+        count: wide(byte_at(counts, i)),
+    };
+    obstacles::judge_outline(own, &vertices[2 * total..vertices.len()])
 }

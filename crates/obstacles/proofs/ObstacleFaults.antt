@@ -15,8 +15,11 @@ use Rattle.admission.specs.Faults.{Fault, fine, fault, must, _⊳_, within}
 use Rattle.admission.specs.Heads.{isKind, roomFor, isEmptyOpen}
 use Rattle.admission.proofs.FaultLaws.{no-fault, ⊳-fine, must-fine}
 use Rattle.admission.proofs.HeadLaws.{room-within}
+use Rattle.common.specs.declared.Vec2.{Vec2}
 use Rattle.common.specs.Vectors.{reach}
-use Rattle.obstacles.specs.ObstacleFaults.{numberFault, vertexFault, verticesFault, headFault, obstacleFault}
+use Rattle.edges.specs.Edges.{OuterVertex}
+use Rattle.obstacles.specs.Doubled.{noneBefore, onVertex}
+use Rattle.obstacles.specs.ObstacleFaults.{numberFault, componentsFault, frontOf, vertexFault, verticesFault, headFault, outlineFault, obstacleFault}
 
 -- ---- one number
 
@@ -37,50 +40,67 @@ number-lent passes (x ∷ xs) e = omega arith
 
 -- ---- vertices
 
-pub vertex-lent : (xs : List Float) → vertexFault xs ≡ fine → 2 ≤ length xs
-unfolding vertexFault
-vertex-lent xs e =
+components-lent : (xs : List Float) → componentsFault xs ≡ fine → 2 ≤ length xs
+unfolding componentsFault
+components-lent xs e =
     let y = number-lent (within reach) (drop 1 xs) (⊳-fine (numberFault (within reach) xs) e .1) in
     omega (arith, length-drop 1 xs)
 
-pub vertices-lent : (n : ℕ) (xs : List Float) → verticesFault n xs ≡ fine → 2 * n ≤ length xs
+-- those at the i-th, behind as many vertices that are there
+pub components-there : (xs : List Float) (i : ℕ) → fine ≡ componentsFault (drop (2 * i) xs) → 2 * i + 2 ≤ length xs
+components-there xs i e =
+    let own = components-lent (drop (2 * i) xs) (sym e) in
+    omega (arith, length-drop (2 * i) xs)
+
+pub vertex-lent : (before : OuterVertex) (xs : List Float) → vertexFault before xs ≡ fine → 2 ≤ length xs
+unfolding vertexFault
+vertex-lent before xs e = components-lent xs (⊳-fine (componentsFault xs) e .0)
+
+pub vertices-lent : (before : OuterVertex) (n : ℕ) (xs : List Float) → verticesFault before n xs ≡ fine → 2 * n ≤ length xs
 unfolding verticesFault
-vertices-lent zero xs e = omega arith
-vertices-lent (suc n) xs e =
-    let a = ⊳-fine (vertexFault xs) e in
-    let first = vertex-lent xs (a .0) in
-    let rest = vertices-lent n (drop 2 xs) (a .1) in
+vertices-lent before zero xs e = omega arith
+vertices-lent before (suc n) xs e =
+    let a = ⊳-fine (vertexFault before xs) e in
+    let first = vertex-lent before xs (a .0) in
+    let rest = vertices-lent (onVertex before (frontOf xs)) n (drop 2 xs) (a .1) in
     omega (arith, length-drop 2 xs)
 
--- those from the i-th of n on
-module _ (xs : List Float) (n i : ℕ) where
-  abbrev pub verticesFrom : ℕ → Fault
-  verticesFrom k = verticesFault (n - k) (drop (2 * k) xs)
+-- those from the i-th of n on, behind the one before them
+module _ (xs : List Float) (n i : ℕ) (before : OuterVertex) where
+  abbrev pub verticesFrom : OuterVertex → ℕ → Fault
+  verticesFrom u k = verticesFault u (n - k) (drop (2 * k) xs)
 
-  vertex-more : i < n → verticesFrom i ≡ (vertexFault (drop (2 * i) xs) ⊳ verticesFrom (i + 1))
+  abbrev own : Fault
+  own = vertexFault before (drop (2 * i) xs)
+
+  vertex-more : i < n → verticesFrom before i ≡ (own ⊳ verticesFrom (onVertex before (frontOf (drop (2 * i) xs))) (i + 1))
   unfolding verticesFault
   vertex-more h =
       let e : n - i ≡ suc (n - (i + 1)) = omega arith in
       let f : 2 * (i + 1) ≡ 2 * i + 2 = omega arith in
       rw (e, f, ← drop-drop 2 (2 * i) xs)
 
-  pub vertex-on : i < n → fine ≡ vertexFault (drop (2 * i) xs) → verticesFrom i ≡ verticesFrom (i + 1)
-  vertex-on h e = vertex-more h ∙ rw (← e)
+  pub vertex-on : (v : Vec2) → i < n → fine ≡ own → v ≡ frontOf (drop (2 * i) xs) → verticesFrom before i ≡ verticesFrom (onVertex before v) (i + 1)
+  vertex-on v h e f = vertex-more h ∙ rw (← e, ← f)
 
-  pub vertex-stop : (r : ℕ) → i < n → fault r ≡ vertexFault (drop (2 * i) xs) → verticesFrom i ≡ fault r
+  pub vertex-stop : (r : ℕ) → i < n → fault r ≡ own → verticesFrom before i ≡ fault r
   vertex-stop r h e = vertex-more h ∙ rw (← e)
 
-  pub vertices-done : n ≤ i → verticesFrom i ≡ fine
+  pub vertices-done : n ≤ i → verticesFrom before i ≡ fine
   unfolding verticesFault
   vertices-done h =
       let e : n - i ≡ 0 = omega arith in
       rw e
 
   -- a vertex that passes is there, with those before it
-  pub next-lent : 2 * i ≤ length xs → fine ≡ vertexFault (drop (2 * i) xs) → 2 * (i + 1) ≤ length xs
+  pub next-lent : 2 * i ≤ length xs → fine ≡ own → 2 * (i + 1) ≤ length xs
   next-lent h e =
-      let own = vertex-lent (drop (2 * i) xs) (sym e) in
+      let there = vertex-lent before (drop (2 * i) xs) (sym e) in
       omega (arith, length-drop (2 * i) xs)
+
+pub outline-lent : (h : Head) (xs : List Float) → outlineFault h xs ≡ fine → 2 * h .count ≤ length xs
+unfolding outlineFault
+outline-lent h xs e = vertices-lent noneBefore (h .count) xs (⊳-fine (verticesFault noneBefore (h .count) xs) e .0)
 
 -- ---- the obstacle
 
@@ -100,7 +120,7 @@ pub just-lent : (h : Head) (xs : List Float) → obstacleFault h xs ≡ fine →
 unfolding obstacleFault
 just-lent h xs e =
     let a = ⊳-fine (headFault 0 h) e in
-    let b = ⊳-fine (verticesFault (h .count) xs) (a .1) in
-    let there = vertices-lent (h .count) xs (b .0) in
+    let b = ⊳-fine (outlineFault h xs) (a .1) in
+    let there = outline-lent h xs (b .0) in
     let none : length xs ≤ 2 * h .count = leb-true _ _ (must-fine (leb (length xs) (2 * h .count)) 2 (b .1)) in
     (head-room 0 h (a .0) .0, omega arith)

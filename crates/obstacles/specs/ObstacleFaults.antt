@@ -1,19 +1,21 @@
 -- What is admitted of an agent and of an obstacle whose vertices are lent as numbers: the first fault in the order of a record's fields (01, "What is admitted",
--- "Refusal numbers"). Definitions only. Assumes nothing.
+-- "Refusal numbers"; 02, T-11). Definitions only. Assumes nothing.
 use Prim.Native.Nat.{ℕ, zero, suc, _*_}
 use mathlib.Core.Bool.{Bool, not}
 use mathlib.Core.List.{List, [], _∷_}
 use lib.Dec.{leb}
-use lib.ListN.{length, drop}
-use lib.Ieee.{Float}
+use lib.ListN.{length, take, drop, getD}
+use lib.Ieee.{Float, nan}
 use Rattle.arithmetic.specs.Binary32.{0ᶠ}
 use Rattle.admission.specs.Faults.{Fault, fine, fault, must, _⊳_, within, inside}
 use Rattle.admission.specs.declared.Head.{Head}
 use Rattle.admission.specs.Heads.{isKind, roomFor, isEmptyOpen}
 use Rattle.common.specs.declared.Vec2.{Vec2}
-use Rattle.common.specs.Vectors.{reach, longest}
+use Rattle.common.specs.Vectors.{vec, reach, longest}
 use Rattle.edges.specs.declared.Agent.{Agent}
-use Rattle.edges.specs.Edges.{shortestHorizon, longestHorizon}
+use Rattle.edges.specs.Edges.{OuterVertex, shortestHorizon, longestHorizon}
+use Rattle.obstacles.specs.Vertices.{verticesOf}
+use Rattle.obstacles.specs.Doubled.{follows, noneBefore, onVertex, closes}
 
 -- ---- the agent
 
@@ -36,13 +38,25 @@ unfoldable pub numberFault : (Float → Bool) → List Float → Fault
 numberFault passes [] = fault 2
 numberFault passes (x ∷ xs) = must (passes x) 6
 
-unfoldable pub vertexFault : List Float → Fault
-vertexFault xs = numberFault (within reach) xs ⊳ numberFault (within reach) (drop 1 xs)
+unfoldable pub componentsFault : List Float → Fault
+componentsFault xs = numberFault (within reach) xs ⊳ numberFault (within reach) (drop 1 xs)
 
--- as many as n, vertex by vertex
-unfoldable pub verticesFault : ℕ → List Float → Fault
-verticesFault zero xs = fine
-verticesFault (suc n) xs = vertexFault xs ⊳ verticesFault n (drop 2 xs)
+-- the vertex in front
+abbrev pub frontOf : List Float → Vec2
+frontOf xs = vec (getD xs 0 nan) (getD xs 1 nan)
+
+-- 02, T-11: "14, at the second vertex of the pair after its own check for 6"
+unfoldable pub vertexFault : OuterVertex → List Float → Fault
+vertexFault before xs = componentsFault xs ⊳ must (follows before (frontOf xs)) 14
+
+-- as many as n, vertex by vertex, each behind the one before it
+unfoldable pub verticesFault : OuterVertex → ℕ → List Float → Fault
+verticesFault before zero xs = fine
+verticesFault before (suc n) xs = vertexFault before xs ⊳ verticesFault (onVertex before (frontOf xs)) n (drop 2 xs)
+
+-- 02, T-11: "the closing pair after the last vertex"
+unfoldable pub outlineFault : Head → List Float → Fault
+outlineFault h xs = verticesFault noneBefore (h .count) xs ⊳ must (closes (h .kind) (verticesOf (take (2 * h .count) xs))) 14
 
 -- ---- the obstacle
 
@@ -55,4 +69,4 @@ headFault total h =
 
 -- one that is lent alone: no obstacle before it, its vertices, and no number left over (2)
 unfoldable pub obstacleFault : Head → List Float → Fault
-obstacleFault h xs = headFault 0 h ⊳ verticesFault (h .count) xs ⊳ must (leb (length xs) (2 * h .count)) 2
+obstacleFault h xs = headFault 0 h ⊳ outlineFault h xs ⊳ must (leb (length xs) (2 * h .count)) 2

@@ -1,18 +1,23 @@
 // What is admitted of an obstacle whose vertices are lent as numbers, two a vertex.
 use crate::judge_head;
-use crate::judge_vertices;
+use crate::judge_outline;
+use crate::may_follow;
+use crate::vertices::vertex_at;
 use admission::Head;
 use admission::Judged;
 use admission::fault_unless;
 use admission::first_of;
 use admission::is_within;
 use common::Vec2;
+use edges::Outer;
 ghost use mathlib.Core.Path.{_≡_};
 ghost use Prim.Native.Nat.{_*_, _≤_};
 ghost use lib.ListN.{length, drop};
 ghost use Rattle.admission.specs.Faults.{faultOf, within};
 ghost use Rattle.common.specs.Vectors.{reach};
-ghost use Rattle.obstacles.specs.ObstacleFaults.{numberFault, vertexFault, obstacleFault};
+ghost use Rattle.edges.specs.Read.{outerOf};
+ghost use Rattle.obstacles.specs.Doubled.{noneBefore};
+ghost use Rattle.obstacles.specs.ObstacleFaults.{numberFault, componentsFault, vertexFault, verticesFault, obstacleFault};
 
 // A vertex's component: missing (2), not finite or out of range (6).
 fn judge_number(numbers: &[f32], at: usize) -> Judged
@@ -24,10 +29,10 @@ fn judge_number(numbers: &[f32], at: usize) -> Judged
     Judged::Fault(2)
 }
 
-// The vertex at an index, behind as many that are there.
-pub(crate) fn judge_vertex(vertices: &[f32], i: usize) -> Judged
+// The components of the vertex at an index, behind as many vertices that are there.
+fn judge_components(vertices: &[f32], i: usize) -> Judged
     requires { ⌜ 2 * i ≤ length (now vertices) ⌝ }
-    ensures { λ r. ⌜ faultOf r ≡ vertexFault (drop (2 * i) (now (vertices .entry))) ⌝ }
+    ensures { λ r. ⌜ faultOf r ≡ componentsFault (drop (2 * i) (now (vertices .entry))) ⌝ }
 {
     let k = 2 * i;
     let x = judge_number(vertices, k);
@@ -35,7 +40,36 @@ pub(crate) fn judge_vertex(vertices: &[f32], i: usize) -> Judged
     first_of(x, y)
 }
 
-// The first fault of an obstacle that is lent alone: its head, its vertices (2, 6), numbers left over (2).
+// The vertex at an index: its components, then whether it is the one before it again (14).
+fn judge_vertex(previous: Outer, vertices: &[f32], i: usize) -> Judged
+    requires { ⌜ 2 * i ≤ length (now vertices) ⌝ }
+    ensures { λ r. ⌜ faultOf r ≡ vertexFault (outerOf previous) (drop (2 * i) (now (vertices .entry))) ⌝ }
+{
+    let judged = judge_components(vertices, i);
+    let Judged::Fine = judged else {
+        return judged;
+    };
+    fault_unless(may_follow(previous, vertex_at(vertices, i)), 14)
+}
+
+// The first `count` vertices, each behind the one before it.
+pub(crate) fn judge_vertices(vertices: &[f32], count: usize) -> Judged
+    ensures { λ r. ⌜ faultOf r ≡ verticesFault noneBefore count (now (vertices .entry)) ⌝ }
+{
+    let mut previous = Outer::Absent;
+    let mut i = 0usize;
+    while i < count {
+        let judged = judge_vertex(previous, vertices, i);
+        let Judged::Fine = judged else {
+            return judged;
+        };
+        previous = Outer::At(vertex_at(vertices, i));
+        i += 1;
+    }
+    Judged::Fine
+}
+
+// The first fault of an obstacle that is lent alone: its head, its vertices (2, 6, 14), numbers left over (2).
 pub(crate) fn judge_obstacle(head: Head, vertices: &[f32]) -> Judged
     ensures { λ r. ⌜ faultOf r ≡ obstacleFault head (now (vertices .entry)) ⌝ }
 {
@@ -43,7 +77,7 @@ pub(crate) fn judge_obstacle(head: Head, vertices: &[f32]) -> Judged
     let Judged::Fine = known else {
         return known;
     };
-    let judged = judge_vertices(vertices, head.count);
+    let judged = judge_outline(head, vertices);
     let Judged::Fine = judged else {
         return judged;
     };

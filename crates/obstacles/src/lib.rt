@@ -7,11 +7,15 @@ use admission::is_inside;
 use admission::is_within;
 use common::Vec2;
 use edges::Agent;
+use edges::Outer;
 use lines::Line;
 ghost use mathlib.Core.Path.{_≡_};
 ghost use Rattle.admission.specs.Faults.{faultOf};
-ghost use Rattle.obstacles.specs.ObstacleFaults.{vectorFault, agentFault, headFault, verticesFault};
+ghost use Rattle.obstacles.specs.ObstacleFaults.{vectorFault, agentFault, headFault, outlineFault};
+ghost use Rattle.edges.specs.Read.{outerOf};
 ghost use Rattle.lines.specs.Lines.{linesOf};
+ghost use Rattle.obstacles.specs.Vertices.{verticesOf};
+ghost use Rattle.obstacles.specs.Doubled.{doubled, follows, closes};
 ghost use Rattle.obstacles.specs.Obstacles.{obstacleCall, edgeCount, lineAlone, endsOf};
 ghost use Rattle.obstacles.specs.Read.{admittedOf, answerAs};
 
@@ -41,7 +45,8 @@ pub(crate) enum AddedLines {
 
 // The lines that an obstacle asks an agent to keep to: its kind is 1 (closed) or 2 (open), it has `count` vertices, and the numbers are theirs, two a vertex.
 // Refused in the order of a record's fields: position, velocity, margin or horizon not finite or out of range (6), another kind (3), more than 64 vertices (4),
-// open with none (5), each vertex's component missing (2) or out of range (6), numbers left over (2); then an edge whose line is not admitted (9).
+// open with none (5), each vertex's component missing (2) or out of range (6), a vertex that is the one before it again, or the first again behind the last of a
+// closed one (14), numbers left over (2); then an edge whose line is not admitted (9).
 pub fn get_lines_for_agent_to_obstacle(
     agent: Agent,
     kind: u8,
@@ -155,18 +160,48 @@ pub fn judge_head(total: usize, head: Head) -> Judged
     first_of(known, first_of(fits, some))
 }
 
-// An obstacle's vertices, the first `count` of the numbers, two a vertex: each component missing (2), not finite or out of range (6). Numbers behind them are
-// not looked at.
-pub fn judge_vertices(vertices: &[f32], count: usize) -> Judged
-    ensures { λ r. ⌜ faultOf r ≡ verticesFault count (now (vertices .entry)) ⌝ }
+// An obstacle's vertices, the first of the numbers, two a vertex: each component missing (2), not finite or out of range (6), then a vertex that is the one
+// before it again (14); behind the last, in a closed obstacle, that it is the first again (14). Numbers behind them are not looked at.
+pub fn judge_outline(head: Head, vertices: &[f32]) -> Judged
+    ensures { λ r. ⌜ faultOf r ≡ outlineFault head (now (vertices .entry)) ⌝ }
 {
-    let mut i = 0usize;
-    while i < count {
-        let judged = judge::judge_vertex(vertices, i);
-        let Judged::Fine = judged else {
-            return judged;
-        };
-        i += 1;
+    let judged = judge::judge_vertices(vertices, head.count);
+    let Judged::Fine = judged else {
+        return judged;
+    };
+    fault_unless(may_close(head.kind, &vertices[0..2 * head.count]), 14)
+}
+
+// Whether two vertices are equal by value: zeros of either sign are.
+fn is_doubled(u: Vec2, v: Vec2) -> bool
+    ensures { λ r. ⌜ r ≡ doubled u v ⌝ }
+{
+    u.x == v.x && u.y == v.y
+}
+
+// Whether a vertex may stand behind the one before it, which it must not be again; before the first there is none.
+pub fn may_follow(previous: Outer, vertex: Vec2) -> bool
+    ensures { λ r. ⌜ r ≡ follows (outerOf previous) vertex ⌝ }
+{
+    match previous {
+        Outer::At(other) => !is_doubled(other, vertex),
+        Outer::Absent => true,
     }
-    Judged::Fine
+}
+
+// Whether an obstacle's last vertex may stand before its first, which in a closed obstacle it must not be again: so one of a single vertex may not. Every kind
+// but 2 is taken as closed, and an odd number at the end is passed over.
+pub fn may_close(kind: u8, vertices: &[f32]) -> bool
+    ensures { λ r. ⌜ r ≡ closes kind (verticesOf (now (vertices .entry))) ⌝ }
+{
+    let count = vertices.len() / 2;
+    if count < 1 {
+        return true;
+    }
+    if kind == Head::OPEN {
+        return true;
+    }
+    let last = vertices::vertex_at(vertices, count - 1);
+    let first = vertices::vertex_at(vertices, 0);
+    !is_doubled(last, first)
 }

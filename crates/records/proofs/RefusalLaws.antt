@@ -1,20 +1,23 @@
--- Every refusal of a record has a number from 1 to 10, and the answer reader takes the program's reply to it. Assumes nothing.
+-- Every refusal of a record has a number from 1 to 10, or 14, and the answer reader takes the program's reply to it. Assumes nothing.
 use Prim.Native.Nat.{ℕ, zero, suc, _+_, _-_, _≤_}
 use native.Mathlib.Omega.{arith}
 use mathlib.Core.Path.{_≡_, refl, sym, _∙_}
-use mathlib.Core.Bool.{Bool, true, false, not, _&&_}
+use mathlib.Core.Bool.{Bool, true, false, not, _&&_, _||_}
+use mathlib.Core.Logic.{_⊎_, inl, inr, ⊎-elim}
 use mathlib.Core.List.{List}
 use lib.Dec.{leb, eqb}
 use lib.ListN.{length}
 use lib.Ieee.{Float, binary32, ofBits}
-use borrow.Author.Tests.{leb-true}
+use borrow.Author.Tests.{leb-true, eqb-true, le-leb}
 use Rattle.arithmetic.specs.Binary32.{finite}
-use Rattle.arithmetic.proofs.Choice.{and-left, and-right}
-use Rattle.admission.specs.Faults.{fine, inside}
+use Rattle.arithmetic.proofs.Choice.{and-left, and-right, or-cases}
+use Rattle.admission.specs.Faults.{fine, within, inside}
 use Rattle.admission.specs.Heads.{isKind, roomFor, isEmptyOpen}
 use Rattle.admission.proofs.FaultLaws.{no-fault}
 use Rattle.lines.specs.LineFaults.{bandLow, bandHigh}
-use Rattle.common.specs.Vectors.{lengthSquaredOf}
+use Rattle.common.specs.Vectors.{reach, lengthSquaredOf}
+use Rattle.edges.specs.Edges.{OuterVertex}
+use Rattle.obstacles.specs.Doubled.{follows, noneBefore, onVertex, closes}
 use Rattle.dodgy_2d.specs.declared.Scene.{Scene}
 use Rattle.dodgy_2d.specs.Scenes.{sceneFault}
 use Rattle.dodgy_2d.specs.Outcomes.{SceneOutcome, outcome, refusedScene, sceneOutcome}
@@ -23,18 +26,30 @@ use Rattle.fields.specs.Got.{Got, refused, got, then, guard, word, many}
 use Rattle.scene_records.specs.Steps.{count, number, vector, ended}
 use Rattle.scene_records.specs.declared.Version.{Version}
 use Rattle.scene_records.specs.declared.Version.the-variants.{One, Two}
-use Rattle.scene_records.specs.Parts.{cart, head, verticesAt, obstacle, obstacles, neighbour}
+use Rattle.scene_records.specs.Parts.{cart, head, vertex, verticesAt, outline, obstacle, obstacles, neighbour}
 use Rattle.scene_records.specs.Records.{announced}
 use Rattle.scene_records.specs.Versions.{longestEither, longestOf, isEither, eitherVersion, lineNumber, numberedLine, numberedLines, fieldsWith, behindVersion, Numbered as NumberedSceneRead, sceneIn}
 use Rattle.scene_records.proofs.ReadAdmitted.{read-admitted}
 use Rattle.answer_records.specs.Replies as said
-use Rattle.answer_records.specs.Replies.{answerIn}
+use Rattle.answer_records.specs.Replies.{isRefusalCode, answerIn}
 use Rattle.answer_records.proofs.RoundTrips.{refusal-read-back}
 use Rattle.records.specs.Answered as one
 
--- a number from 1 to 10, said by a test: so of a number that is written out it is plain
+-- a number from 1 to 10, or 14, said by a test: so of a number that is written out it is plain
 abbrev Numbered : ℕ → Type 0
-Numbered r = (leb 1 r && leb r 10) ≡ true
+Numbered r = ((leb 1 r && leb r 10) || eqb r 14) ≡ true
+
+numbered-cases : (r : ℕ) → Numbered r → ((1 ≤ r) × (r ≤ 10)) ⊎ (r ≡ 14)
+numbered-cases r h =
+    ⊎-elim
+    (λ d. inl (leb-true 1 r (and-left (leb 1 r) (leb r 10) d), leb-true r 10 (and-right (leb 1 r) (leb r 10) d)))
+    (λ d. inr (eqb-true r 14 d))
+    (or-cases (leb 1 r && leb r 10) (eqb r 14) h)
+
+-- the answer reader takes the code of each
+numbered-taken : (r : ℕ) → ((1 ≤ r) × (r ≤ 10)) ⊎ (r ≡ 14) → isRefusalCode (128 + r) ≡ true
+numbered-taken r (inl h) = rw (le-leb 129 (128 + r) (omega (arith, h .0)), le-leb (128 + r) 138 (omega (arith, h .1)))
+numbered-taken r (inr e) = rw e
 
 -- ---- the reader's
 
@@ -72,6 +87,10 @@ module _ (s : List ℕ) where
   unfolding vector
   vector-numbered passes at = then-numbered (number passes s at) _ (number-numbered passes at) λ x a. then-numbered (number passes s a) _ (number-numbered passes a) λ y b. read
 
+  vertex-numbered : (before : OuterVertex) (at : ℕ) → NumberedReading (vertex s before at)
+  unfolding vertex
+  vertex-numbered before at = then-numbered (vector (within reach) s at) _ (vector-numbered (within reach) at) λ v a. guard-numbered (follows before v) 14 _ refl read
+
   count-numbered : (most at : ℕ) → NumberedReading (count most s at)
   unfolding count
   count-numbered most at = byte-numbered at _ λ n a. guard-numbered (leb n most) 4 _ refl read
@@ -83,10 +102,12 @@ module _ (s : List ℕ) where
       byte-numbered a _ λ c b. guard-numbered (roomFor total c) 4 _ refl (guard-numbered (not (isEmptyOpen k c)) 5 _ refl read))
 
   obstacle-numbered : (total at : ℕ) → NumberedReading (obstacle s total at)
-  unfolding obstacle verticesAt
+  unfolding obstacle outline verticesAt
   obstacle-numbered total at =
       then-numbered (head s total at) _ (head-numbered total at) λ h a.
-      then-numbered (verticesAt s (h .count) a) _ (many-numbered _ _ (λ u. vector-numbered _) (h .count) tt a) λ vs b. read
+      then-numbered (outline s h a) _
+      (then-numbered (verticesAt s noneBefore (h .count) a) _ (many-numbered (vertex s) onVertex vertex-numbered (h .count) noneBefore a) λ vs b. guard-numbered (closes (h .kind) vs) 14 _ refl read)
+      λ vs b. read
 
   neighbour-numbered : (at : ℕ) → NumberedReading (neighbour s at)
   unfolding neighbour
@@ -155,14 +176,12 @@ reading-numbered : (s : List ℕ) (g : Got NumberedSceneRead) → sceneIn s ≡ 
 reading-numbered s (refused m) z h r e = rw (← same-number m r e) (refused-numbered h)
 reading-numbered s (got x m) z h r e = solve-numbered (x .scene) (read-admitted s x m z) (sceneOutcome (x .scene)) (scene-told (x .scene)) r e
 
--- A record's refusal has a number from 1 to 10 ..
-pub refusal-numbered : (s : List ℕ) (r : ℕ) → one.answered s ≡ one.refusal r → (1 ≤ r) × (r ≤ 10)
+-- A record's refusal has a number from 1 to 10, or 14 ..
+pub refusal-numbered : (s : List ℕ) (r : ℕ) → one.answered s ≡ one.refusal r → ((1 ≤ r) × (r ≤ 10)) ⊎ (r ≡ 14)
 unfolding one.answered
-refusal-numbered s r e =
-    let h = reading-numbered s (sceneIn s) refl (scene-numbered s) r e in
-    (leb-true 1 r (and-left (leb 1 r) (leb r 10) h), leb-true r 10 (and-right (leb 1 r) (leb r 10) h))
+refusal-numbered s r e = numbered-cases r (reading-numbered s (sceneIn s) refl (scene-numbered s) r e)
 
 -- .. and the answer reader takes the reply.
 pub refusal-taken : (s : List ℕ) (r : ℕ) → one.answered s ≡ one.refusal r → answerIn (one.replyTo s) ≡ said.refusal r
 unfolding one.replyTo
-refusal-taken s r e = let h = refusal-numbered s r e in rw e (refusal-read-back r (h .0) (h .1))
+refusal-taken s r e = rw e (refusal-read-back r (numbered-taken r (refusal-numbered s r e)))

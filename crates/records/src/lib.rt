@@ -71,7 +71,7 @@ pub(crate) enum Step {
 }
 
 // Answers one scene record: the 18 bytes of its outcome at the buffer's start; bytes behind them keep their contents. Refused, with
-// the buffer as it was: a buffer of fewer than 18 bytes (10), then the record (1 to 7), then an edge line that is not admitted (9).
+// the buffer as it was: a buffer of fewer than 18 bytes (10), then the record (1 to 7, 14), then an edge line that is not admitted (9).
 pub fn answer_record(bytes: &[u8], buffer: &mut [u8]) -> Judged
     ensures { λ r. ⌜ writtenOf r (now (buffer .exit)) ≡ answerTo (now (bytes .entry)) (now (buffer .entry)) ⌝ }
 {

@@ -10,6 +10,8 @@ use lib.Ieee.{Float}
 use Rattle.admission.specs.Faults.{within}
 use Rattle.common.specs.declared.Vec2.{Vec2}
 use Rattle.common.specs.Vectors.{reach}
+use Rattle.edges.specs.Edges.{OuterVertex}
+use Rattle.obstacles.specs.Doubled.{noneBefore, onVertex}
 use Rattle.lines.specs.declared.Line.{Line}
 use Rattle.fields.specs.Got.{Got, got, word, many}
 use Rattle.fields.proofs.ChainLaws.{then-got, cons-got, got-same}
@@ -18,9 +20,9 @@ use Rattle.scene_records.specs.declared.Cart.{Cart}
 use Rattle.scene_records.specs.declared.Version.{Version}
 use Rattle.scene_records.specs.declared.Version.the-variants.{One, Two}
 use Rattle.scene_records.specs.Steps.{number, vector}
-use Rattle.scene_records.specs.Parts.{cart, verticesAt, Obstacle, obstacle, obstacles, neighbour}
+use Rattle.scene_records.specs.Parts.{cart, vertex, verticesAt, Obstacle, obstacle, obstacles, neighbour}
 use Rattle.scene_records.specs.Versions.{lineNumber, NumberedLine, numberedLine, numberedLines, SceneParts, partsIn}
-use Rattle.scene_records.proofs.Taken.{number-taken, vector-taken, cart-taken, obstacle-taken, line-taken}
+use Rattle.scene_records.proofs.Taken.{number-taken, vector-taken, cart-taken, vertex-taken, obstacle-taken, line-taken}
 use Rattle.scene_moves.specs.Moves.{numberSize, lineSize}
 use Rattle.scene_moves.proofs.VersionParts.{parts-taken}
 
@@ -56,11 +58,14 @@ module _ (s : List ℕ) where
       cart-taken s at x m z λ a b d e f p v g h w l read-p read-v read-g read-h read-w read-l same.
       omega (arith, vector-place _ at p a read-p, vector-place _ a v b read-v, number-place _ b g d read-g, number-place _ d h e read-h, vector-place _ e w f read-w, number-place _ f l m read-l)
 
+  vertex-place : (before : OuterVertex) (at : ℕ) (v : Vec2) (m : ℕ) → vertex s before at ≡ got v m → m ≡ at + 8
+  vertex-place before at v m e = vertex-taken s before at v m e λ p t. vector-place (within reach) at v m p
+
   obstacle-onward : (total at : ℕ) (o : Obstacle) (m : ℕ) → obstacle s total at ≡ got o m → at ≤ m
   unfolding verticesAt
   obstacle-onward total at o m e =
-      obstacle-taken s total at o m e λ a b read-k known read-n room some read-vs.
-      omega (arith, word-fits s 1 at (o .kind) a read-k .0, word-fits s 1 a _ b read-n .0, many-places (λ (u : Unit {0}). vector (within reach) s) (λ u v. u) 8 (λ u. vector-place (within reach)) _ tt b (o .vertices) m read-vs)
+      obstacle-taken s total at o m e λ a b read-k known read-n room some read-vs pair.
+      omega (arith, word-fits s 1 at (o .kind) a read-k .0, word-fits s 1 a _ b read-n .0, many-places (vertex s) onVertex 8 vertex-place _ noneBefore b (o .vertices) m read-vs)
 
   line-place : (at : ℕ) (l : Line) (m : ℕ) → neighbour s at ≡ got l m → m ≡ at + 16
   line-place at l m e = line-taken s at l m e λ a read-p read-d band. omega (arith, vector-place _ at (l .point) a read-p, vector-place _ a (l .direction) m read-d)

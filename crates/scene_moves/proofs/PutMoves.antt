@@ -30,15 +30,19 @@ pub part-put : (l r part : List ℕ) (at from count : ℕ) → at + count ≤ le
 part-put l r part at from count room there e =
     let same : from + count - from ≡ count = omega arith in
     let size : length (take count (drop from r)) ≡ count =
-        length-take-le count (drop from r) (rw length-drop (omega arith)) in
+    length-take-le count (drop from r) (rw length-drop (omega arith)) in
     let short : length (drop at l) ≤ length l - at = rw length-drop (omega arith) in
     let none : postOf at (length l - at) l ≡ [] = drop-of-length-le (drop at l) short in
     let held : part ≡ take count (drop from r) ++ drop (at + length (take count (drop from r))) l =
-    rw (same, rest-of at l, take-length (take count (drop from r)),
-        drop-drop (length (take count (drop from r))) at l) at e in
+    rw (
+      same,
+      rest-of at l,
+      take-length (take count (drop from r)),
+      drop-drop (length (take count (drop from r))) at l,
+    ) at e in
     rw (none, append-nil, held)
     (sym (append-assoc (take at l) (take count (drop from r)) (drop (at + length (take count (drop from r))) l))
-        ∙ sym (sets-eq (take count (drop from r)) l at (rw size room)))
+    ∙ sym (sets-eq (take count (drop from r)) l at (rw size room)))
 
 -- ---- the start
 
@@ -46,9 +50,14 @@ pub start-put : (l p b whole s : List ℕ) (size version start : ℕ) → p ≡ 
     b ≡ sets p 2 (version ∷ []) → whole ≡ sets b 3 (take (start - 3) (drop 3 s))
     → whole ≡ sets l 0 (bigEndian 2 (size - 2) ++ (version ∷ []) ++ take (start - 3) (drop 3 s))
 start-put l p b whole s size version start e f g =
-    rw (sets-append l 0 (bigEndian 2 (size - 2) ++ (version ∷ [])) (take (start - 3) (drop 3 s)),
-        sets-append l 0 (bigEndian 2 (size - 2)) (version ∷ []),
-        length-append (bigEndian 2 (size - 2)) (version ∷ []), length-big-endian 2 (size - 2), ← e, ← f) g
+    rw (
+      sets-append l 0 (bigEndian 2 (size - 2) ++ (version ∷ [])) (take (start - 3) (drop 3 s)),
+      sets-append l 0 (bigEndian 2 (size - 2)) (version ∷ []),
+      length-append (bigEndian 2 (size - 2)) (version ∷ []),
+      length-big-endian 2 (size - 2),
+      ← e,
+      ← f,
+    ) g
 
 -- ---- the lines
 
@@ -64,7 +73,7 @@ lineMoved v w r = numberBytes w 0 ++ take 16 (drop (numberSize v) r)
 line-long : (v w : Version) (r : List ℕ) → lineSize v ≤ length r → length (lineMoved v w r) ≡ lineSize w
 line-long v w r h =
     let size : length (take 16 (drop (numberSize v) r)) ≡ 16 =
-        length-take-le 16 (drop (numberSize v) r) (rw length-drop (omega arith)) in
+    length-take-le 16 (drop (numberSize v) r) (rw length-drop (omega arith)) in
     length-append (numberBytes w 0) (take 16 (drop (numberSize v) r)) ∙ rw (number-long w 0, size)
 
 -- ---- one line put
@@ -112,13 +121,20 @@ module _ (v w : Version) (b₀ s : List ℕ) (start n : ℕ) where
       let place : start + lineSize w * (i + 1) ≡ start + lineSize w * i + lineSize w = omega (arith, one-more w i) in
       let next : start + lineSize v * (i + 1) ≡ start + lineSize v * i + lineSize v = omega (arith, one-more v i) in
       let rest : drop (start + lineSize v * (i + 1)) s ≡ drop (lineSize v) r =
-          ap (λ (k : ℕ). drop k s) next ∙ sym (drop-drop (lineSize v) (start + lineSize v * i) s) in
+      ap (λ (k : ℕ). drop k s) next ∙ sym (drop-drop (lineSize v) (start + lineSize v * i) s) in
       record {
         within = omega arith;
         sized = size ∙ p .sized;
         same = p .same
-            ∙ rw (left, sets-append b (start + lineSize w * i) (lineMoved v w r)
-            (movedLines v w (n - (i + 1)) (drop (lineSize v) r)), line-long v w r long, ← e, place, rest);
+            ∙ rw (
+              left,
+              sets-append b (start + lineSize w * i) (lineMoved v w r)
+                  (movedLines v w (n - (i + 1)) (drop (lineSize v) r)),
+              line-long v w r long,
+              ← e,
+              place,
+              rest,
+            );
       }
 
   pub putting-done : (b : List ℕ) (i : ℕ) → Putting b i → n ≤ i → b ≡ sets b₀ start (movedLines v w n (drop start s))
@@ -135,7 +151,7 @@ lines-long v w (suc n) r h =
     let one : lineSize v ≤ length r = omega (arith, mul-suc (lineSize v) n) in
     let rest : lineSize v * n ≤ length (drop (lineSize v) r) = rw length-drop (omega (arith, mul-suc (lineSize v) n)) in
     length-append (lineMoved v w r) (movedLines v w n (drop (lineSize v) r))
-        ∙ rw (line-long v w r one, lines-long v w n (drop (lineSize v) r) rest) (omega (arith, mul-suc (lineSize w) n))
+    ∙ rw (line-long v w r one, lines-long v w n (drop (lineSize v) r) rest) (omega (arith, mul-suc (lineSize w) n))
 
 module _ (v w : Version) (n : ℕ) (s : List ℕ) (room : 41 + lineSize v * n ≤ length s) where
   abbrev start : ℕ
@@ -147,10 +163,13 @@ module _ (v w : Version) (n : ℕ) (s : List ℕ) (room : 41 + lineSize v * n �
   start-long : length startBytes ≡ start
   start-long =
       let size : length (take (start - 3) (drop 3 s)) ≡ start - 3 =
-          length-take-le (start - 3) (drop 3 s) (rw length-drop (omega arith)) in
+      length-take-le (start - 3) (drop 3 s) (rw length-drop (omega arith)) in
       length-append (bigEndian 2 (movedLength v w n s - 2) ++ (byteOf w ∷ [])) (take (start - 3) (drop 3 s))
-      ∙ rw (length-append (bigEndian 2 (movedLength v w n s - 2)) (byteOf w ∷ []),
-          length-big-endian 2 (movedLength v w n s - 2), size) (omega arith)
+      ∙ rw (
+        length-append (bigEndian 2 (movedLength v w n s - 2)) (byteOf w ∷ []),
+        length-big-endian 2 (movedLength v w n s - 2),
+        size,
+      ) (omega arith)
 
   pub moved-long : length (movedBytes v w n s) ≡ movedLength v w n s
   unfolding movedBytes

@@ -11,14 +11,16 @@ use Rattle.admission.specs.Faults.{within}
 use Rattle.common.specs.declared.Vec2.{Vec2}
 use Rattle.lines.specs.declared.Line.{Line}
 use Rattle.common.specs.Vectors.{reach}
+use Rattle.edges.specs.Edges.{OuterVertex}
+use Rattle.obstacles.specs.Doubled.{noneBefore, onVertex}
 use Rattle.fields.specs.Got.{Got, got, many}
 use Rattle.fields.proofs.Backs.{Every}
 use Rattle.fields.proofs.ChainLaws.{then-got, cons-got, got-same}
 use Rattle.scene_records.specs.declared.Cart.{Cart}
 use Rattle.scene_records.specs.Steps.{number, vector}
-use Rattle.scene_records.specs.Parts.{cart, verticesAt, Obstacle, sizeOf, obstacle, obstacles, neighbour}
-use Rattle.scene_records.proofs.Taken.{number-taken, vector-taken, cart-taken, obstacle-taken, line-taken}
-use Rattle.scene_records.proofs.WrittenParts.{Good, GoodVector, GoodCart, GoodObstacle, GoodLine, onTotal}
+use Rattle.scene_records.specs.Parts.{cart, vertex, verticesAt, Obstacle, sizeOf, obstacle, obstacles, neighbour}
+use Rattle.scene_records.proofs.Taken.{number-taken, vector-taken, cart-taken, vertex-taken, obstacle-taken, line-taken}
+use Rattle.scene_records.proofs.WrittenParts.{Good, GoodVector, GoodCart, GoodVertex, GoodObstacle, GoodLine, onTotal}
 
 is-true : (b : Bool) → T b → b ≡ true
 is-true true h = refl
@@ -53,15 +55,19 @@ module _ (s : List ℕ) where
         limit = number-good _ f l m read-l;
       })
 
+  vertex-good : (before : OuterVertex) (at : ℕ) (v : Vec2) (m : ℕ) → vertex s before at ≡ got v m → GoodVertex before v
+  vertex-good before at v m e = vertex-taken s before at v m e λ p t. record { vector = vector-good (within reach) at v m p; apart = t }
+
   obstacle-good : (total at : ℕ) (o : Obstacle) (m : ℕ) → obstacle s total at ≡ got o m → GoodObstacle total o
   unfolding verticesAt
   obstacle-good total at o m e =
-      obstacle-taken s total at o m e λ a b read-k known read-n room some read-vs.
+      obstacle-taken s total at o m e λ a b read-k known read-n room some read-vs pair.
       record {
         kind = known;
         room = room;
         some = some;
-        vertices = many-good (λ (u : Unit {0}). vector (within reach) s) (λ u v. u) (λ (u : Unit {0}). GoodVector (within reach)) (λ u. vector-good (within reach)) _ tt b (o .vertices) m read-vs;
+        vertices = many-good (vertex s) onVertex GoodVertex vertex-good _ noneBefore b (o .vertices) m read-vs;
+        closed = pair;
       }
 
   pub obstacles-good : (n total at : ℕ) (os : List Obstacle) (m : ℕ) → obstacles s n total at ≡ got os m → Every GoodObstacle onTotal total os

@@ -14,14 +14,15 @@ use Rattle.common.specs.declared.Vec2.{Vec2}
 use Rattle.common.specs.Vectors.{vec, reach, longest, lengthSquaredOf}
 use Rattle.lines.specs.Lines.{line}
 use Rattle.lines.specs.LineFaults.{lineReach, bandLow, bandHigh}
-use Rattle.edges.specs.Edges.{shortestHorizon, longestHorizon}
+use Rattle.edges.specs.Edges.{OuterVertex, shortestHorizon, longestHorizon}
+use Rattle.obstacles.specs.Doubled.{follows}
 use Rattle.words.specs.Words.{wordOf}
 use Rattle.fields.specs.Got.{refused, got, then, guard, word}
 use Rattle.fields.proofs.WordLaws.{word-there}
 use Rattle.scene_records.specs.declared.Cursor.{Cursor}
 use Rattle.scene_records.specs.declared.Cursor.the-variants as cursor
 use Rattle.scene_records.specs.Steps.{from, told, held, version, count, number, vector, ended}
-use Rattle.scene_records.specs.Parts.{cartOf, cart, head, neighbour}
+use Rattle.scene_records.specs.Parts.{cartOf, cart, head, vertex, neighbour}
 use Rattle.scene_records.proofs.Cursors.{linked, held-from, told-from}
 
 module _ (s : List ℕ) where
@@ -71,6 +72,11 @@ module _ (s : List ℕ) where
   unfolding neighbour
   line-read c d e p q read-p read-q =
       sym (linked (vector (within lineReach) s) _ c d p read-p ∙ linked (vector finite s) _ d e q read-q ∙ held-from (inside bandLow bandHigh (lengthSquaredOf q)) 7 e (got (line p q)) ∙ told-from _ (line p q))
+
+  pub vertex-read : (before : OuterVertex) (c d : Cursor) (v : Vec2) → told d v ≡ from c (vector (within reach) s) → told (held (follows before v) 14 d) v ≡ from c (vertex s before)
+  unfolding vertex
+  vertex-read before c d v e =
+      sym (linked (vector (within reach) s) (λ v a. guard (follows before v) 14 (got v a)) c d v e ∙ held-from (follows before v) 14 d (got v) ∙ told-from _ v)
 
   pub head-read : (total : ℕ) (c d e f : Cursor) (k n : ℕ) → told d k ≡ from c (word 1 s) → told e n ≡ from (held (isKind k) 3 d) (word 1 s)
       → f ≡ held (not (isEmptyOpen k n)) 5 (held (roomFor total n) 4 e) → told f (headOf k n) ≡ from c (head s total)

@@ -8,25 +8,29 @@ use lib.ListN.{length, length-map}
 use lib.Ieee.{Float}
 use borrow.Author.Tests.{le-leb}
 use Rattle.admission.specs.Faults.{fine, within}
+use Rattle.admission.specs.Heads.{headOf}
 use Rattle.common.specs.declared.Vec2.{Vec2}
 use Rattle.lines.specs.declared.Line.{Line}
 use Rattle.lines.specs.LineFaults.{lineFault, linesFault}
 use Rattle.common.specs.Vectors.{reach}
+use Rattle.edges.specs.Edges.{OuterVertex}
 use Rattle.dodgy_2d.specs.declared.Scene.{Scene}
-use Rattle.obstacles.specs.ObstacleFaults.{vectorFault, agentFault, numberFault, vertexFault, verticesFault, headFault}
+use Rattle.obstacles.specs.Doubled.{noneBefore, onVertex, closes}
+use Rattle.obstacles.specs.ObstacleFaults.{vectorFault, agentFault, numberFault, componentsFault, vertexFault, verticesFault, headFault, outlineFault}
 use Rattle.dodgy_2d.specs.Scenes.{headsOf, cartFault, obstaclesFault, sceneFault}
 use Rattle.fields.specs.Bytes.{each}
 use Rattle.fields.specs.Got.{got, many}
 use Rattle.fields.proofs.ChainLaws.{then-got, cons-got, got-same}
 use Rattle.scene_records.specs.declared.Cart.{Cart}
 use Rattle.scene_records.specs.Steps.{number, vector}
-use Rattle.scene_records.specs.Parts.{cart, coordinates, verticesAt, Obstacle, sizeOf, kindOf, numbersIn, obstacle, obstacles, neighbour, neighbours}
+use Rattle.scene_records.specs.Parts.{cart, coordinates, vertex, verticesAt, Obstacle, sizeOf, kindOf, numbersIn, obstacle, obstacles, neighbour, neighbours}
 use Rattle.scene_records.specs.Records.{sceneOf, sceneInVersion1}
 use Rattle.scene_records.specs.declared.Version.{Version}
 use Rattle.scene_records.specs.Versions.{lineNumber, NumberedLine, numberedLine, numberedLines, lineOf, Numbered, sceneMade, sceneIn}
-use Rattle.scene_records.proofs.Taken.{number-taken, vector-taken, cart-taken, obstacle-taken, line-taken, fields-taken, scene-taken-version-1, numbered-taken, record-taken}
+use Rattle.scene_records.proofs.Taken.{number-taken, vector-taken, cart-taken, vertex-taken, obstacle-taken, line-taken, fields-taken, scene-taken-version-1, numbered-taken, record-taken}
 use Rattle.scene_records.proofs.VersionLaws.{either-taken}
-use Rattle.scene_records.proofs.SceneParts.{later-vertices, vertices-front, heads-back, neighbours-back}
+use Rattle.scene_records.proofs.SceneParts.{own-vertices, later-vertices, vertices-front, heads-back, neighbours-back}
+use Rattle.scene_records.proofs.WallLaws.{vertices-back}
 use Rattle.scene_records.proofs.ReadBytes.{obstacles-total}
 
 module _ (s : List ℕ) where
@@ -46,14 +50,20 @@ module _ (s : List ℕ) where
       cart-taken s at x m z λ a b d e f p v g t w l read-p read-v read-g read-t read-w read-l same.
       rw (← same) (rw (vector-fine at p a read-p, vector-fine a v b read-v, number-passed _ b g d read-g, number-passed _ d t e read-t, vector-fine e w f read-w, number-passed _ f l m read-l) refl)
 
-  vertices-fine : (n at : ℕ) (vs : List Vec2) (m : ℕ) (behind : List Float) → verticesAt s n at ≡ got vs m → verticesFault n (each coordinates vs ++ behind) ≡ fine
-  unfolding verticesAt many each numberFault vertexFault verticesFault
-  vertices-fine zero at vs m behind e = refl
-  vertices-fine (suc n) at vs m behind e =
-      then-got (vector (within reach) s at) _ e λ v a p r.
-      cons-got v (verticesAt s n a) r λ rest q u.
-      let h = vector-passed (within reach) at v a p in
-      rw (u, h .0, h .1) (vertices-fine n a rest m behind q)
+  vertices-fine : (before : OuterVertex) (n at : ℕ) (vs : List Vec2) (m : ℕ) (behind : List Float) → verticesAt s before n at ≡ got vs m → verticesFault before n (each coordinates vs ++ behind) ≡ fine
+  unfolding verticesAt many each numberFault componentsFault vertexFault verticesFault
+  vertices-fine before zero at vs m behind e = refl
+  vertices-fine before (suc n) at vs m behind e =
+      then-got (vertex s before at) _ e λ v a p r.
+      cons-got v (verticesAt s (onVertex before v) n a) r λ rest q u.
+      vertex-taken s before at v a p λ read apart.
+      let h = vector-passed (within reach) at v a read in
+      rw (u, h .0, h .1, apart) (vertices-fine (onVertex before v) n a rest m behind q)
+
+  outline-fine : (o : Obstacle) (at m : ℕ) (behind : List Float) → verticesAt s noneBefore (sizeOf o) at ≡ got (o .vertices) m → closes (o .kind) (o .vertices) ≡ true
+      → outlineFault (headOf (o .kind) (sizeOf o)) (numbersIn o ++ behind) ≡ fine
+  unfolding outlineFault
+  outline-fine o at m behind e h = rw (vertices-fine noneBefore (sizeOf o) at (o .vertices) m behind e, own-vertices o behind, vertices-back (o .vertices), h)
 
   obstacles-fine : (n total at : ℕ) (os : List Obstacle) (m : ℕ) (rest : List Float) → obstacles s n total at ≡ got os m
       → obstaclesFault total (headsOf (map kindOf os) (map sizeOf os)) (each numbersIn os ++ rest) ≡ fine
@@ -62,8 +72,8 @@ module _ (s : List ℕ) where
   obstacles-fine (suc n) total at os m rest e =
       then-got (obstacle s total at) _ e λ o a p r.
       cons-got o (obstacles s n (total + sizeOf o) a) r λ more q u.
-      obstacle-taken s total at o a p λ b d read-k known read-n room some read-vs.
-      rw (u, known, room, some, append-assoc (numbersIn o) (each numbersIn more) rest, later-vertices o (each numbersIn more ++ rest), vertices-fine (sizeOf o) d (o .vertices) a (each numbersIn more ++ rest) read-vs)
+      obstacle-taken s total at o a p λ b d read-k known read-n room some read-vs pair.
+      rw (u, known, room, some, append-assoc (numbersIn o) (each numbersIn more) rest, later-vertices o (each numbersIn more ++ rest), outline-fine o d a (each numbersIn more ++ rest) read-vs pair)
       (obstacles-fine n (total + sizeOf o) a more m rest q)
 
   line-fine : (at : ℕ) (l : Line) (m : ℕ) → neighbour s at ≡ got l m → lineFault l ≡ fine

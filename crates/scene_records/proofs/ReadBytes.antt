@@ -17,6 +17,8 @@ use Rattle.common.specs.declared.Vec2.{Vec2}
 use Rattle.lines.specs.declared.Line.{Line}
 use Rattle.lines.specs.LineFaults.{lineReach}
 use Rattle.common.specs.Vectors.{reach}
+use Rattle.edges.specs.Edges.{OuterVertex}
+use Rattle.obstacles.specs.Doubled.{noneBefore, onVertex}
 use Rattle.dodgy_2d.specs.declared.Scene.{Scene}
 use Rattle.fields.specs.Bytes.{bigEndian, each, AllBytes}
 use Rattle.fields.specs.Got.{got, many}
@@ -24,10 +26,10 @@ use Rattle.fields.proofs.ChainLaws.{then-got, cons-got, got-same}
 use Rattle.fields.proofs.Spans.{Span, join, word-span, many-span}
 use Rattle.scene_records.specs.declared.Cart.{Cart}
 use Rattle.scene_records.specs.Steps.{number, vector}
-use Rattle.scene_records.specs.Parts.{cart, verticesAt, Obstacle, sizeOf, numbersIn, obstacle, obstacles, neighbour, neighbours}
+use Rattle.scene_records.specs.Parts.{cart, vertex, verticesAt, Obstacle, sizeOf, numbersIn, obstacle, obstacles, neighbour, neighbours}
 use Rattle.scene_records.specs.Records.{sceneInVersion1}
 use Rattle.scene_records.specs.SceneBytes.{numberBytes, vectorBytes, cartBytes, obstacleBytes, lineBytes, bodyBytes, recordBytes, sceneBytes}
-use Rattle.scene_records.proofs.Taken.{number-taken, vector-taken, cart-taken, obstacle-taken, line-taken, fields-taken, scene-taken-version-1}
+use Rattle.scene_records.proofs.Taken.{number-taken, vector-taken, cart-taken, vertex-taken, obstacle-taken, line-taken, fields-taken, scene-taken-version-1}
 use Rattle.scene_records.proofs.WallLaws.{length-coordinates}
 use Rattle.scene_records.proofs.SceneParts.{obstacles-back, neighbours-back}
 
@@ -70,7 +72,7 @@ obstacles-total s zero total at os m t e = rw (← got-same e .0) (omega arith)
 obstacles-total s (suc n) total at os m t e =
     then-got (obstacle s total at) _ e λ o a p r.
     cons-got o (obstacles s n (total + sizeOf o) a) r λ rest q u.
-    obstacle-taken s total at o a p λ b d read-k known read-n room some read-vs.
+    obstacle-taken s total at o a p λ b d read-k known read-n room some read-vs pair.
     let fits : total + sizeOf o ≤ 192 = room-within total (sizeOf o) room .1 in
     let ih : 2 * (total + sizeOf o) + length (each numbersIn rest) ≤ 384 = obstacles-total s n (total + sizeOf o) a rest m fits q in
     rw (u, length-append (numbersIn o) (each numbersIn rest), length-coordinates (o .vertices)) (omega arith)
@@ -97,12 +99,15 @@ module _ (s : List ℕ) (h : AllBytes s) where
       rw (← same) (join (join (join (join (join (vector-span _ (within-nan reach) at p a read-p) (vector-span _ (within-nan reach) a v b read-v)) (number-span _ (inside-nan _ _) b g d read-g))
       (number-span _ (inside-nan _ _) d t e read-t)) (vector-span _ (within-nan reach) e w f read-w)) (number-span _ (inside-nan _ _) f l m read-l))
 
+  vertex-span : (before : OuterVertex) (at : ℕ) (v : Vec2) (m : ℕ) → vertex s before at ≡ got v m → Span s at (vectorBytes v) m
+  vertex-span before at v m e = vertex-taken s before at v m e λ p t. vector-span (within reach) (within-nan reach) at v m p
+
   pub obstacle-span : (total at : ℕ) (o : Obstacle) (m : ℕ) → obstacle s total at ≡ got o m → Span s at (obstacleBytes o) m
   unfolding obstacleBytes verticesAt
   obstacle-span total at o m e =
-      obstacle-taken s total at o m e λ a b read-k known read-n room some read-vs.
+      obstacle-taken s total at o m e λ a b read-k known read-n room some read-vs pair.
       join (join (word-span s h 1 at (o .kind) a read-k .1) (word-span s h 1 a (length (o .vertices)) b read-n .1))
-      (many-span s (λ (u : Unit {0}). vector (within reach) s) (λ u v. u) vectorBytes (λ u. vector-span (within reach) (within-nan reach)) (length (o .vertices)) tt b (o .vertices) m read-vs)
+      (many-span s (vertex s) onVertex vectorBytes vertex-span (length (o .vertices)) noneBefore b (o .vertices) m read-vs)
 
   pub line-span : (at : ℕ) (l : Line) (m : ℕ) → neighbour s at ≡ got l m → Span s at (lineBytes l) m
   unfolding lineBytes

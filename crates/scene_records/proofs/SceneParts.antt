@@ -20,7 +20,7 @@ use Rattle.scene_records.specs.declared.Cart.{Cart}
 use Rattle.scene_records.specs.Parts.{coordinates, Obstacle, sizeOf, kindOf, numbersIn, blankBytes, blankVertices}
 use Rattle.scene_records.specs.Records.{sceneOf}
 use Rattle.scene_records.specs.SceneBytes.{withVertices, obstaclesIn}
-use Rattle.scene_records.proofs.WallLaws.{length-coordinates}
+use Rattle.scene_records.proofs.WallLaws.{length-coordinates, vertices-back}
 
 -- values stored from the start on stand in front
 stored-front : {A : Type 0} (l xs : List A) → length xs ≤ length l → sets l 0 xs ≡ xs ++ drop (length xs) l
@@ -30,11 +30,6 @@ pub front-back : {A : Type 0} (l xs : List A) → length xs ≤ length l → tak
 front-back l xs h = rw (stored-front l xs h) (take-at xs (drop (length xs) l) (length xs) refl)
 
 -- ---- obstacles
-
-vertices-back : (vs : List Vec2) → verticesOf (each coordinates vs) ≡ vs
-unfolding verticesOf each
-vertices-back [] = refl
-vertices-back (v ∷ vs) = ap (λ (l : List Vec2). v ∷ l) (vertices-back vs)
 
 -- an obstacle's own vertices stand in front of those behind it
 pub own-vertices : (o : Obstacle) (more : List Float) → take (2 * sizeOf o) (numbersIn o ++ more) ≡ numbersIn o

@@ -15,16 +15,16 @@ use Rattle.scene_records.specs.Steps.{from, told}
 use Rattle.scene_records.specs.Parts.{stored}
 use Rattle.scene_records.proofs.Cursors.{linked}
 
-module _ {A : Type 0} (numbers : A → List Float) (w : ℕ) (long : (a : A) → length (numbers a) ≡ w) (step : ℕ → Got A) where
-  -- n steps of the same kind
-  abbrev run : ℕ → ℕ → Got (List A)
-  run n at = many (λ (u : Unit {0}). step) (λ u a. u) n tt at
+module _ {A S : Type 0} (numbers : A → List Float) (w : ℕ) (long : (a : A) → length (numbers a) ≡ w) (step : S → ℕ → Got A) (on : S → A → S) where
+  -- n steps of the same kind, each with the state that those before it left
+  abbrev run : S → ℕ → ℕ → Got (List A)
+  run state n at = many step on n state at
 
-  pub stored-done : (all : List Float) (place : ℕ) (c : Cursor) (n i : ℕ) → n ≤ i → told c all ≡ stored numbers all place (from c (run (n - i)))
+  pub stored-done : (all : List Float) (place : ℕ) (c : Cursor) (state : S) (n i : ℕ) → n ≤ i → told c all ≡ stored numbers all place (from c (run state (n - i)))
   unfolding told from stored many each
-  stored-done all place c n i h = let e : n - i ≡ 0 = omega arith in rw e (go c)
+  stored-done all place c state n i h = let e : n - i ≡ 0 = omega arith in rw e (go c)
     where
-      go : (c : Cursor) → told c all ≡ stored numbers all place (from c (run 0))
+      go : (c : Cursor) → told c all ≡ stored numbers all place (from c (run state 0))
       go (cursor.At at) = refl
       go (cursor.Fault r) = refl
 
@@ -33,14 +33,17 @@ module _ {A : Type 0} (numbers : A → List Float) (w : ℕ) (long : (a : A) →
   behind all place a (refused r) = refl
   behind all place a (got l k) = ap (λ (v : List Float). got v k) (sets-append all place (numbers a) (each numbers l) ∙ rw (long a))
 
-  from-behind : (all : List Float) (place : ℕ) (a : A) (d : Cursor) (n : ℕ) → stored numbers all place (from d λ m. then (run n m) λ l k. got (a ∷ l) k) ≡ stored numbers (sets all place (numbers a)) (place + w) (from d (run n))
+  from-behind : (all : List Float) (place : ℕ) (a : A) (d : Cursor) (state : S) (n : ℕ)
+      → stored numbers all place (from d λ m. then (run state n m) λ l k. got (a ∷ l) k) ≡ stored numbers (sets all place (numbers a)) (place + w) (from d (run state n))
   unfolding from stored
-  from-behind all place a (cursor.At at) n = behind all place a (run n at)
-  from-behind all place a (cursor.Fault r) n = refl
+  from-behind all place a (cursor.At at) state n = behind all place a (run state n at)
+  from-behind all place a (cursor.Fault r) state n = refl
 
-  pub stored-next : (all all' : List Float) (place place' : ℕ) (c d : Cursor) (a : A) (n i : ℕ) → i < n → told d a ≡ from c step → all' ≡ sets all place (numbers a) → place + w ≡ place'
-      → stored numbers all place (from c (run (n - i))) ≡ stored numbers all' place' (from d (run (n - (i + 1))))
+  pub stored-next : (all all' : List Float) (place place' : ℕ) (c d : Cursor) (state : S) (a : A) (n i : ℕ) → i < n → told d a ≡ from c (step state)
+      → all' ≡ sets all place (numbers a) → place + w ≡ place'
+      → stored numbers all place (from c (run state (n - i))) ≡ stored numbers all' place' (from d (run (on state a) (n - (i + 1))))
   unfolding many
-  stored-next all all' place place' c d a n i h e put on =
+  stored-next all all' place place' c d state a n i h e put next =
       let k : n - i ≡ suc (n - (i + 1)) = omega arith in
-      rw (k, put, ← on) (ap (stored numbers all place) (linked step (λ a m. then (run (n - (i + 1)) m) λ l k. got (a ∷ l) k) c d a e) ∙ from-behind all place a d (n - (i + 1)))
+      let rest : A → ℕ → Got (List A) = λ a m. then (run (on state a) (n - (i + 1)) m) λ l k. got (a ∷ l) k in
+      rw (k, put, ← next) (ap (stored numbers all place) (linked (step state) rest c d a e) ∙ from-behind all place a d (on state a) (n - (i + 1)))

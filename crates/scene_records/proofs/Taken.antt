@@ -16,13 +16,14 @@ use Rattle.common.specs.Vectors.{reach, longest, lengthSquaredOf}
 use Rattle.lines.specs.declared.Line.{Line}
 use Rattle.lines.specs.LineFaults.{lineReach, bandLow, bandHigh}
 use Rattle.dodgy_2d.specs.declared.Scene.{Scene}
-use Rattle.edges.specs.Edges.{shortestHorizon, longestHorizon}
+use Rattle.edges.specs.Edges.{OuterVertex, shortestHorizon, longestHorizon}
+use Rattle.obstacles.specs.Doubled.{follows, noneBefore, onVertex, closes}
 use Rattle.fields.specs.Got.{got, word}
 use Rattle.fields.proofs.ChainLaws.{got-same, then-got, guard-got, many-length}
 use Rattle.fields.proofs.Spans.{word-fits}
 use Rattle.scene_records.specs.declared.Cart.{Cart}
 use Rattle.scene_records.specs.Steps.{number, vector, version, count, ended}
-use Rattle.scene_records.specs.Parts.{cartOf, cart, head, verticesAt, Obstacle, obstacle, obstacles, neighbour, neighbours}
+use Rattle.scene_records.specs.Parts.{cartOf, cart, head, vertex, verticesAt, outline, Obstacle, obstacle, obstacles, neighbour, neighbours}
 use Rattle.scene_records.specs.Records.{sceneOf, fieldsIn, longestRest, announced, sceneInVersion1}
 use Rattle.scene_records.specs.declared.Version.{Version}
 use Rattle.scene_records.specs.Versions.{byteOf, longestEither, longestOf, NumberedLine, numberedLines, fieldsWith, behindVersion, recordWith}
@@ -71,18 +72,30 @@ module _ {C : Type 0} (s : List ℕ) where
       let size : n ≡ h .count = ap (λ (f : Head). f .count) (got-same z .0) in
       next a (rw kind at read-k) (rw kind at known) (rw (size, got-same z .1) at read-n) (rw size at room) (rw (kind, size) at some)
 
+  pub vertex-taken : (before : OuterVertex) (at : ℕ) (v : Vec2) (m : ℕ) → vertex s before at ≡ got v m → (vector (within reach) s at ≡ got v m → follows before v ≡ true → C) → C
+  unfolding vertex
+  vertex-taken before at v m e next =
+      then-got (vector (within reach) s at) _ e λ w a p r.
+      guard-got (follows before w) 14 _ r λ t q.
+      next (p ∙ rw (got-same q .0, got-same q .1)) (rw (got-same q .0) at t)
+
   pub obstacle-taken : (total at : ℕ) (o : Obstacle) (m : ℕ) → obstacle s total at ≡ got o m
       → ((a b : ℕ) → word 1 s at ≡ got (o .kind) a → isKind (o .kind) ≡ true → word 1 s a ≡ got (length (o .vertices)) b → roomFor total (length (o .vertices)) ≡ true
-      → not (isEmptyOpen (o .kind) (length (o .vertices))) ≡ true → verticesAt s (length (o .vertices)) b ≡ got (o .vertices) m → C) → C
-  unfolding obstacle verticesAt
+      → not (isEmptyOpen (o .kind) (length (o .vertices))) ≡ true → verticesAt s noneBefore (length (o .vertices)) b ≡ got (o .vertices) m
+      → closes (o .kind) (o .vertices) ≡ true → C) → C
+  unfolding obstacle outline verticesAt
   obstacle-taken total at o m e next =
       then-got (head s total at) _ e λ h b p r.
-      then-got (verticesAt s (h .count) b) _ r λ vs i q t.
+      then-got (outline s h b) _ r λ vs i q t.
+      then-got (verticesAt s noneBefore (h .count) b) _ q λ ws j u w.
+      guard-got (closes (h .kind) ws) 14 _ w λ pair last.
       head-taken total at h b p λ a read-k known read-n room some.
       let kind : h .kind ≡ o .kind = ap (λ (f : Obstacle). f .kind) (got-same t .0) in
-      let read : verticesAt s (h .count) b ≡ got (o .vertices) m = q ∙ rw (got-same t .1) (ap (λ (f : Obstacle). got (f .vertices) m) (got-same t .0)) in
-      let size : h .count ≡ length (o .vertices) = sym (many-length (λ (u : Unit {0}). vector (within reach) s) (λ u v. u) (h .count) tt b (o .vertices) m read) in
-      next a b (rw kind at read-k) (rw kind at known) (rw size at read-n) (rw size at room) (rw (kind, size) at some) (rw size at read)
+      let own : ws ≡ o .vertices = got-same last .0 ∙ ap (λ (f : Obstacle). f .vertices) (got-same t .0) in
+      let place : j ≡ m = got-same last .1 ∙ got-same t .1 in
+      let read : verticesAt s noneBefore (h .count) b ≡ got (o .vertices) m = u ∙ rw (own, place) in
+      let size : h .count ≡ length (o .vertices) = sym (many-length (vertex s) onVertex (h .count) noneBefore b (o .vertices) m read) in
+      next a b (rw kind at read-k) (rw kind at known) (rw size at read-n) (rw size at room) (rw (kind, size) at some) (rw size at read) (rw (kind, own) at pair)
 
   pub line-taken : (at : ℕ) (l : Line) (m : ℕ) → neighbour s at ≡ got l m
       → ((a : ℕ) → vector (within lineReach) s at ≡ got (l .point) a → vector finite s a ≡ got (l .direction) m → inside bandLow bandHigh (lengthSquaredOf (l .direction)) ≡ true → C) → C

@@ -20,14 +20,15 @@ use Rattle.common.specs.declared.Vec2.{Vec2}
 use Rattle.common.specs.Vectors.{reach, longest, lengthSquaredOf}
 use Rattle.lines.specs.declared.Line.{Line}
 use Rattle.lines.specs.LineFaults.{lineReach, bandLow, bandHigh}
-use Rattle.edges.specs.Edges.{shortestHorizon, longestHorizon}
+use Rattle.edges.specs.Edges.{OuterVertex, shortestHorizon, longestHorizon}
+use Rattle.obstacles.specs.Doubled.{follows, noneBefore, onVertex, closes}
 use Rattle.fields.specs.Bytes.{bigEndian, each}
 use Rattle.fields.specs.Got.{got, word}
 use Rattle.fields.proofs.ByteLaws.{length-big-endian}
 use Rattle.fields.proofs.Backs.{Back, taking, word-back, Every, many-back}
 use Rattle.scene_records.specs.declared.Cart.{Cart}
 use Rattle.scene_records.specs.Steps.{number, vector, version, count, ended}
-use Rattle.scene_records.specs.Parts.{cart, head, verticesAt, Obstacle, sizeOf, obstacle, obstacles, neighbour, neighbours}
+use Rattle.scene_records.specs.Parts.{cart, head, vertex, verticesAt, outline, Obstacle, sizeOf, obstacle, obstacles, neighbour, neighbours}
 use Rattle.scene_records.specs.Records.{sceneOf, fieldsIn, longestRest, announced, sceneInVersion1}
 use Rattle.scene_records.specs.SceneBytes.{numberBytes, vectorBytes, cartBytes, obstacleBytes, lineBytes, bodyBytes, recordBytes}
 
@@ -50,11 +51,16 @@ pub record GoodCart (c : Cart) : Type 0 where
   pub wish : GoodVector (within reach) (c .wish)
   pub limit : Good (inside 0ᶠ longest) (c .limit)
 
+pub record GoodVertex (before : OuterVertex) (v : Vec2) : Type 0 where
+  pub vector : GoodVector (within reach) v
+  pub apart : follows before v ≡ true
+
 pub record GoodObstacle (total : ℕ) (o : Obstacle) : Type 0 where
   pub kind : isKind (o .kind) ≡ true
   pub room : roomFor total (sizeOf o) ≡ true
   pub some : not (isEmptyOpen (o .kind) (sizeOf o)) ≡ true
-  pub vertices : Every (λ (u : Unit {0}). GoodVector (within reach)) (λ u v. u) tt (o .vertices)
+  pub vertices : Every GoodVertex onVertex noneBefore (o .vertices)
+  pub closed : closes (o .kind) (o .vertices) ≡ true
 
 pub record GoodLine (l : Line) : Type 0 where
   pub point : GoodVector (within lineReach) (l .point)
@@ -110,14 +116,20 @@ module _ (s : List ℕ) where
       taking (vector-back _ p1 (l .direction) r (ok .direction) l1) λ p2 g2 i2 l2.
       record { place = p2; gives = rw (g1, g2, ok .band); bound = i2; left = l2 }
 
+  vertex-back : (before : OuterVertex) (at : ℕ) (v : Vec2) (r : List ℕ) → GoodVertex before v → drop at s ≡ vectorBytes v ++ r → Back s (vertex s before at) v r
+  unfolding vertex
+  vertex-back before at v r ok e =
+      taking (vector-back (within reach) at v r (ok .vector) e) λ a g i l.
+      record { place = a; gives = rw (g, ok .apart); bound = i; left = l }
+
   pub obstacle-back : (total at : ℕ) (o : Obstacle) (r : List ℕ) → GoodObstacle total o → drop at s ≡ obstacleBytes o ++ r → Back s (obstacle s total at) o r
-  unfolding obstacleBytes verticesAt obstacle head
+  unfolding obstacleBytes verticesAt outline obstacle head
   obstacle-back total at o r ok e =
       let small = room-within total (sizeOf o) (ok .room) .0 in
       taking (word-back s 1 at (o .kind) _ (lit< tt) (kind-small (o .kind) (ok .kind)) (simp append-assoc at e)) λ p1 g1 i1 l1.
       taking (word-back s 1 p1 (sizeOf o) _ (lit< tt) (omega arith) l1) λ p2 g2 i2 l2.
-      taking (many-back s (λ (u : Unit {0}). vector (within reach) s) (λ u v. u) vectorBytes _ (λ u at v r. vector-back (within reach) at v r) (o .vertices) tt p2 r i2 (ok .vertices) l2) λ p3 g3 i3 l3.
-      record { place = p3; gives = rw (g1, ok .kind, g2, ok .room, ok .some, g3); bound = i3; left = l3 }
+      taking (many-back s (vertex s) onVertex vectorBytes GoodVertex vertex-back (o .vertices) noneBefore p2 r i2 (ok .vertices) l2) λ p3 g3 i3 l3.
+      record { place = p3; gives = rw (g1, ok .kind, g2, ok .room, ok .some, g3, ok .closed); bound = i3; left = l3 }
 
   module _ (x : Cart) (os : List Obstacle) (ls : List Line) (ok : GoodParts x os ls) where
     fields-give : (at a b d e f g : ℕ) → word 1 s at ≡ got 1 a → cart s a ≡ got x b → word 1 s b ≡ got (length os) d → obstacles s (length os) 0 d ≡ got os e

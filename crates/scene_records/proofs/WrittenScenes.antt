@@ -14,7 +14,7 @@ use Rattle.admission.specs.Faults.{fine, must, within, inside}
 use Rattle.admission.proofs.FaultLaws.{no-fault, ⊳-fine, must-fine}
 use Rattle.admission.proofs.HeadLaws.{room-within}
 use Rattle.common.specs.declared.Vec2.{Vec2}
-use Rattle.common.specs.Vectors.{reach, longest, lengthSquaredOf}
+use Rattle.common.specs.Vectors.{vec, reach, longest, lengthSquaredOf}
 use Rattle.lines.specs.declared.Line.{Line}
 use Rattle.lines.specs.Lines.{linesOf}
 use Rattle.lines.specs.LineFaults.{lineReach, bandLow, bandHigh, lineFault, linesFault}
@@ -22,8 +22,9 @@ use Rattle.lines.proofs.Rows.{lines-long}
 use Rattle.obstacles.specs.Vertices.{verticesOf}
 use Rattle.obstacles.proofs.VertexNumbers.{vertices-long}
 use Rattle.dodgy_2d.specs.declared.Scene.{Scene}
-use Rattle.edges.specs.Edges.{shortestHorizon, longestHorizon}
-use Rattle.obstacles.specs.ObstacleFaults.{vectorFault, agentFault, numberFault, vertexFault, verticesFault, headFault}
+use Rattle.edges.specs.Edges.{OuterVertex, shortestHorizon, longestHorizon}
+use Rattle.obstacles.specs.Doubled.{noneBefore, onVertex}
+use Rattle.obstacles.specs.ObstacleFaults.{vectorFault, agentFault, numberFault, componentsFault, vertexFault, verticesFault, headFault, outlineFault}
 use Rattle.dodgy_2d.specs.Scenes.{headsOf, headsIn, neighboursIn, cartFault, obstaclesFault, sceneFault}
 use Rattle.obstacles.proofs.ObstacleFaults.{head-passed}
 use Rattle.dodgy_2d.proofs.ScenePasses.{parts}
@@ -31,7 +32,7 @@ use Rattle.fields.specs.Got.{got}
 use Rattle.fields.proofs.Backs.{Every}
 use Rattle.scene_records.specs.Records.{sceneOf, sceneInVersion1}
 use Rattle.scene_records.specs.SceneBytes.{cartIn, withVertices, obstaclesIn, sceneBytes}
-use Rattle.scene_records.proofs.WrittenParts.{Good, GoodVector, GoodCart, GoodObstacle, GoodLine, GoodParts, onTotal, parts-read-version-1}
+use Rattle.scene_records.proofs.WrittenParts.{Good, GoodVector, GoodCart, GoodVertex, GoodObstacle, GoodLine, GoodParts, onTotal, parts-read-version-1}
 
 -- ---- what every value of the code's type has: its numbers are f32, and its arrays have their lengths
 
@@ -97,24 +98,30 @@ good-cart c t e =
       limit = good (inside 0ᶠ longest) (c .limit) 6 (t .limit) (g .1);
     }
 
-pub good-vertices : (n : ℕ) (xs : List Float) → All Fit xs → verticesFault n xs ≡ fine → Every (λ (u : Unit {0}). GoodVector (within reach)) (λ u v. u) tt (verticesOf (take (2 * n) xs))
-unfolding verticesOf numberFault vertexFault verticesFault
-good-vertices zero xs h e = tt
-good-vertices (suc n) [] h e = absurd (no-fault 2 (sym e))
-good-vertices (suc n) (x ∷ []) h e = absurd (no-fault 2 (sym (⊳-fine (must (within reach x) 6) (⊳-fine (vertexFault (x ∷ [])) e .0) .1)))
-good-vertices (suc n) (x ∷ y ∷ xs) (more p (more q h)) e =
-    let a = ⊳-fine (vertexFault (x ∷ y ∷ xs)) e in
-    let b = ⊳-fine (must (within reach x) 6) (a .0) in
+pub good-vertices : (before : OuterVertex) (n : ℕ) (xs : List Float) → All Fit xs → verticesFault before n xs ≡ fine → Every GoodVertex onVertex before (verticesOf (take (2 * n) xs))
+unfolding verticesOf numberFault componentsFault vertexFault verticesFault
+good-vertices before zero xs h e = tt
+good-vertices before (suc n) [] h e = absurd (no-fault 2 (sym e))
+good-vertices before (suc n) (x ∷ []) h e =
+    let a = ⊳-fine (vertexFault before (x ∷ [])) e in
+    let b = ⊳-fine (componentsFault (x ∷ [])) (a .0) in
+    absurd (no-fault 2 (sym (⊳-fine (must (within reach x) 6) (b .0) .1)))
+good-vertices before (suc n) (x ∷ y ∷ xs) (more p (more q h)) e =
+    let a = ⊳-fine (vertexFault before (x ∷ y ∷ xs)) e in
+    let b = ⊳-fine (componentsFault (x ∷ y ∷ xs)) (a .0) in
+    let d = ⊳-fine (must (within reach x) 6) (b .0) in
     let two : 2 * suc n ≡ suc (suc (2 * n)) = omega arith in
-    rw two (record { x = good (within reach) x 6 p (b .0); y = good (within reach) y 6 q (b .1) }, good-vertices n xs h (a .1))
+    let own : GoodVertex before (vec x y) = record { vector = record { x = good (within reach) x 6 p (d .0); y = good (within reach) y 6 q (d .1) }; apart = must-fine _ 14 (b .1) } in
+    rw two (own, good-vertices (onVertex before (vec x y)) n xs h (a .1))
 
 -- each obstacle's vertices are there: the total before it and the numbers left make up 384
 good-obstacles : (total : ℕ) (hs : List Head) (xs : List Float) → 2 * total + length xs ≡ 384 → All Fit xs → obstaclesFault total hs xs ≡ fine → Every GoodObstacle onTotal total (withVertices hs xs)
-unfolding obstaclesFault withVertices
+unfolding obstaclesFault outlineFault withVertices
 good-obstacles total [] xs l h e = tt
 good-obstacles total (k ∷ hs) xs l h e =
     let head-fine = ⊳-fine (headFault total k) e in
-    let vertices-fine = ⊳-fine (verticesFault (k .count) xs) (head-fine .1) in
+    let outline-fine = ⊳-fine (outlineFault k xs) (head-fine .1) in
+    let vertices-fine = ⊳-fine (verticesFault noneBefore (k .count) xs) (outline-fine .0) in
     let passed = head-passed total k (head-fine .0) in
     let fit : total + k .count ≤ 192 = room-within total (k .count) (passed .1) .1 in
     let front : length (take (2 * k .count) xs) ≡ 2 * k .count = length-take-le (2 * k .count) xs (omega arith) in
@@ -124,9 +131,10 @@ good-obstacles total (k ∷ hs) xs l h e =
         kind = passed .0;
         room = rw size (passed .1);
         some = rw size (passed .2);
-        vertices = good-vertices (k .count) xs h (vertices-fine .0);
+        vertices = good-vertices noneBefore (k .count) xs h (vertices-fine .0);
+        closed = must-fine _ 14 (vertices-fine .1);
       },
-      rw size (good-obstacles (total + k .count) hs (drop (2 * k .count) xs) behind (all-drop (2 * k .count) h) (vertices-fine .1)),
+      rw size (good-obstacles (total + k .count) hs (drop (2 * k .count) xs) behind (all-drop (2 * k .count) h) (outline-fine .1)),
     )
 
 pub good-line : (l : Line) → FitLine l → lineFault l ≡ fine → GoodLine l

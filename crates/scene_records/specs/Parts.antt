@@ -1,4 +1,5 @@
--- 01, "Records": the cart, the obstacles and the neighbour lines of a scene record, field by field. Definitions only. Assumes nothing.
+-- 01, "Records": the cart, the obstacles (02, T-11: none with doubled vertices) and the neighbour lines of a scene record, field by field. Definitions only.
+-- Assumes nothing.
 use Prim.Native.Nat.{ℕ, _+_, _*_}
 use mathlib.Core.Bool.{not}
 use mathlib.Core.List.{List, [], _∷_, map}
@@ -14,7 +15,8 @@ use Rattle.common.specs.Vectors.{reach, longest, lengthSquaredOf}
 use Rattle.lines.specs.declared.Line.{Line}
 use Rattle.lines.specs.Lines.{line}
 use Rattle.lines.specs.LineFaults.{lineReach, bandLow, bandHigh}
-use Rattle.edges.specs.Edges.{shortestHorizon, longestHorizon}
+use Rattle.edges.specs.Edges.{OuterVertex, shortestHorizon, longestHorizon}
+use Rattle.obstacles.specs.Doubled.{follows, noneBefore, onVertex, closes}
 use Rattle.dodgy_2d.specs.Scenes.{mostObstacles}
 use Rattle.fields.specs.Bytes.{each}
 use Rattle.fields.specs.Got.{Got, refused, got, then, guard, word, many}
@@ -55,8 +57,17 @@ abbrev pub headAs : Got Head → HeadRead
 headAs (refused r) = record { kind = 0; count = 0; next = cursor.Fault r }
 headAs (got h at) = record { kind = h .kind; count = h .count; next = cursor.At at }
 
-unfoldable pub verticesAt : List ℕ → ℕ → ℕ → Got (List Vec2)
-verticesAt s n at = many (λ (u : Unit {0}). vector (within reach) s) (λ u v. u) n tt at
+-- 02, T-11: "14, at the second vertex of the pair after its own check for 6"
+unfoldable pub vertex : List ℕ → OuterVertex → ℕ → Got Vec2
+vertex s before at = then (vector (within reach) s at) λ v a. guard (follows before v) 14 (got v a)
+
+-- each behind the one before it
+unfoldable pub verticesAt : List ℕ → OuterVertex → ℕ → ℕ → Got (List Vec2)
+verticesAt s before n at = many (vertex s) onVertex n before at
+
+-- 02, T-11: "the closing pair after the last vertex"
+unfoldable pub outline : List ℕ → Head → ℕ → Got (List Vec2)
+outline s h at = then (verticesAt s noneBefore (h .count) at) λ vs b. guard (closes (h .kind) vs) 14 (got vs b)
 
 pub record Obstacle : Type 0 where
   pub kind : ℕ
@@ -66,7 +77,7 @@ abbrev pub sizeOf : Obstacle → ℕ
 sizeOf o = length (o .vertices)
 
 unfoldable pub obstacle : List ℕ → ℕ → ℕ → Got Obstacle
-obstacle s total at = then (head s total at) λ h a. then (verticesAt s (h .count) a) λ vs b. got (record { kind = h .kind; vertices = vs }) b
+obstacle s total at = then (head s total at) λ h a. then (outline s h a) λ vs b. got (record { kind = h .kind; vertices = vs }) b
 
 -- the running total of vertices stands before each obstacle
 unfoldable pub obstacles : List ℕ → ℕ → ℕ → ℕ → Got (List Obstacle)

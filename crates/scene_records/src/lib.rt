@@ -159,8 +159,9 @@ pub(crate) struct HeadRead {
 // Reads the one scene record that the bytes are, of either version. Refused, in this order: fewer than two bytes (2), a length over 2,887 (4), a length
 // that is not that of the rest (2); then the fields from left to right, each first for missing bytes (2) and then by its rule: another version than 1 or 2
 // (1), under version 1 a length over 2,631 (4), a number not finite or out of range (6), too many obstacles (4), an obstacle's kind (3), too many vertices,
-// its own or with those before it (4), an open obstacle with none (5), too many neighbour lines (4), a line's direction out of its band (7); last, bytes
-// left over (2). A neighbour's number is refused only where its bytes are missing.
+// its own or with those before it (4), an open obstacle with none (5), a vertex that is the one before it again, or the first again behind the last of a closed
+// obstacle (14), too many neighbour lines (4), a line's direction out of its band (7); last, bytes left over (2). A neighbour's number is refused only where
+// its bytes are missing.
 pub fn read_scene(bytes: &[u8]) -> NumberedScene
     ensures { λ r. ⌜ r ≡ numberedAs (sceneIn (now (bytes .entry))) ⌝ }
 {

@@ -1,16 +1,21 @@
-// The obstacles: kind, vertex count and vertices of each, with the running total of vertices.
+// The obstacles: kind, vertex count and vertices of each, none doubled, with the running total of vertices.
 use crate::Cursor;
 use crate::HeadRead;
 use crate::Rule;
+use crate::VectorRead;
 use crate::steps;
 use admission::Head;
 use common::Vec2;
+use edges::Outer;
 ghost use mathlib.Core.Path.{_≡_};
 ghost use Prim.Native.Nat.{_+_, _*_, _≤_};
 ghost use lib.ListN.{length};
 ghost use lib.Seq.{sets};
+ghost use Rattle.admission.specs.Heads.{headOf};
+ghost use Rattle.edges.specs.Read.{outerOf};
+ghost use Rattle.obstacles.specs.Doubled.{noneBefore};
 ghost use Rattle.scene_records.specs.Steps.{from, told};
-ghost use Rattle.scene_records.specs.Parts.{head, headAs, coordinates, verticesAt, stored, obstacles, walls, blankBytes, blankVertices, storedWalls};
+ghost use Rattle.scene_records.specs.Parts.{head, headAs, coordinates, vertex as vertexOf, verticesAt, outline, stored, obstacles, walls, blankBytes, blankVertices, storedWalls};
 
 // An obstacle's kind and vertex count, behind a total of vertices.
 fn head_at(bytes: &[u8], cursor: Cursor, total: usize) -> HeadRead
@@ -48,7 +53,20 @@ fn put(vertices: &mut [f32], i: usize, vertex: Vec2)
     vertices[k + 1] = vertex.y;
 }
 
-// Stores as many vertices as `count` from the vertex `start` on.
+// A vertex, which must not be the one before it again (14).
+fn vertex_at(bytes: &[u8], cursor: Cursor, previous: Outer) -> VectorRead
+    ensures { λ r. ⌜ told (r .next) (r .value) ≡ from cursor (vertexOf (now (bytes .entry)) (outerOf previous)) ⌝ }
+{
+    let read = steps::vector_at(bytes, cursor, Rule::Within(Vec2::REACH));
+    let value = read.value;
+    let next = read.next;
+    VectorRead {
+        value,
+        next: steps::held_to(obstacles::may_follow(previous, value), 14, next),
+    }
+}
+
+// Stores as many vertices as `count` from the vertex `start` on, each behind the one before it.
 fn vertices_at(
     bytes: &[u8],
     cursor: Cursor,
@@ -57,17 +75,37 @@ fn vertices_at(
     vertices: &mut [f32],
 ) -> Cursor
     requires { ⌜ 2 * (start + count) ≤ length (now vertices) ⌝ }
-    ensures { λ r. ⌜ told r (now (vertices .exit)) ≡ stored coordinates (now (vertices .entry)) (2 * start) (from cursor (verticesAt (now (bytes .entry)) count)) ⌝ }
+    ensures { λ r. ⌜ told r (now (vertices .exit)) ≡ stored coordinates (now (vertices .entry)) (2 * start) (from cursor (verticesAt (now (bytes .entry)) noneBefore count)) ⌝ }
 {
     let mut next = cursor;
+    let mut previous = Outer::Absent;
     let mut i = 0usize;
     while i < count {
-        let vertex = steps::vector_at(bytes, next, Rule::Within(Vec2::REACH));
+        let vertex = vertex_at(bytes, next, previous);
+        let value = vertex.value;
         next = vertex.next;
-        put(vertices, start + i, vertex.value);
+        previous = Outer::At(value);
+        put(vertices, start + i, value);
         i += 1;
     }
     next
+}
+
+// Stores an obstacle's vertices from the vertex `start` on: the last must not be the first of a closed obstacle again (14).
+fn outline_at(
+    bytes: &[u8],
+    cursor: Cursor,
+    kind: u8,
+    count: usize,
+    start: usize,
+    vertices: &mut [f32],
+) -> Cursor
+    requires { ⌜ 2 * (start + count) ≤ length (now vertices) ⌝ }
+    ensures { λ r. ⌜ told r (now (vertices .exit)) ≡ stored coordinates (now (vertices .entry)) (2 * start) (from cursor (outline (now (bytes .entry)) (headOf kind count))) ⌝ }
+{
+    let next = vertices_at(bytes, cursor, count, start, vertices);
+    let closes = obstacles::may_close(kind, &vertices[2 * start..2 * (start + count)]);
+    steps::held_to(closes, 14, next)
 }
 
 // Stores as many obstacles as `count`, one behind the other.
@@ -89,7 +127,7 @@ pub(crate) fn obstacles_at(
         let head = head_at(bytes, next, total);
         let many = steps::wide(head.count);
         let behind = head.next;
-        next = vertices_at(bytes, behind, many, total, vertices);
+        next = outline_at(bytes, behind, head.kind, many, total, vertices);
         kinds[i] = head.kind;
         counts[i] = head.count;
         total += many;

@@ -5,11 +5,9 @@ use mathlib.Core.List.{List, [], _∷_, _++_}
 use lib.ListN.{replicate}
 use lib.Ieee.{Float, nan, toBits}
 use Rattle.arithmetic.specs.Binary32.{bits, 0ᶠ}
-use Rattle.admission.specs.Faults.{Fault, fine, fault, inside}
+use Rattle.admission.specs.Faults.{Fault, fine, fault}
 use Rattle.common.specs.Vectors.{vec}
 use Rattle.lines.specs.Lines.{linesOf}
-use Rattle.obstacles.specs.ObstacleFaults.{vectorFault, agentFault}
-use Rattle.obstacles.specs.Vertices.{verticesOf}
 use Rattle.dodgy_2d.specs.Scenes.{headsOf}
 use Rattle.fields.specs.Bytes.{bigEndian, each}
 use Rattle.layouts.proofs.Computed.{layoutsComputed}
@@ -19,7 +17,7 @@ use Rattle.scene_records.specs.SceneBytes.{numberBytes, vectorBytes, cartBytes,
 use Rattle.scene_writer.specs.Writing.{cartFault, lentLineFault, lentLinesFault, neighboursFault, restFault, partsFault, lentBytes, written, laidScene, writtenScene}
 
 unfoldable pub writerComputed : Unit {0}
-unfolding layoutsComputed toBits inside linesOf verticesOf headsOf vectorFault agentFault bigEndian each numberBytes vectorBytes cartBytes obstacleBytes lineBytes bodyBytes recordBytes withVertices
+unfolding layoutsComputed toBits linesOf headsOf bigEndian each numberBytes vectorBytes cartBytes obstacleBytes lineBytes bodyBytes recordBytes withVertices
     cartFault lentLineFault lentLinesFault neighboursFault restFault partsFault lentBytes laidScene writtenScene
 writerComputed = tt
 
@@ -64,3 +62,10 @@ pub order :
     ≡ (fault 6 ∷ fault 2 ∷ fault 6 ∷ fault 2 ∷ fault 7 ∷ fault 2 ∷ fault 4 ∷ fault 2 ∷ fault 2 ∷ [])
 unfolding writerComputed
 order = refl
+
+-- 02, T-11: 14 at the second vertex, before the lines, what is left over and a short buffer
+pub doubled :
+    (toldWall (0ᶠ ∷ 0ᶠ ∷ bits 0x8000_0000 ∷ 0ᶠ ∷ 0ᶠ ∷ []) 65 [] ∷ partsFault cart 1 (1 ∷ []) (1 ∷ []) (0ᶠ ∷ 0ᶠ ∷ []) 0 [] ∷ toldWall (0ᶠ ∷ 0ᶠ ∷ 0ᶠ ∷ nan ∷ []) 0 [] ∷ [])
+    ≡ (fault 14 ∷ fault 14 ∷ fault 6 ∷ [])
+unfolding writerComputed
+doubled = refl

@@ -2,18 +2,21 @@
 use Prim.Native.Nat.{ℕ, zero, suc, _+_, _*_, _≤_}
 use native.Mathlib.Omega.{arith}
 use mathlib.Core.Path.{_≡_, refl}
-use mathlib.Core.Bool.{Bool, not}
+use mathlib.Core.Bool.{not}
 use mathlib.Core.List.{List, [], _∷_, _++_}
 use lib.ListN.{length, take, drop, length-drop}
 use lib.Seq.{take-append-le, drop-append-le}
 use lib.Ieee.{Float}
-use Rattle.admission.specs.Faults.{Fault, fine, fault, must, _⊳_, within}
+use Rattle.admission.specs.declared.Head.{Head}
+use Rattle.admission.specs.Faults.{Fault, fine, fault, must, _⊳_}
 use Rattle.admission.specs.Heads.{headOf, isKind, roomFor, isEmptyOpen}
 use Rattle.admission.proofs.FaultLaws.{⊳-fine}
-use Rattle.common.specs.Vectors.{reach}
+use Rattle.common.specs.Vectors.{vec}
 use Rattle.lines.specs.Lines.{linesOf}
 use Rattle.lines.specs.LineFaults.{lineFault, linesFault}
-use Rattle.obstacles.specs.ObstacleFaults.{numberFault, vertexFault, verticesFault, headFault}
+use Rattle.edges.specs.Edges.{OuterVertex}
+use Rattle.obstacles.specs.Doubled.{noneBefore, onVertex}
+use Rattle.obstacles.specs.ObstacleFaults.{numberFault, componentsFault, vertexFault, verticesFault, headFault, outlineFault}
 use Rattle.obstacles.proofs.ObstacleFaults.{head-room}
 use Rattle.dodgy_2d.specs.Scenes.{headsOf, obstaclesFault}
 use Rattle.layouts.specs.Layouts.{kindFault, countFault, ownFault, lentFault, vertexTotal}
@@ -39,7 +42,7 @@ lent-there total (suc n) [] cs xs p q h = absurd (omega arith)
 lent-there total (suc n) (k ∷ ks) [] xs p q h = absurd (omega arith)
 lent-there total (suc n) (k ∷ ks) (c ∷ cs) xs p q h =
     let rest = lent-there (total + c) n ks cs (drop (2 * c) xs) (omega arith) (omega arith) (rw length-drop (omega arith)) in
-    rw rest (regrouped (must (isKind k) 3) (must (roomFor total c) 4) (must (not (isEmptyOpen k c)) 5) (verticesFault c xs) (obstaclesFault (total + c) (headsOf ks cs) (drop (2 * c) xs)))
+    rw rest (regrouped (must (isKind k) 3) (must (roomFor total c) 4) (must (not (isEmptyOpen k c)) 5) (outlineFault (headOf k c) xs) (obstaclesFault (total + c) (headsOf ks cs) (drop (2 * c) xs)))
   where
     regrouped : (a b d v r : Fault) → ((a ⊳ ((b ⊳ d) ⊳ v)) ⊳ r) ≡ ((a ⊳ (b ⊳ d)) ⊳ (v ⊳ r))
     regrouped fine fine fine fine r = refl
@@ -58,22 +61,16 @@ vertices-cut (suc n) (k ∷ ks) [] xs rest p q h = absurd (omega arith)
 vertices-cut (suc n) (k ∷ ks) (c ∷ cs) xs rest p q h =
     rw (take-append-le (2 * c) xs rest (omega arith), drop-append-le (2 * c) xs rest (omega arith), vertices-cut n ks cs (drop (2 * c) xs) rest (omega arith) (omega arith) (rw length-drop (omega arith)))
 
-number-cut : (passes : Float → Bool) (xs rest : List Float) → 1 ≤ length xs → numberFault passes (xs ++ rest) ≡ numberFault passes xs
-unfolding numberFault
-number-cut passes [] rest h = absurd (omega arith)
-number-cut passes (x ∷ xs) rest h = refl
+own-cut : (before : OuterVertex) (n : ℕ) (xs rest : List Float) → 2 * n ≤ length xs → verticesFault before n (xs ++ rest) ≡ verticesFault before n xs
+unfolding verticesFault vertexFault componentsFault numberFault
+own-cut before zero xs rest h = refl
+own-cut before (suc n) [] rest h = absurd (omega arith)
+own-cut before (suc n) (x ∷ []) rest h = absurd (omega arith)
+own-cut before (suc n) (x ∷ y ∷ xs) rest h = rw (own-cut (onVertex before (vec x y)) n xs rest (omega arith))
 
-own-cut : (n : ℕ) (xs rest : List Float) → 2 * n ≤ length xs → verticesFault n (xs ++ rest) ≡ verticesFault n xs
-unfolding verticesFault vertexFault
-own-cut zero xs rest h = refl
-own-cut (suc n) xs rest h =
-    rw (
-      number-cut (within reach) xs rest (omega arith),
-      drop-append-le 1 xs rest (omega arith),
-      number-cut (within reach) (drop 1 xs) rest (rw length-drop (omega arith)),
-      drop-append-le 2 xs rest (omega arith),
-      own-cut n (drop 2 xs) rest (rw length-drop (omega arith)),
-    )
+outline-cut : (h : Head) (xs rest : List Float) → 2 * h .count ≤ length xs → outlineFault h (xs ++ rest) ≡ outlineFault h xs
+unfolding outlineFault
+outline-cut h xs rest e = rw (own-cut noneBefore (h .count) xs rest e, take-append-le (2 * h .count) xs rest e)
 
 pub fault-cut : (total n : ℕ) (ks cs : List ℕ) (xs rest : List Float) → length ks ≡ n → length cs ≡ n → 2 * vertexTotal n cs ≤ length xs → obstaclesFault total (headsOf ks cs) (xs ++ rest) ≡ obstaclesFault total (headsOf ks cs) xs
 unfolding vertexTotal headsOf obstaclesFault
@@ -82,7 +79,7 @@ fault-cut total zero (k ∷ ks) cs xs rest p q h = absurd (omega arith)
 fault-cut total (suc n) [] cs xs rest p q h = absurd (omega arith)
 fault-cut total (suc n) (k ∷ ks) [] xs rest p q h = absurd (omega arith)
 fault-cut total (suc n) (k ∷ ks) (c ∷ cs) xs rest p q h =
-    rw (own-cut c xs rest (omega arith), drop-append-le (2 * c) xs rest (omega arith), fault-cut (total + c) n ks cs (drop (2 * c) xs) rest (omega arith) (omega arith) (rw length-drop (omega arith)))
+    rw (outline-cut (headOf k c) xs rest (omega arith), drop-append-le (2 * c) xs rest (omega arith), fault-cut (total + c) n ks cs (drop (2 * c) xs) rest (omega arith) (omega arith) (rw length-drop (omega arith)))
 
 -- "192 together"
 pub few-together : (total n : ℕ) (ks cs : List ℕ) (xs : List Float) → length ks ≡ n → length cs ≡ n → total ≤ 192 → obstaclesFault total (headsOf ks cs) xs ≡ fine → total + vertexTotal n cs ≤ 192
@@ -93,7 +90,7 @@ few-together total (suc n) [] cs xs p q t e = absurd (omega arith)
 few-together total (suc n) (k ∷ ks) [] xs p q t e = absurd (omega arith)
 few-together total (suc n) (k ∷ ks) (c ∷ cs) xs p q t e =
     let a = ⊳-fine (headFault total (headOf k c)) e in
-    let b = ⊳-fine (verticesFault c xs) (a .1) in
+    let b = ⊳-fine (outlineFault (headOf k c) xs) (a .1) in
     let room = head-room total (headOf k c) (a .0) in
     let rest = few-together (total + c) n ks cs (drop (2 * c) xs) (omega arith) (omega arith) (room .1) (b .1) in
     omega (arith, rest)

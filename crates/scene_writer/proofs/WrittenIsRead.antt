@@ -16,7 +16,8 @@ use Rattle.common.specs.Vectors.{longest}
 use Rattle.lines.specs.Lines.{linesOf, fourOf}
 use Rattle.lines.specs.LineFaults.{linesFault}
 use Rattle.edges.specs.Edges.{shortestHorizon, longestHorizon}
-use Rattle.obstacles.specs.ObstacleFaults.{vectorFault, agentFault}
+use Rattle.obstacles.specs.Doubled.{noneBefore, closes}
+use Rattle.obstacles.specs.ObstacleFaults.{vectorFault, agentFault, verticesFault, outlineFault}
 use Rattle.obstacles.specs.Vertices.{verticesOf}
 use Rattle.dodgy_2d.specs.Scenes.{headsOf}
 use Rattle.fields.specs.Bytes.{each}
@@ -64,7 +65,7 @@ good-cart c t e =
     }
 
 good-lent : (total n : ℕ) (ks cs : List ℕ) (xs : List Float) → length ks ≡ n → length cs ≡ n → 2 * vertexTotal n cs ≤ length xs → All Fit xs → lentFault total n ks cs xs ≡ fine → Every GoodObstacle onTotal total (lentObstacles ks cs xs)
-unfolding lentFault ownFault kindFault countFault vertexTotal headsOf withVertices
+unfolding lentFault ownFault kindFault countFault outlineFault vertexTotal headsOf withVertices
 good-lent total zero [] cs xs p q h t e = tt
 good-lent total zero (k ∷ ks) cs xs p q h t e = absurd (omega arith)
 good-lent total (suc n) [] cs xs p q h t e = absurd (omega arith)
@@ -74,12 +75,14 @@ good-lent total (suc n) (k ∷ ks) (c ∷ cs) xs p q h t e =
     let kf = ⊳-fine (kindFault (k ∷ ks)) (a .0) in
     let cf = ⊳-fine (countFault total k (c ∷ cs)) (kf .1) in
     let rf = ⊳-fine (must (roomFor total c) 4) (cf .0) in
+    let vf = ⊳-fine (verticesFault noneBefore c xs) (cf .1) in
     let size : length (verticesOf (take (2 * c) xs)) ≡ c = own-size k c 0 xs (omega arith) in (
       record {
         kind = must-fine (isKind k) 3 (kf .0);
         room = rw size (must-fine (roomFor total c) 4 (rf .0));
         some = rw size (must-fine (not (isEmptyOpen k c)) 5 (rf .1));
-        vertices = good-vertices c xs t (cf .1);
+        vertices = good-vertices noneBefore c xs t (vf .0);
+        closed = must-fine (closes k (verticesOf (take (2 * c) xs))) 14 (vf .1);
       },
       rw size (good-lent (total + c) n ks cs (drop (2 * c) xs) (omega arith) (omega arith) (rw length-drop (omega arith)) (all-drop (2 * c) t) (a .1)),
     )

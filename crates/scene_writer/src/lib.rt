@@ -13,7 +13,7 @@ mod judge;
 mod put;
 
 // Writes a scene's record to the buffer's start; bytes behind it keep their contents. Refused, in this order, and then nothing is written: a number of the cart
-// not finite or out of range (6); the obstacles as `layouts::judge_layout` tells them (4, 2, 3, 5, 6); more than 64 neighbour lines (4); for each line each
+// not finite or out of range (6); the obstacles as `layouts::judge_layout` tells them (4, 2, 3, 5, 6, 14); more than 64 neighbour lines (4); for each line each
 // number not lent (2), not finite or out of range (6), then a direction out of its band (7); more kinds, counts, vertices or lines lent than the counts say
 // (2); a buffer shorter than the record (10).
 pub fn write_scene(

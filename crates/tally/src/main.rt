@@ -185,7 +185,12 @@ fn tell_refusals(before: bool, of: [u64; 16]) -> bool {
         b"refusal 9, an edge's line breaks the admission of lines",
         of[9],
     );
-    line(good, b"refusal 10, an answer buffer is too short", of[10])
+    good = line(good, b"refusal 10, an answer buffer is too short", of[10]);
+    line(
+        good,
+        b"refusal 14, an obstacle has a doubled vertex",
+        of[14],
+    )
 }
 
 fn tell_figures(tally: DayTally) -> bool {

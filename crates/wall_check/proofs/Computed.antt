@@ -4,7 +4,6 @@ use mathlib.Core.Bool.{false}
 use mathlib.Core.List.{[], _∷_}
 use lib.Ieee.{Float, nan, inf}
 use Rattle.arithmetic.specs.Binary32.{bits, 0ᶠ, 1ᶠ}
-use Rattle.admission.specs.Faults.{inside}
 use Rattle.common.specs.declared.Vec2.{Vec2}
 use Rattle.common.specs.Vectors.{vec}
 use Rattle.common.specs.declared.Times.the-variants as times
@@ -16,7 +15,7 @@ use Rattle.wall_check.specs.declared.WallCheck.the-variants as check
 use Rattle.wall_check.specs.Crossings.{areWithin, crosses, wallsFrom, ownWalls, wallsOf, crossedIn, foundIn, moveFault, checkedMove}
 
 unfoldable pub checksComputed : Unit {0}
-unfolding computed layoutsComputed inside timesOf areWithin crosses wallsFrom ownWalls wallsOf crossedIn foundIn moveFault checkedMove
+unfolding computed layoutsComputed timesOf areWithin crosses wallsFrom ownWalls wallsOf crossedIn foundIn moveFault checkedMove
 checksComputed = tt
 
 abbrev -1ᶠ : Float
@@ -86,14 +85,13 @@ pub edges-counted :
 unfolding checksComputed
 edges-counted = refl
 
--- no edge, or one that is parallel to everything
+-- no edge
 pub edges-none :
     (checkedMove atRest (vec 0ᶠ 2ᶠ) 1 (1 ∷ []) (0 ∷ []) []
     ∷ checkedMove atRest (vec 0ᶠ 2ᶠ) 1 (2 ∷ []) (1 ∷ []) (0ᶠ ∷ 1ᶠ ∷ [])
-    ∷ checkedMove atRest (vec 0ᶠ 2ᶠ) 1 (1 ∷ []) (1 ∷ []) (0ᶠ ∷ 1ᶠ ∷ [])
     ∷ checkedMove atRest (vec 0ᶠ 2ᶠ) 0 [] [] []
     ∷ [])
-    ≡ (check.Clear ∷ check.Clear ∷ check.Clear ∷ check.Clear ∷ [])
+    ≡ (check.Clear ∷ check.Clear ∷ check.Clear ∷ [])
 unfolding checksComputed
 edges-none = refl
 
@@ -138,3 +136,13 @@ pub refusals :
     ≡ (check.Refused 6 ∷ check.Refused 6 ∷ check.Refused 4 ∷ check.Refused 3 ∷ check.Refused 5 ∷ check.Refused 2 ∷ check.Refused 6 ∷ check.Refused 2 ∷ [])
 unfolding checksComputed
 refusals = refl
+
+-- 02, T-11: "The scene writer and the wall check refuse alike": 14 behind the positions, before what is left over
+pub doubled :
+    (checkedMove (vec nan 0ᶠ) atRest 1 (1 ∷ []) (1 ∷ []) (0ᶠ ∷ 1ᶠ ∷ [])
+    ∷ checkedMove atRest (vec 0ᶠ 2ᶠ) 1 (1 ∷ []) (1 ∷ []) (0ᶠ ∷ 1ᶠ ∷ [])
+    ∷ checkedMove atRest (vec 0ᶠ 2ᶠ) 1 (2 ∷ []) (2 ∷ []) (-1ᶠ ∷ 1ᶠ ∷ -1ᶠ ∷ 1ᶠ ∷ 0ᶠ ∷ [])
+    ∷ [])
+    ≡ (check.Refused 6 ∷ check.Refused 14 ∷ check.Refused 14 ∷ [])
+unfolding checksComputed
+doubled = refl

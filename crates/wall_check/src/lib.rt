@@ -24,7 +24,7 @@ pub enum WallCheck {
 
 // Checks a move over all edges of the obstacles, in order, whichever side of them it comes from. An edge is crossed where the lines of move and edge meet at
 // times that both lie from 0 to 1, ends counted; a move along an edge, or of no length, is parallel to it and does not cross it. Refused: a component of a
-// position that is not finite or out of range (6), `from` before `to`; then the obstacles as `layouts::judge_layout` tells them (4, 2, 3, 5, 6); then
+// position that is not finite or out of range (6), `from` before `to`; then the obstacles as `layouts::judge_layout` tells them (4, 2, 3, 5, 6, 14); then
 // kinds, counts or vertices lent beyond the counts (2).
 pub fn check_move(
     from: Vec2,

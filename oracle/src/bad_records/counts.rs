@@ -208,7 +208,7 @@ fn totals() -> Vec<Named> {
         ),
         (row, then([CLOSED_BYTE, 1]), Some(4)),
         (row, of_sizes(&[64, 64, 64, 1]), Some(4)),
-        (row, of_sizes(&[64, 64, 1, 64]), Some(4)),
+        (row, of_sizes(&[64, 64, 2, 64]), Some(4)),
         (row, of_sizes(&[16; 16]), Some(4)),
     ]
 }

@@ -4,6 +4,7 @@
 //! others are asked of the Rust, as those of scene_vectors are.
 
 mod counts;
+mod doubled;
 mod numbers;
 mod orders;
 
@@ -23,7 +24,7 @@ type Named = (&'static str, Vec<u8>, Option<u32>);
 type Shown = (&'static str, Case);
 
 /// No record gets 8 or 10.
-const COLUMNS: [Column<Shown>; 10] = [
+const COLUMNS: [Column<Shown>; 11] = [
     ("in all", |_| true),
     ("get 1", |shown| shown.1.refusal() == Some(1)),
     ("get 2", |shown| shown.1.refusal() == Some(2)),
@@ -33,6 +34,7 @@ const COLUMNS: [Column<Shown>; 10] = [
     ("get 6", |shown| shown.1.refusal() == Some(6)),
     ("get 7", |shown| shown.1.refusal() == Some(7)),
     ("get 9", |shown| shown.1.refusal() == Some(9)),
+    ("get 14", |shown| shown.1.refusal() == Some(14)),
     ("are answered", |shown| shown.1.refusal().is_none()),
 ];
 
@@ -41,6 +43,7 @@ pub fn set() -> Result<Set, String> {
     let mut records = counts::records();
     records.extend(numbers::records());
     records.extend(orders::records());
+    records.extend(doubled::records());
     let mut shown = Vec::new();
     for record in records {
         shown.push(ask(record)?);

@@ -131,11 +131,6 @@ fn left_over() -> Vec<Named> {
         rest.extend(bytes);
         rest
     };
-    let inside = || {
-        let mut rest = agent_and(&[1, CLOSED_BYTE, 1]);
-        push(&mut rest, &[0.25, 0.0]);
-        behind(rest, &[0])
-    };
     vec![
         ("2: bytes left over", behind(scene(), &[0]), Some(2)),
         ("2: bytes left over", behind(scene(), &scene()), Some(2)),
@@ -144,22 +139,35 @@ fn left_over() -> Vec<Named> {
             behind(with(scene(), DIRECTION, 2.0), &[0]),
             Some(7),
         ),
-        ("9: an edge line without direction", inside(), Some(9)),
-        ("9: the same in the second pass only", twice(), Some(9)),
+        ("9: an edge line without direction", apart(), Some(9)),
+        ("9: the same in the second pass only", at_rest_alone(), Some(9)),
         (
             "2 before 9: bytes left over before any edge line",
-            behind(inside(), &[0]),
+            behind(apart(), &[0]),
             Some(2),
         ),
     ]
 }
 
-/// A wall there and back, its ends twice: the agent's speed gives it a line that covers the edges without length, at rest none does.
-fn twice() -> Vec<u8> {
-    let mut rest = vec![1];
-    push(&mut rest, &[0.0, 0.0, 3.0, 4.0, 2.0, 2.0, 0.0, 0.0, 0.5]);
-    rest.extend([1, CLOSED_BYTE, 4]);
-    push(&mut rest, &[2.0, -1.0, 2.0, -1.0, -1.0, 0.0, -1.0, 0.0]);
-    rest.push(0);
-    rest
+/// The right vertex of an open wall is just inside the margin, the edge is not.
+fn apart() -> Vec<u8> {
+    let bits = [0, 0, 0x3DB6_8D80, 0xBF49_E3E8, 0x3F78_4414, 0x3F80_0000, 0, 0, 0x3F80_0000];
+    let vertices = [0xBF99_61B6, 0xBF4C_168E, 0xBF70_E300, 0x3E70_5186];
+    of_bits(&bits, &[1, OPEN_BYTE, 2], &vertices)
+}
+
+/// A wall there and back: the agent's speed gives it a line that covers the edge behind it, at rest none does.
+fn at_rest_alone() -> Vec<u8> {
+    let bits = [
+        0x3EB7_E080, 0xBF4E_DA8D, 0xC0B9_E808, 0xBF68_9900, 0x3FF9_E821, 0x3F00_0000, 0xBF95_92EE,
+        0x3F77_A34D, 0x3E63_6F24,
+    ];
+    let vertices = [0xBF5E_98FE, 0x3F35_946B, 0xBFF0_AAB7, 0xBDDF_772F];
+    of_bits(&bits, &[1, CLOSED_BYTE, 2], &vertices)
+}
+
+/// The cart's numbers, an obstacle's head, its vertices, and no lines.
+fn of_bits(cart: &[u32; 9], head: &[u8], vertices: &[u32]) -> Vec<u8> {
+    let bytes = |bits: &[u32]| bits.iter().flat_map(|word| word.to_be_bytes()).collect::<Vec<u8>>();
+    [&[1], &bytes(cart)[..], head, &bytes(vertices), &[0]].concat()
 }

@@ -4,11 +4,11 @@
 use counters::EdgeBranch;
 use glam::Vec2;
 
-use super::call::{Call, CLOSED};
+use super::call::{Call, CLOSED, OPEN};
 use super::judge::{self, LONGEST_HORIZON, MOST_VERTICES, SHORTEST_HORIZON};
 use super::{Case, Outcome, NOT_ADMITTED};
 use crate::coverage_table::{self, Column};
-use crate::encounters::{EdgeLine, EdgeLines, Encounter};
+use crate::encounters::{edge_lines, EdgeLine, EdgeLines, Encounter};
 use crate::list_vectors::judge::{
     admits_component, admits_length, BAND_HIGH, BAND_LOW, LONGEST, REACH,
 };
@@ -32,7 +32,6 @@ const ROWS: &[(&str, Test)] = &[
     ("closed", Of(|e, _| e.closed)),
     ("open", Of(|e, _| !e.closed)),
     ("closed, 0 vertices", Of(|e, _| e.closed && e.vertices.is_empty())),
-    ("closed, 1 vertex", Of(|e, _| e.closed && e.vertices.len() == 1)),
     ("closed, 2 vertices", Of(|e, _| e.closed && e.vertices.len() == 2)),
     ("closed, 3 vertices", Of(|e, _| e.closed && e.vertices.len() == 3)),
     ("closed, 64 vertices", Of(|e, _| e.closed && is_full(e))),
@@ -50,8 +49,11 @@ const ROWS: &[(&str, Test)] = &[
     ("vertex convex, open", Took(OpenConvex)),
     ("vertex concave, open", Took(OpenConcave)),
     ("vertex at an open end", Took(OpenEnd)),
-    ("vertices that stand twice, by value", Of(|e, _| pairs(e).any(|(a, b)| a == b))),
-    ("equal but for the sign of a zero", Of(|e, _| pairs(e).any(|(a, b)| a == b && !same_bits(a, b)))),
+    ("neighbouring vertices of equal x", Of(|e, _| pairs(e).any(|(a, b)| a.x == b.x))),
+    ("neighbouring vertices of equal y", Of(|e, _| pairs(e).any(|(a, b)| a.y == b.y))),
+    ("neighbouring vertices one f32 apart", Of(|e, _| pairs(e).any(|(a, b)| one_apart(a, b)))),
+    ("a vertex again, with others between", Of(|e, _| stands_again(e))),
+    ("open, the first vertex again at the end", Of(|e, _| !e.closed && e.vertices.len() > 1 && e.vertices.first() == e.vertices.last())),
     ("three vertices in line", Took(Straight)),
     ("agent on a vertex", Of(|e, _| e.vertices.contains(&e.position))),
     ("agent on an edge", Took(OnEdge)),
@@ -77,7 +79,6 @@ const ROWS: &[(&str, Test)] = &[
     ("right vertex one f32 beyond", Took(RightJustOutside)),
     ("edge exactly at the margin", Took(EdgeAtMargin)),
     ("edge one f32 beyond", Took(EdgeJustOutside)),
-    ("one vertex, at just the margin", Of(|e, m| e.closed && e.vertices.len() == 1 && at_margin(e) && m.lines.is_empty())),
     ("collision with the left vertex, convex", Took(LeftCornerConvex)),
     ("collision with the left vertex, concave", Took(LeftCornerConcave)),
     ("collision with the right vertex, concave", Took(RightCornerConcave)),
@@ -106,7 +107,6 @@ const ROWS: &[(&str, Test)] = &[
     ("right shadow, no neighbour", Took(RightNoNeighbour)),
     ("right shadow, vertex concave", Took(RightConcave)),
     ("right shadow in line with the edge beyond", Took(RightEdgeInLine)),
-    ("edge degenerate by its own vertices", Took(DegenerateEdge)),
     ("edge degenerate since one vertex stands for both", Took(DegenerateByExchange)),
     ("cutoff time NaN", Took(CutoffTimeNan)),
     ("cutoff time infinite", Took(CutoffTimeInfinite)),
@@ -153,13 +153,24 @@ const ROWS: &[(&str, Test)] = &[
     ("9: an admitted line before it", Of(|_, m| m.lines.first().is_some_and(judge::admits) && !m.lines.iter().all(judge::admits))),
     ("9: an admitted line behind it", Of(|_, m| m.lines.last().is_some_and(judge::admits) && !m.lines.iter().all(judge::admits))),
     ("9: vertices apart, the right one just inside the margin", NotAdmitted(|e, _| !e.closed && e.vertices.len() == 2 && apart(e) && just_inside(e, e.vertices[1]))),
-    ("9: a vertex twice, the agent at rest", NotAdmitted(|e, _| e.velocity == Vec2::ZERO && pairs(e).any(|(a, b)| a == b))),
-    ("9: one vertex, margin 0, its squared distance rounds to 0", NotAdmitted(|e, _| e.vertices.len() == 1 && e.margin == 0.0 && e.vertices[0] != e.position)),
+    ("9: the agent at rest", NotAdmitted(|e, _| e.velocity == Vec2::ZERO)),
+    ("9: margin 0, a vertex's squared distance rounds to 0", NotAdmitted(|e, _| e.margin == 0.0 && e.vertices.iter().any(|v| *v != e.position && (*v - e.position).length_squared() == 0.0))),
     ("P11: margin 2", Of(|e, m| is_bench(e, 2.0) && gives(m, &[(Vec2::ZERO, BACKWARDS)]))),
     ("P11: margin 0.5", Of(|e, m| is_bench(e, 0.5) && gives(m, &[(Vec2::new(-1.0, 0.5), BACKWARDS)]))),
     ("P11: vertices exchanged", Of(|e, m| !e.closed && e.vertices == [Vec2::new(1.0, 1.0), Vec2::new(-1.0, 1.0)] && gives(m, &[]))),
-    ("P12: vertex (5,0)", Of(|e, m| e.closed && e.vertices == [Vec2::new(5.0, 0.0)] && gives(m, &[]))),
-    ("P12: vertex (0.5,0), 9", NotAdmitted(|e, _| e.closed && e.vertices == [Vec2::new(0.5, 0.0)] && e.margin == 1.0)),
+    ("P12: vertex (5,0), 14", Faulty(14, |c| c.kind == CLOSED && c.numbers == [5.0, 0.0] && c.margin == 1.0)),
+    ("P12: vertex (0.5,0), 14", Faulty(14, |c| c.kind == CLOSED && c.numbers == [0.5, 0.0] && c.margin == 1.0)),
+    ("14: a vertex is the one before it again", Faulty(14, |c| c.kind == OPEN)),
+    ("14: but for the sign of a zero", Faulty(14, |c| c.count > 1 && !vertices(c).windows(2).any(|pair| same_bits(pair[0], pair[1])))),
+    ("14: closed, 1 vertex", Faulty(14, |c| c.kind == CLOSED && c.count == 1)),
+    ("14: the closing pair alone", Faulty(14, |c| c.count > 1 && !vertices(c).windows(2).any(|pair| pair[0] == pair[1]))),
+    ("14: where the cart moves, and the Rust's lines are admitted", Faulty(14, |c| c.velocity != Vec2::ZERO && in_the_rust(c, true))),
+    ("14: where it rests, and one is not", Faulty(14, |c| c.velocity == Vec2::ZERO && in_the_rust(c, false))),
+    ("14 told before 6: the vertex behind it", Faulty(14, |c| c.numbers.iter().any(|x| !admits_component(*x)))),
+    ("14 told before 2: the vertex behind it is missing", Faulty(14, |c| 2 * c.count > c.numbers.len() as u64)),
+    ("14 told before 2: a number left over", Faulty(14, |c| 2 * c.count < c.numbers.len() as u64)),
+    ("6 told before 14: in the second vertex of a pair", Faulty(6, |c| beside_in(c) && c.numbers.len() == 4 && c.numbers[0] == c.numbers[2] && !admits_component(c.numbers[3]))),
+    ("2 told before 14: the second vertex of a pair is cut short", Faulty(2, |c| c.numbers.len() == 3 && c.numbers[0] == c.numbers[2])),
     ("6: position", Faulty(6, |c| out(c.position))),
     ("6: velocity", Faulty(6, |c| !out(c.position) && out(c.velocity))),
     ("6: margin", Faulty(6, |c| agent_in(c) && !admits_length(c.margin))),
@@ -307,9 +318,28 @@ fn turns_round(encounter: &Encounter) -> i32 {
         .sum()
 }
 
-fn at_margin(encounter: &Encounter) -> bool {
-    let squared = (encounter.vertices[0] - encounter.position).length_squared();
-    squared == encounter.margin * encounter.margin && squared > 0.0
+/// In one component, the other the same.
+fn one_apart(a: Vec2, b: Vec2) -> bool {
+    let next = |a: f32, b: f32| a.next_up() == b || a.next_down() == b;
+    (a.x == b.x && next(a.y, b.y)) || (a.y == b.y && next(a.x, b.x))
+}
+
+fn stands_again(encounter: &Encounter) -> bool {
+    let vertices = &encounter.vertices;
+    (1..vertices.len()).any(|place| vertices[..place].contains(&vertices[place]))
+}
+
+/// Whether the Rust, which goes on, makes lines that are all admitted.
+fn in_the_rust(call: &Call, admitted: bool) -> bool {
+    let whole = 2 * call.count == call.numbers.len() as u64;
+    let judged = |made: EdgeLines| made.lines.iter().all(judge::admits) == admitted;
+    whole && edge_lines(&call.to_encounter()).is_ok_and(judged)
+}
+
+/// A call's own, those that are there.
+fn vertices(call: &Call) -> Vec<Vec2> {
+    let pairs = call.numbers.chunks_exact(2).take(call.count as usize);
+    pairs.map(|pair| Vec2::new(pair[0], pair[1])).collect()
 }
 
 fn is_tiny(encounter: &Encounter) -> bool {

@@ -138,6 +138,21 @@ pub fn doubled(random: &mut Random) -> Encounter {
     with_aim(random, encounter)
 }
 
+/// As `doubled`, but where a vertex would be the one before it again, it is the next f32 in one component.
+pub fn nearly_doubled(random: &mut Random) -> Encounter {
+    let mut encounter = doubled(random);
+    let vertices = &mut encounter.vertices;
+    for place in 0..vertices.len() {
+        let before = vertices[(place + vertices.len() - 1) % vertices.len()];
+        while vertices[place] == before && vertices.len() > 1 {
+            let vertex = &mut vertices[place];
+            let number = if random.one_in(2) { &mut vertex.x } else { &mut vertex.y };
+            *number = if random.one_in(2) { number.next_up() } else { number.next_down() };
+        }
+    }
+    encounter
+}
+
 /// Coordinates whose squares are subnormal or round to 0, beside numbers of any size.
 pub fn tiny(random: &mut Random) -> Encounter {
     let scale = random.magnitude(4e-24, 1e-20).abs();

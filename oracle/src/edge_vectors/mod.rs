@@ -27,7 +27,7 @@ const AT_LEAST: usize = 50_000;
 type Make = fn(&mut Random) -> Encounter;
 
 /// How encounters are made, and how many of each. Most obstacles are small, to keep the file so.
-const PARTS: [(Make, usize); 15] = [
+const PARTS: [(Make, usize); 16] = [
     (layouts::lattice, 9_000),
     (layouts::scattered, 4_000),
     (layouts::star, 7_000),
@@ -43,6 +43,7 @@ const PARTS: [(Make, usize); 15] = [
     (aimed::barely_covered, 800),
     (layouts::long, 300),
     (layouts::any_numbers, 1_000),
+    (layouts::nearly_doubled, 3_500),
 ];
 
 const NOT_ADMITTED: u32 = 9;
@@ -91,6 +92,11 @@ pub fn at_scale(random: &mut Random) -> Result<Parts, String> {
     let (make, _) = PARTS[random.place_by(&PARTS.map(|(_, count)| count))];
     let case = ask(call(random, make))?;
     Ok(vec![Words::of(&[case], write_record)])
+}
+
+/// The record of a call.
+pub fn answered(call: Call) -> Result<Vec<u8>, String> {
+    Ok(Words::of(&[ask(call)?], write_record))
 }
 
 fn call(random: &mut Random, make: Make) -> Call {

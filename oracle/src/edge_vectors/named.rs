@@ -27,7 +27,72 @@ fn calls() -> Vec<(&'static str, Call)> {
     let mut calls = bench();
     calls.extend(surprising());
     calls.extend(faulty());
+    calls.extend(doubled());
     calls
+}
+
+/// Where 14 stands among the faults, and what is no pair.
+fn doubled() -> Vec<(&'static str, Call)> {
+    let (here, there, beside) = ((0.0, 1.0), (1.0, 1.0), (0.0, 2.0));
+    let numbers = |kind: u32, count: u64, numbers: &[f32]| Call {
+        numbers: numbers.to_vec(),
+        count,
+        ..at_rest(kind, &[], 0.5)
+    };
+    vec![
+        (
+            "14: a vertex is the one before it again",
+            at_rest(OPEN, &[here, here], 0.5),
+        ),
+        (
+            "14: a vertex is the one before it again",
+            at_rest(OPEN, &[here, there, there], 0.5),
+        ),
+        (
+            "14: the closing pair alone",
+            at_rest(CLOSED, &[here, there, (-0.0, 1.0)], 0.5),
+        ),
+        (
+            "14 told before 6: the vertex behind it",
+            numbers(OPEN, 3, &[0.0, 1.0, 0.0, 1.0, f32::NAN]),
+        ),
+        (
+            "14 told before 2: the vertex behind it is missing",
+            numbers(OPEN, 3, &[0.0, 1.0, 0.0, 1.0]),
+        ),
+        (
+            "14 told before 2: a number left over",
+            numbers(CLOSED, 1, &[0.0, 1.0, 0.0]),
+        ),
+        (
+            "6 told before 14: in the second vertex of a pair",
+            numbers(OPEN, 2, &[0.0, 1.0, 0.0, f32::NAN]),
+        ),
+        (
+            "2 told before 14: the second vertex of a pair is cut short",
+            numbers(OPEN, 2, &[0.0, 1.0, 0.0]),
+        ),
+        (
+            "neighbouring vertices of equal x",
+            at_rest(OPEN, &[here, beside], 0.5),
+        ),
+        (
+            "neighbouring vertices of equal y",
+            at_rest(CLOSED, &[here, there, beside], 0.5),
+        ),
+        (
+            "neighbouring vertices one f32 apart",
+            at_rest(OPEN, &[here, (0.0, 1.0f32.next_up())], 0.5),
+        ),
+        (
+            "a vertex again, with others between",
+            at_rest(CLOSED, &[here, there, here, beside], 0.5),
+        ),
+        (
+            "open, the first vertex again at the end",
+            at_rest(OPEN, &[here, there, beside, here], 0.5),
+        ),
+    ]
 }
 
 fn bench() -> Vec<(&'static str, Call)> {
@@ -43,9 +108,9 @@ fn bench() -> Vec<(&'static str, Call)> {
             "P11: vertices exchanged",
             at_rest(OPEN, &[right, left], 0.5),
         ),
-        ("P12: vertex (5,0)", at_rest(CLOSED, &[(5.0, 0.0)], 1.0)),
+        ("P12: vertex (5,0), 14", at_rest(CLOSED, &[(5.0, 0.0)], 1.0)),
         (
-            "P12: vertex (0.5,0), 9",
+            "P12: vertex (0.5,0), 14",
             at_rest(CLOSED, &[(0.5, 0.0)], 1.0),
         ),
     ]
@@ -67,7 +132,7 @@ fn surprising() -> Vec<(&'static str, Call)> {
             },
         ),
         (
-            "vertices that stand twice, by value",
+            "14: where the cart moves, and the Rust's lines are admitted",
             Call {
                 velocity: Vec2::new(3.0, 4.0),
                 horizon: 2.0,
@@ -75,18 +140,18 @@ fn surprising() -> Vec<(&'static str, Call)> {
             },
         ),
         (
-            "9: a vertex twice, the agent at rest",
+            "14: where it rests, and one is not",
             Call {
                 horizon: 2.0,
                 ..at_rest(CLOSED, &twice, 2.0)
             },
         ),
         (
-            "one vertex, at just the margin",
+            "14: closed, 1 vertex",
             at_rest(CLOSED, &[(3.0, 4.0)], 5.0),
         ),
         (
-            "9: one vertex, margin 0, its squared distance rounds to 0",
+            "14: closed, 1 vertex",
             at_rest(CLOSED, &[(1e-23, 0.0)], 0.0),
         ),
         (
@@ -94,7 +159,7 @@ fn surprising() -> Vec<(&'static str, Call)> {
             at_rest(OPEN, &[(-near, far), (near, far)], 0.0),
         ),
         (
-            "equal but for the sign of a zero",
+            "14: but for the sign of a zero",
             at_rest(OPEN, &[(-1.0, 1.0), (0.0, 1.0), (-0.0, 1.0)], 0.5),
         ),
         ("closed, 0 vertices", at_rest(CLOSED, &[], 0.5)),

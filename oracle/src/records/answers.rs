@@ -47,7 +47,7 @@ pub fn name_of(record: &[u8]) -> Result<String, String> {
         {
             Ok(format!("outcome {outcome}"))
         }
-        [0, 2, VERSION, code @ 129..=138] => Ok(format!("refusal {}", code - REFUSED)),
+        [0, 2, VERSION, code @ (129..=138 | 142)] => Ok(format!("refusal {}", code - REFUSED)),
         _ => Err(format!("not an answer record: {}", hex_bytes(record))),
     }
 }

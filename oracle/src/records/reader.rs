@@ -1,5 +1,5 @@
-//! The judge of scene records, written from the definition of the build and 02's T-07 alone: a record's order of faults in "Refusal numbers",
-//! "Records", and what version 2 changes of both. The first fault is told.
+//! The judge of scene records, written from the definition of the build and 02's T-07 and T-11 alone: a record's order of faults in "Refusal numbers",
+//! "Records", what version 2 changes of both, and doubled vertices. The first fault is told.
 
 use glam::Vec2;
 
@@ -7,7 +7,7 @@ use super::{
     LONGEST_NUMBERED, LONGEST_REST, MOST_NEIGHBOURS, MOST_OBSTACLES, NUMBERED, VERSION,
 };
 use crate::edge_vectors::call::{CLOSED, SCENE_VERTICES};
-use crate::edge_vectors::judge::{admits_horizon, count_fault, is_kind};
+use crate::edge_vectors::judge::{admits_horizon, count_fault, is_kind, outline};
 use crate::encounters::EdgeLine;
 use crate::list_vectors::judge::{
     admits_component, admits_direction, admits_length, admits_line_component,
@@ -97,10 +97,9 @@ impl Fields<'_> {
         must(is_kind(kind), 3)?;
         let count = self.count(room)?;
         count_fault(kind, count as u64).map_or(Ok(()), Err)?;
-        let vertices = (0..count).map(|_| self.vector(admits_component));
         Ok(Obstacle {
             closed: kind == CLOSED,
-            vertices: vertices.collect::<Result<_, _>>()?,
+            vertices: outline(kind, count, || self.vector(admits_component))?,
         })
     }
 

@@ -63,6 +63,11 @@ pub fn doubled(random: &mut Random) -> Scene {
     beside(random, &[layouts::doubled], &[made::short])
 }
 
+/// Vertices that nearly do.
+pub fn nearly_doubled(random: &mut Random) -> Scene {
+    beside(random, &[layouts::nearly_doubled], &[made::short])
+}
+
 /// An edge whose leg is the root of a number below 0.
 pub fn inside_by_rounding(random: &mut Random) -> Scene {
     beside(random, &[aimed::inside_by_rounding], &[made::short])
@@ -117,19 +122,19 @@ pub fn fitted(random: &mut Random) -> Scene {
     }
 }
 
-/// A wall there and back, each end of it twice and nearer than the margin: at rest the edge without length has no direction, but
-/// the line that a velocity gets may cover it.
+/// A wall there and back, an end of it nearer than the margin and twice, but for so little that seen from the agent both are one: at rest that edge
+/// has no direction, but the line that a velocity gets may cover it.
 pub fn covered_while_moving(random: &mut Random) -> Scene {
     let scene = beside(random, &[layouts::scattered], &[made::short]);
     let (left, right) = (random.vector_within(3.0), random.vector_within(3.0));
-    let position = random.pick(&[Vec2::ZERO, scene.position]);
-    let vertices = [left, left, right, right].map(|vertex| vertex + position);
+    let little = Vec2::new(random.magnitude(1e-40, 1e-20), random.magnitude(1e-40, 1e-20));
+    let vertices = vec![right - left, Vec2::ZERO, little];
     Scene {
-        position,
+        position: Vec2::ZERO - left,
         margin: random.pick(&[1.0, 2.0, 3.0]),
         velocity: random.vector_within(6.0),
         limit: random.pick(&[0.0, 0.25, 0.5]),
-        obstacles: vec![obstacle(true, vertices.to_vec())],
+        obstacles: vec![obstacle(true, vertices)],
         ..scene
     }
 }

@@ -68,8 +68,8 @@ fn bench() -> Vec<(&'static str, Scene)> {
                 ..still(vec![])
             },
         ),
-        ("P12 as a scene, vertex (5,0)", vertex(5.0)),
-        ("P12 as a scene, vertex (0.5,0): 9", vertex(0.5)),
+        ("P12 as a scene, vertex (5,0): 14", vertex(5.0)),
+        ("P12 as a scene, vertex (0.5,0): 14", vertex(0.5)),
     ]
 }
 
@@ -78,13 +78,50 @@ fn surprising() -> Vec<(&'static str, Scene)> {
     let apart = open(&[(-1.1982944, -0.79721916), (-0.94096375, 0.23468599)]);
     vec![
         (
-            "9: only the second pass, an edge without length",
+            "14: a wall there and back, its ends twice",
             Scene {
                 velocity: Vec2::new(3.0, 4.0),
                 margin: 2.0,
                 horizon: 2.0,
                 limit: 0.5,
                 ..still(vec![twice])
+            },
+        ),
+        (
+            "9: only the second pass, every edge with a length",
+            Scene {
+                position: of_bits(0x3EB7_E080, 0xBF4E_DA8D),
+                velocity: of_bits(0xC0B9_E808, 0xBF68_9900),
+                margin: f32::from_bits(0x3FF9_E821),
+                horizon: 0.5,
+                wish: of_bits(0xBF95_92EE, 0x3F77_A34D),
+                limit: f32::from_bits(0x3E63_6F24),
+                ..still(vec![Obstacle {
+                    closed: true,
+                    vertices: vec![
+                        of_bits(0xBF5E_98FE, 0x3F35_946B),
+                        of_bits(0xBFF0_AAB7, 0xBDDF_772F),
+                    ],
+                }])
+            },
+        ),
+        (
+            "9: only the second pass, an edge without length seen from the cart",
+            Scene {
+                position: of_bits(0xBE68_630F, 0x3FA9_9F47),
+                velocity: of_bits(0x4077_1E2E, 0xBF8F_1E5F),
+                margin: 1.0,
+                horizon: 2.0,
+                wish: of_bits(0x40B1_0FB1, 0xBEF0_0444),
+                limit: 0.0,
+                ..still(vec![Obstacle {
+                    closed: true,
+                    vertices: vec![
+                        of_bits(0xBFD3_64A2, 0xBEF5_37BC),
+                        Vec2::ZERO,
+                        of_bits(0x8C7D_ABB6, 0x027E_8C16),
+                    ],
+                }])
             },
         ),
         (
@@ -153,6 +190,10 @@ fn still(obstacles: Vec<Obstacle>) -> Scene {
         lines: Vec::new(),
         neighbours: None,
     }
+}
+
+fn of_bits(x: u32, y: u32) -> Vec2 {
+    Vec2::new(f32::from_bits(x), f32::from_bits(y))
 }
 
 fn open(vertices: &[Pair]) -> Obstacle {

@@ -41,7 +41,7 @@ type Told = Result<Option<Crossed>, u32>;
 /// What a call shows, and what is told of it.
 type Shown = (&'static str, Call, Told);
 
-const COLUMNS: [Column<Shown>; 9] = [
+const COLUMNS: [Column<Shown>; 10] = [
     ("in all", |_| true),
     ("are clear", |shown| shown.2 == Ok(None)),
     ("cross one edge", |shown| crossed(shown, 1..=1)),
@@ -51,6 +51,7 @@ const COLUMNS: [Column<Shown>; 9] = [
     ("get 4", |shown| shown.2 == Err(4)),
     ("get 5", |shown| shown.2 == Err(5)),
     ("get 6", |shown| shown.2 == Err(6)),
+    ("get 14", |shown| shown.2 == Err(14)),
 ];
 
 fn crossed(shown: &Shown, counts: std::ops::RangeInclusive<usize>) -> bool {
@@ -87,6 +88,11 @@ pub fn bytes() -> Result<(Vec<u8>, String), String> {
 /// A drawn move's record.
 pub fn at_scale(random: &mut Random) -> Result<Parts, String> {
     Ok(vec![Words::of(&[ask(drawn::call(random))], write_record)])
+}
+
+/// The record of a call.
+pub fn answered(call: Call) -> Vec<u8> {
+    Words::of(&[ask(("", call))], write_record)
 }
 
 fn ask((row, call): (&'static str, Call)) -> Shown {

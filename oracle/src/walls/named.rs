@@ -152,11 +152,7 @@ fn all_edges() -> Vec<Shown> {
     let behind = [far, obstacle(true, &[]), square, pair];
     all.extend(shown((0.0, 2.0), (4.0, 2.0), &behind, at(2, 1, 2)));
     all.extend(shown((0.0, 0.0), (0.0, 2.0), &behind, at(3, 0, 2)));
-    for none in [
-        obstacle(true, &[]),
-        obstacle(true, &[(0.0, 1.0)]),
-        obstacle(false, &[(0.0, 1.0)]),
-    ] {
+    for none in [obstacle(true, &[]), obstacle(false, &[(0.0, 1.0)])] {
         all.extend(shown((0.0, 0.0), (0.0, 2.0), &[none], CLEAR));
     }
     all.extend(shown((0.0, 0.0), (0.0, 2.0), &[], CLEAR));
@@ -277,6 +273,14 @@ fn faults() -> Vec<Shown> {
         (lent(1, &[2], &[2], &[-1.0, 1.0, 1.0, 65_537.0]), 6),
         (lent(2, &[2, 4], &[2, 2], &[-1.0, 1.0, 1.0, 1.0]), 3),
         (lent(2, &[2], &[2, 2], &[-1.0, 1.0, 1.0, 1.0]), 2),
+        (lent(1, &[1], &[1], &[0.0, 1.0]), 14),
+        (lent(1, &[2], &[2], &[0.0, 1.0, -0.0, 1.0]), 14),
+        (lent(1, &[2], &[3], &[0.0, 1.0, 0.0, 1.0, nan]), 14),
+        (lent(1, &[2], &[2], &[0.0, 1.0, 0.0, nan]), 6),
+        (lent(1, &[2], &[2], &[0.0, 1.0, 0.0]), 2),
+        (lent(2, &[1, 3], &[3, 0], &[0.0, 1.0, 1.0, 1.0, 0.0, 1.0]), 14),
+        (lent(2, &[2, 3], &[3, 0], &[0.0, 1.0, 1.0, 1.0, 0.0, 1.0]), 3),
+        (lent(1, &[1], &[1], &[0.0, 1.0, 2.0]), 14),
     ];
     let mut shown = Vec::new();
     for (call, number) in faults {

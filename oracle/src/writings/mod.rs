@@ -34,7 +34,7 @@ pub struct Writing {
 
 type Shown = calls::Shown<Writing>;
 
-const COLUMNS: [Column<Shown>; 9] = [
+const COLUMNS: [Column<Shown>; 10] = [
     ("in all", |_| true),
     ("get 2", |shown| shown.2 == Err(2)),
     ("get 3", |shown| shown.2 == Err(3)),
@@ -43,6 +43,7 @@ const COLUMNS: [Column<Shown>; 9] = [
     ("get 6", |shown| shown.2 == Err(6)),
     ("get 7", |shown| shown.2 == Err(7)),
     ("get 10", |shown| shown.2 == Err(10)),
+    ("get 14", |shown| shown.2 == Err(14)),
     ("are written", |shown| shown.2.is_ok()),
 ];
 

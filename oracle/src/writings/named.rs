@@ -12,6 +12,7 @@ pub fn calls() -> Vec<Shown> {
         fewer(),
         more(),
         kinds_and_counts(),
+        doubled(),
         cart_numbers(),
         lines(),
         one_beside(),
@@ -157,6 +158,34 @@ fn kinds_and_counts() -> Vec<Shown> {
         (row, walled(1, &[1], &[0]), Ok(43)),
         (row, walled(1, &[1], &[65]), Err(4)),
         (row, total, Err(4)),
+    ]
+}
+
+/// Where 14 (T-11) stands: behind the second vertex's own 6, the closing pair behind the last vertex, both before the lines.
+fn doubled() -> Vec<Shown> {
+    let row = "doubled vertices";
+    let lent = |kind: u8, count: u8, vertices: &[f32]| {
+        lending(&walled(1, &[kind], &[count]), |lent| lent.vertices = vertices.to_vec())
+    };
+    let round = [0.0, 0.0, 1.0, 0.0, 0.0, -0.0];
+    let short = |call: Writing| Writing { buffer: 0, ..call };
+    let many = |call: Writing| Writing {
+        neighbours: 65,
+        ..call
+    };
+    vec![
+        (row, lent(OPEN, 2, &[0.0, 0.0, -0.0, 0.0]), Err(14)),
+        (row, lent(OPEN, 3, &[0.0, 0.0, 0.0, 0.0, NAN, 0.0]), Err(14)),
+        (row, lent(OPEN, 2, &[0.0, 0.0, 0.0, NAN]), Err(6)),
+        (row, lent(OPEN, 2, &[0.0, 0.0, 0.0]), Err(2)),
+        (row, lent(OPEN, 2, &[0.0, 0.0, 0.0, 0.0, 9.0]), Err(14)),
+        (row, lent(1, 1, &[0.0, 0.0]), Err(14)),
+        (row, short(lent(1, 1, &[0.0, 0.0])), Err(14)),
+        (row, lent(OPEN, 1, &[0.0, 0.0]), Ok(51)),
+        (row, many(lent(1, 3, &round)), Err(14)),
+        (row, many(lent(OPEN, 3, &round)), Err(4)),
+        (row, lent(OPEN, 3, &round), Ok(67)),
+        (row, lent(1, 2, &round[..4]), Ok(59)),
     ]
 }
 

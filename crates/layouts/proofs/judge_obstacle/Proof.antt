@@ -4,7 +4,8 @@ use mathlib.Core.Path.{_≡_, ap, _∙_}
 use denote.Ref.{now}
 use lib.ListN.{length, take, drop, length-drop}
 use lib.Seq.{take-length}
-use Rattle.obstacles.specs.ObstacleFaults.{verticesFault}
+use Rattle.admission.specs.Heads.{headOf}
+use Rattle.obstacles.specs.ObstacleFaults.{outlineFault}
 use Rattle.layouts.specs.Layouts.{ownFault}
 use Rattle.layouts.proofs.LentInOrder.{front-of}
 use borrow.Author.Needs.{needs}
@@ -22,22 +23,24 @@ returns-2 c = simp (← c .before .before .before .before .before .before .judge
 returns-3 : tie.Need-returns-3
 unfolding ownFault
 returns-3 c =
-    let a = c .before .before .before .before .before .before .before .before .before .before .before .before .before .before .args in
+    let counted = c .before .before .before .before in
+    let known = counted .before .before .before .before .before in
+    let a = known .before .before .before .before .before .before .args in
     let v = now (a .vertices) in
     let rest : take (length v - 2 * a .total) (drop (2 * a .total) v) ≡ drop (2 * a .total) v = rw (← length-drop (2 * a .total) v) (take-length (drop (2 * a .total) v)) in
-    let count = c .before .before .wide .ensures .0 ∙ c .before .before .before .byte-at2 .ensures in
+    let count = c .before .before .wide .ensures .0 ∙ c .before .before .before .byte-at3 .ensures in
     simp (
-      ← c .before .before .before .before .before .before .before .before .before .before .judge-kind .ensures,
-      c .before .before .before .before .before .before .before .before .enum-told .given .1,
+      ← known .before .before .judge-kind .ensures,
+      known .enum-told .given .1,
       front-of,
-      ← c .before .before .before .before .before .before .before .byte-at .ensures,
-      ← c .before .before .before .before .before .before .judge-count .ensures,
-      c .before .before .before .before .enum-told3 .given .1,
+      ← counted .before .before .before .before .byte-at .ensures,
+      ← counted .before .before .before .judge-count .ensures,
+      counted .before .enum-told3 .given .1,
     )
-    (c .judge-vertices .ensures ∙ ap (verticesFault _) rest ∙ ap (λ (k : ℕ). verticesFault k (drop (2 * a .total) v)) count)
+    (c .judge-outline .ensures ∙ rw (rest, count, counted .byte-at2 .ensures, counted .before .before .before .before .byte-at .ensures))
 
 pub judge-obstacle-spec : {M : Type 1} → statement M
 judge-obstacle-spec =
     tie.close (tie.spec (λ c κs. search needs) (λ c. search needs) (λ c. search needs) returns (λ c κs. search needs) (λ c κs. search needs)
-    (λ c. search needs) (λ c. search needs) returns-2 (λ c κs. search needs) (λ c κs. search needs) (λ c. search needs) (λ c. search needs)
+    (λ c. search needs) (λ c. search needs) returns-2 (λ c κs. search needs) (λ c κs. search needs) (λ c κs. search needs) (λ c. search needs) (λ c. search needs)
     (λ c. search needs) (λ c. search needs) (λ c. search needs) (λ c κs. search needs) returns-3)

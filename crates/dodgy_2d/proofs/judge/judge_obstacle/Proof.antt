@@ -4,7 +4,7 @@ use mathlib.Core.Path.{_≡_, ap, _∙_}
 use denote.Ref.{now}
 use lib.ListN.{length, take, drop, length-drop}
 use lib.Seq.{take-length}
-use Rattle.obstacles.specs.ObstacleFaults.{verticesFault}
+use Rattle.obstacles.specs.ObstacleFaults.{outlineFault}
 use borrow.Author.Needs.{needs}
 use Rattle.dodgy_2d.proofs.judge.judge_obstacle.Statement.{statement}
 use Rattle.dodgy_2d.proofs.judge.judge_obstacle.Tie as tie
@@ -17,7 +17,7 @@ returns-2 c =
     let a = c .before .before .before .before .before .before .args in
     let v = now (a .vertices) in
     let rest : take (length v - 2 * a .total) (drop (2 * a .total) v) ≡ drop (2 * a .total) v = rw (← length-drop (2 * a .total) v) (take-length (drop (2 * a .total) v)) in
-    simp (c .before .before .enum-told .given .1, ← c .before .before .before .before .judge-head .ensures) (c .judge-vertices .ensures ∙ ap (verticesFault (a .head .count)) rest)
+    simp (c .before .before .enum-told .given .1, ← c .before .before .before .before .judge-head .ensures) (c .judge-outline .ensures ∙ ap (outlineFault (a .head)) rest)
 
 pub judge-obstacle-spec : {M : Type 1} → statement M
 judge-obstacle-spec =

@@ -35,10 +35,10 @@ loop-again c =
     let s = t .before .before .before .before in
     let a = s .args in
     putting-on One Two _ (now (a .source)) (a .start) (a .count) (l .buffer) _ (l .i) (l .inv) (t .loop-test .taken)
-        (s .pre .0)
+    (s .pre .0)
     (b .put-bytes .kept .0 ∙ p .put-word .kept .0)
     (numbered-put (l .buffer) _ _ (drop (a .start + 16 * l .i) (now (a .source))) (a .start + 20 * l .i)
-        (p .put-word .ensures) (b .put-bytes .ensures))
+    (p .put-word .ensures) (b .put-bytes .ensures))
 
 same-length : tie.Need-same-length Inv-loop μ-loop
 same-length c = c .before .loop .inv .sized
@@ -50,5 +50,5 @@ pub put-numbered-spec : {M : Type 1} → statement M
 put-numbered-spec =
     tie.close (tie.spec Inv-loop μ-loop loop-holds (λ c. search needs) (λ c. search needs) (λ c κs. search needs)
     (λ c. search needs) (λ c. search needs) (λ c. search needs) (λ c. search needs)
-        (λ c. search needs) put-bytes-requires
+    (λ c. search needs) put-bytes-requires
     (λ c. search needs) (λ c. search needs) loop-again same-length returns)

@@ -31,10 +31,10 @@ loop-again c =
     let s = t .before .before .before .before in
     let a = s .args in
     putting-on Two One _ (now (a .source)) (a .start) (a .count) (l .buffer) _ (l .i) (l .inv) (t .loop-test .taken)
-        (s .pre .0)
+    (s .pre .0)
     (b .put-bytes .kept .0)
     (unnumbered-put (l .buffer) _ (now (a .source)) (a .start + 16 * l .i) (a .start + 20 * l .i)
-        (b .put-bytes .ensures))
+    (b .put-bytes .ensures))
 
 same-length : tie.Need-same-length Inv-loop μ-loop
 same-length c = c .before .loop .inv .sized
@@ -46,5 +46,5 @@ pub put-unnumbered-spec : {M : Type 1} → statement M
 put-unnumbered-spec =
     tie.close (tie.spec Inv-loop μ-loop loop-holds (λ c. search needs) (λ c. search needs) (λ c. search needs)
     (λ c. search needs) (λ c. search needs) put-bytes-requires (λ c. search needs)
-        (λ c. search needs) loop-again same-length
+    (λ c. search needs) loop-again same-length
     returns)

@@ -24,8 +24,8 @@ abbrev μ-loop : tie.MeasureT-loop
 loop-holds : tie.Need-loop-holds Inv-loop μ-loop
 loop-holds c = (omega arith, omega arith, refl, refl, refl, rw sub-zero)
 
-vertices-at-requires : tie.Need-vertices-at-requires Inv-loop μ-loop
-vertices-at-requires c κs = omega (arith, head-fits _ (c .before .before .before .before .loop .total) (c .before .before .before .before .loop .next) _ _ (c .before .before .before .before .loop .inv .1) (c .before .before .head-at .ensures) (c .before .wide .ensures .0), c .before .before .before .before .loop .inv .4, c .before .before .before .before .before .before .before .before .before .pre .2)
+outline-at-requires : tie.Need-outline-at-requires Inv-loop μ-loop
+outline-at-requires c κs = omega (arith, head-fits _ (c .before .before .before .before .loop .total) (c .before .before .before .before .loop .next) _ _ (c .before .before .before .before .loop .inv .1) (c .before .before .head-at .ensures) (c .before .wide .ensures .0), c .before .before .before .before .loop .inv .4, c .before .before .before .before .before .before .before .before .before .pre .2)
 
 slice-write-kinds : tie.Need-slice-write-kinds Inv-loop μ-loop
 slice-write-kinds c = omega (arith, c .before .before .before .before .before .before .before .loop .inv .2, c .before .before .before .before .before .before .before .before .before .before .before .before .pre .0)
@@ -48,8 +48,8 @@ loop-again c =
       head-fits _ (c .before .before .before .before .before .before .before .loop .total) (c .before .before .before .before .before .before .before .loop .next) _ _ (c .before .before .before .before .before .before .before .loop .inv .1) (c .before .before .before .before .before .head-at .ensures) (c .before .before .before .before .wide .ensures .0),
       simp length-set (l .inv .2),
       simp length-set (l .inv .3),
-      omega (arith, c .before .before .vertices-at .kept .1, l .inv .4),
-      l .inv .5 ∙ walls-next (now (a .bytes)) _ _ _ _ (l .i) (l .total) _ _ _ (a .count) _ _ _ (c .before .before .before .before .before .before .loop-test .taken) (head-known _ _ read) (c .before .before .before .before .wide .ensures .0) (c .before .before .vertices-at .ensures),
+      omega (arith, c .before .before .outline-at .kept .1, l .inv .4),
+      l .inv .5 ∙ walls-next (now (a .bytes)) _ _ _ _ (l .i) (l .total) _ _ _ (a .count) _ _ _ (c .before .before .before .before .before .before .loop-test .taken) (head-known _ _ read) (c .before .before .before .before .wide .ensures .0) (c .before .before .outline-at .ensures),
     )
 
 same-length : tie.Need-same-length Inv-loop μ-loop
@@ -66,5 +66,5 @@ returns c = let l = c .before .loop in walls-done _ _ _ _ _ _ (c .loop-test .lef
 
 pub obstacles-at-spec : {M : Type 1} → statement M
 obstacles-at-spec =
-    tie.close (tie.spec Inv-loop μ-loop loop-holds (λ c κs. search needs) (λ c κs. search needs) vertices-at-requires slice-write-kinds
+    tie.close (tie.spec Inv-loop μ-loop loop-holds (λ c κs. search needs) (λ c κs. search needs) outline-at-requires slice-write-kinds
     slice-write-counts add-total (λ c. search needs) loop-less loop-again same-length same-length-2 same-length-3 returns)
