@@ -11,6 +11,7 @@ mod cut_vectors;
 mod doubled;
 mod edge_vectors;
 mod encounters;
+mod histories;
 mod lent;
 mod line_lists;
 mod list_vectors;
@@ -32,9 +33,9 @@ use std::{env, fs};
 use scene_vectors::{failures, Set};
 
 const USAGE: &str = "usage: oracle self-check
-       oracle vectors common|lists|cuts|edges|failures|walls FILE
+       oracle vectors common|lists|cuts|histories|edges|failures|walls FILE
        oracle vectors scenes|bad_records|writings|moves RECORDS ANSWERS
-       oracle lists|edges|failures|walls SEED COUNT|SECONDSs FILE
+       oracle lists|histories|edges|failures|walls SEED COUNT|SECONDSs FILE
        oracle scenes|writings|moves SEED COUNT|SECONDSs RECORDS ANSWERS
        oracle agree ANSWERS OTHER_ANSWERS [SCENES]
        oracle answer SCENES ANSWERS
@@ -52,6 +53,7 @@ fn main() -> ExitCode {
         ["vectors", "common", file] => write_covered(file, common_vectors::bytes()),
         ["vectors", "lists", file] => write_covered(file, list_vectors::bytes()),
         ["vectors", "cuts", file] => write_covered(file, cut_vectors::bytes()),
+        ["vectors", "histories", file] => write_covered(file, histories::bytes()),
         ["vectors", "edges", file] => write_covered(file, edge_vectors::bytes()),
         ["vectors", "failures", file] => write_covered(file, failures::bytes()),
         ["vectors", "walls", file] => write_covered(file, walls::bytes()),
@@ -65,6 +67,9 @@ fn main() -> ExitCode {
         ["vectors", "moves", records, answers] => write_set(records, answers, moves::set()),
         ["lists", seed, until, file] => {
             scale::write([seed, until], &[file], list_vectors::at_scale)
+        }
+        ["histories", seed, until, file] => {
+            scale::write([seed, until], &[file], histories::at_scale)
         }
         ["edges", seed, until, file] => {
             scale::write([seed, until], &[file], edge_vectors::at_scale)

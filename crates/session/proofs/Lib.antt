@@ -1,7 +1,6 @@
--- The laws of `session`: of a batch's work, of sessions that are handed out, of a start, of any cut into batches, and of origins.
+-- The laws of `session`: of a batch's work, of a withdrawal's, of sessions that are handed out, and of a start.
 pub mod StoreLaws
 pub mod BatchWork
+pub mod WithdrawalWork
 pub mod HandedLaws
 pub mod StartLaws
-pub mod CutLaws
-pub mod OriginLaws

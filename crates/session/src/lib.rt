@@ -1,5 +1,5 @@
-// The batch session (01, "The session has three phases"): lines come in batches, with their origins or without, and after each the session stands as the
-// whole list of its lines does.
+// The batch session (01, "The session has three phases"): lines come in batches, with their origins or without, and can be taken back (02, T-12); after each
+// call the session stands as the whole list of its lines does.
 use admission::Judged;
 use common::Vec2;
 use linear_programming::Answer;
@@ -9,14 +9,16 @@ use lines::Line;
 use lines::Origin;
 ghost use mathlib.Core.Path.{_≡_};
 ghost use mathlib.Core.Bool.{true};
-ghost use Prim.Native.Nat.{_+_, _/_, _≤_};
-ghost use lib.ListN.{length};
+ghost use Prim.Native.Nat.{_+_, _-_, _*_, _/_, _≤_, _<_};
+ghost use lib.ListN.{length, take, set};
 ghost use lib.Seq.{sets};
 ghost use Rattle.lines.specs.Lines.{mostLines, linesOf};
+ghost use Rattle.lines.specs.Origins.{originsOf};
 ghost use Rattle.admission.specs.Faults.{faultOf};
 ghost use Rattle.linear_programming.specs.Read.{outcomeOf};
 ghost use Rattle.session.specs.Sessions.{blankLines, blankOrigins, blankSession, startedAs};
 ghost use Rattle.session.specs.Batches.{originsFor, fitting, batchFault, settledOn, settled, worked, fedWith, fedAs};
+ghost use Rattle.session.specs.Withdrawals.{orGiven, thenFed, freshAs, leftOf, sourceOf, sourceIn, lowered, withdrawalFault, withdrawnAs};
 ghost use Rattle.session.specs.Handed.{Handed, Begins, Continues, ContinuesWith};
 
 // The lines so far, the origin of each and their count, what they are solved for, and how they stand: the phase, the failed line beside it, and the probes.
@@ -192,6 +194,160 @@ impl Session {
             };
         }
         work(self, numbers, origins)
+    }
+
+    // The session without the line at `index`: a fresh one with the same wish and limit, fed the lines that are left in their order, with their origins. Later
+    // lines move down by one, and the rigid count is one less if the index was below it. Refused, the session is the one given: a session of more than 256
+    // lines (4), an index that is not below the line count (15), the lines that are left, solved afresh (8, 9). The last two stand in 02's order, but no
+    // session that was handed out meets them (law `withdrawn-told`).
+    pub fn withdraw(self, index: usize) -> Fed
+        ensures { λ r. ⌜ r ≡ withdrawnAs self index ⌝ }
+    {
+        let count = self.count;
+        let judged = judge_withdrawal(count, index);
+        if let Judged::Fault(_) = judged {
+            return Fed {
+                judged,
+                session: self,
+            };
+        }
+        let withdrawn = [index];
+        let fresh = refill(self, &withdrawn, lower(index, self.rigid));
+        or_given(self, fresh)
+    }
+}
+
+// The first fault of a withdrawal from a session of `count` lines: more lines than a session holds (4), an index behind them (15).
+fn judge_withdrawal(count: usize, index: usize) -> Judged
+    ensures { λ r. ⌜ faultOf r ≡ withdrawalFault count index ⌝ }
+{
+    if count > Line::MOST {
+        return Judged::Fault(4);
+    }
+    if index >= count {
+        return Judged::Fault(15);
+    }
+    Judged::Fine
+}
+
+// The rigid count once the line at `index` is gone.
+fn lower(index: usize, rigid: usize) -> usize
+    ensures { λ r. ⌜ r ≡ lowered index rigid ⌝ }
+{
+    if index < rigid {
+        return rigid - 1;
+    }
+    rigid
+}
+
+// Where the line that comes to stand at `n` stood before the one at `index` was taken out.
+fn source(index: usize, n: usize) -> usize
+    requires { ⌜ n < 512 ⌝ }
+    ensures { λ r. ⌜ (r ≡ sourceOf index n) × (r ≤ n + 1) ⌝ }
+{
+    if n < index {
+        return n;
+    }
+    n + 1
+}
+
+// Where it stood before those at several indices were.
+fn source_in(withdrawn: &[usize], n: usize) -> usize
+    requires { ⌜ n + length (now withdrawn) ≤ mostLines ⌝ }
+    ensures { λ r. ⌜ (r ≡ sourceIn (now (withdrawn .entry)) n) × (r ≤ n + length (now (withdrawn .entry))) ⌝ }
+{
+    let mut from = n;
+    let mut k = 0usize;
+    while k < withdrawn.len() {
+        from = source(withdrawn[k], from);
+        k += 1;
+    }
+    from
+}
+
+// The first `count` lines without those at several indices, laid out as numbers.
+fn lay_lines(lines: [Line; Line::MOST], count: usize, withdrawn: &[usize], numbers: &mut [f32])
+    requires { ⌜ (length (now withdrawn) ≤ count) × (count ≤ mostLines) × (length (now numbers) ≡ 4 * mostLines) ⌝ }
+    ensures { λ _. ⌜ (length (now (numbers .exit)) ≡ 4 * mostLines) × (take (count - length (now (withdrawn .entry))) (linesOf (now (numbers .exit))) ≡ leftOf (now (withdrawn .entry)) count lines) ⌝ }
+{
+    let mut n = 0usize;
+    while n < count - withdrawn.len() {
+        let from = source_in(withdrawn, n);
+        lines::put_line(numbers, n, lines[from]);
+        n += 1;
+    }
+}
+
+// The origins of these lines, laid out as numbers.
+fn lay_origins(
+    origins: [Origin; Line::MOST],
+    count: usize,
+    withdrawn: &[usize],
+    numbers: &mut [u32],
+)
+    requires { ⌜ (length (now withdrawn) ≤ count) × (count ≤ mostLines) × (length (now numbers) ≡ 3 * mostLines) ⌝ }
+    ensures { λ _. ⌜ (length (now (numbers .exit)) ≡ 3 * mostLines) × (take (count - length (now (withdrawn .entry))) (originsOf (now (numbers .exit))) ≡ leftOf (now (withdrawn .entry)) count origins) ⌝ }
+{
+    let mut n = 0usize;
+    while n < count - withdrawn.len() {
+        let from = source_in(withdrawn, n);
+        put_origin(numbers, n, origins[from]);
+        n += 1;
+    }
+}
+
+// Stores an origin at an index of a list that is lent as numbers, three an origin.
+fn put_origin(numbers: &mut [u32], i: usize, origin: Origin)
+    requires { ⌜ (3 * i + 3 ≤ length (now numbers)) × (length (now numbers) ≤ 3 * mostLines) ⌝ }
+    ensures { λ _. ⌜ originsOf (now (numbers .exit)) ≡ set (originsOf (now (numbers .entry))) i origin ⌝ }
+{
+    let k = 3 * i;
+    numbers[k] = origin.kind;
+    numbers[k + 1] = origin.place;
+    numbers[k + 2] = origin.vertex;
+}
+
+// A fresh session, fed the lines of another but for those at several indices, with their origins.
+fn refill(session: Session, withdrawn: &[usize], rigid: usize) -> Fed
+    requires { ⌜ (length (now withdrawn) ≤ session .count) × (session .count ≤ mostLines) ⌝ }
+    ensures { λ r. ⌜ r ≡ freshAs (session .wish) (session .limit) rigid (leftOf (now (withdrawn .entry)) (session .count) (session .lines)) (leftOf (now (withdrawn .entry)) (session .count) (session .origins)) ⌝ }
+{
+    let count = session.count;
+    let lines = session.lines;
+    let origins = session.origins;
+    let wish = session.wish;
+    let mut numbers = [0.0f32; 4 * Line::MOST];
+    let mut threes = [0u32; 3 * Line::MOST];
+    lay_lines(lines, count, withdrawn, &mut numbers);
+    lay_origins(origins, count, withdrawn, &mut threes);
+    let left = count - withdrawn.len();
+    let started = Session::start(wish, session.limit, rigid);
+    then_feed(started, &numbers[0..4 * left], &threes[0..3 * left])
+}
+
+// What a call handed back, fed a batch; where it was refused, what it says.
+fn then_feed(fed: Fed, numbers: &[f32], origins: &[u32]) -> Fed
+    ensures { λ r. ⌜ r ≡ thenFed fed (now (numbers .entry)) (now (origins .entry)) ⌝ }
+{
+    let judged = fed.judged;
+    if let Judged::Fault(_) = judged {
+        return fed;
+    }
+    let session = fed.session;
+    session.batch_with_origins(numbers, origins)
+}
+
+// What a call hands back, with the session that was given beside a refusal.
+fn or_given(session: Session, fed: Fed) -> Fed
+    ensures { λ r. ⌜ r ≡ orGiven session fed ⌝ }
+{
+    let judged = fed.judged;
+    match judged {
+        Judged::Fine => fed,
+        Judged::Fault(number) => Fed {
+            judged: Judged::Fault(number),
+            session,
+        },
     }
 }
 

@@ -58,7 +58,7 @@ fn write_record(words: &mut Words, case: &Case) {
 }
 
 /// Those made by hand, then the random ones, as far as they are admitted.
-fn calls() -> Vec<Call> {
+pub fn calls() -> Vec<Call> {
     let mut calls: Vec<Call> = named::calls().into_iter().map(|(_, call)| call).collect();
     let mut random = Random::new(SEED);
     for (make, count) in PARTS {

@@ -1,28 +1,37 @@
--- 02, T-06: sessions that differ only in origins end alike in all else (`origins-alike`, `all-alike`), and at each index the origin kept is the one that
--- the line arrived with (`origins-kept`). Assumes nothing.
+-- 02, T-06: sessions that differ only in origins end alike in all else, after a batch, a withdrawal and any history (`origins-alike`,
+-- `withdrawal-alike`, `all-alike`), and at each index the origin kept is the one that the line arrived with (`origins-kept`). Assumes nothing.
 use Prim.Native.Nat.{ℕ, _+_, _≤_, _<_}
 use mathlib.Core.Path.{_≡_, refl, sym, ap}
+use mathlib.Core.Bool.{Bool, true, false}
 use mathlib.Core.List.{List, [], _∷_, _++_}
 use native.Mathlib.Omega.{arith}
+use lib.Dec.{ltb}
 use lib.ListN.{length, getD, List·getD-append}
 use lib.Seq.{getD-append-add, length-take-le}
 use lib.Ieee.{Float}
+use borrow.Author.Tests.{ltb-true}
 use Rattle.admission.specs.Faults.{fine, faultOf}
+use Rattle.admission.proofs.FaultLaws.{judgements-agree}
+use Rattle.common.specs.declared.Vec2.{Vec2}
 use Rattle.lines.specs.declared.Line.{Line}
 use Rattle.lines.specs.declared.Origin.{Origin}
 use Rattle.lines.specs.Lines.{linesOf}
 use Rattle.lines.specs.Origins.{unknown, originsOf}
 use Rattle.linear_programming.specs.Whole.{Outcome, stands, refusal}
 use Rattle.linear_programming.specs.Admit.{_⟫_}
 use Rattle.session.specs.declared.Session.{Session}
 use Rattle.session.specs.declared.Fed.{Fed}
 use Rattle.session.specs.Sessions.{originsIn}
 use Rattle.session.specs.Batches.{originsFor, originsFault, batchFault, settled, worked, fedWith}
 use Rattle.session.specs.Handed.{Handed}
-use Rattle.session.specs.Cuts.{Batch, fedBy, fedAll, WholeLines, none, more, arriving}
-use Rattle.session.specs.Alike.{labelled, Alike, alike, SameLines, no-batch, one-more}
+use Rattle.session.specs.Withdrawals.{withdrawnAs}
 use Rattle.session.proofs.StoreLaws.{origins-each}
 use Rattle.session.proofs.HandedLaws.{continues}
+use Rattle.histories.specs.Cuts.{Batch, fedBy, arriving}
+use Rattle.histories.specs.Histories.{Operation, doneAll}
+use Rattle.histories.specs.Alike.{labelled, Alike, alike, Theirs, SameLines, no-call, batch-each, withdrawal-each}
+use Rattle.histories.proofs.StandLaws.{StandsOver, over-own}
+use Rattle.histories.proofs.FreshLaws.{count-over, same-but-origins, withdrawn-taken, withdrawn-over, withdrawn-behind, withdrawn-handed}
 
 -- ---- alike in all else
 
@@ -51,15 +60,42 @@ module _ (xs : List Float) (os ps : List ℕ) (theirs : originsFault (length (li
   origins-alike (alike {s} qs) =
       rw (← same-fault (s .count), same-work s qs) (settled-alike s qs (linesOf xs) os ps (batchFault (s .count) xs os ⟫ worked s (linesOf xs)))
 
-alike-by : {s t : Session} (b c : Batch) → b .numbers ≡ c .numbers → originsFault (length (linesOf (b .numbers))) (b .brought) ≡ fine →
-    originsFault (length (linesOf (c .numbers))) (c .brought) ≡ fine → Alike s t → AlikeFed (fedBy s b) (fedBy t c)
+alike-by : {s t : Session} (b c : Batch) → b .numbers ≡ c .numbers → Theirs b → Theirs c → Alike s t → AlikeFed (fedBy s b) (fedBy t c)
 alike-by b c e theirs others a = rw (← e) (origins-alike (b .numbers) (b .brought) (c .brought) theirs (rw e others) a)
 
--- any batches, one after the other
-pub all-alike : {s t : Session} {bs cs : List Batch} → Alike s t → SameLines bs cs → WholeLines bs → WholeLines cs → Alike (fedAll s bs) (fedAll t cs)
-all-alike a no-batch none none = a
-all-alike a (one-more {b} {c} e same) (more four theirs ws) (more four′ others vs) =
-    all-alike (alike-by b c e theirs others a .sessions) same ws vs
+-- ---- a line taken back
+
+alike-to : {s t : Session} (os : List Origin) → labelled os s ≡ t → Alike s t
+alike-to os e = rw (← e) (alike os)
+
+-- sessions that were handed out over the same lines
+pub over-alike : {s t : Session} {rigid : ℕ} {wish : Vec2} {limit : Float} {lines : List Line} {os ps : List Origin} →
+    StandsOver s rigid wish limit lines os → StandsOver t rigid wish limit lines ps → Alike s t
+over-alike {t = t} o p = alike-to (t .origins) (same-but-origins o p refl)
+
+pub withdrawal-alike : {s t : Session} → Handed s → Handed t → Alike s t → (i : ℕ) → AlikeFed (withdrawnAs s i) (withdrawnAs t i)
+withdrawal-alike h k (alike {s} qs) i = go (ltb i (s .count)) refl
+  where
+    go : (b : Bool) → ltb i (s .count) ≡ b → AlikeFed (withdrawnAs s i) (withdrawnAs (labelled qs s) i)
+    go true e =
+        let below = ltb-true i (s .count) e in
+        let o = over-own h in
+        let p = over-own k in
+        let n = count-over o in
+        record {
+          judged-same = judgements-agree (withdrawn-taken o i (omega arith)) (withdrawn-taken p i (omega arith));
+          sessions = over-alike (withdrawn-over o i (omega arith)) (withdrawn-over p i (omega arith));
+        }
+    go false e = rw (withdrawn-behind s h i e, withdrawn-behind (labelled qs s) k i e) (record { judged-same = refl; sessions = alike qs })
+
+-- ---- any calls, one after the other
+
+pub all-alike : {s t : Session} {os ps : List Operation} → Handed s → Handed t → Alike s t → SameLines os ps → Alike (doneAll s os) (doneAll t ps)
+all-alike h k a no-call = a
+all-alike {s} {t} h k a (batch-each {b} {c} e theirs others same) =
+    all-alike (continues s h (b .numbers) (b .brought) .handed) (continues t k (c .numbers) (c .brought) .handed) (alike-by b c e theirs others a .sessions) same
+all-alike {s} {t} h k a (withdrawal-each {i} same) =
+    all-alike (withdrawn-handed s h i) (withdrawn-handed t k i) (withdrawal-alike h k a i .sessions) same
 
 -- ---- each line's own
 

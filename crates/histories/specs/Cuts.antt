@@ -7,9 +7,10 @@ use lib.Ieee.{Float}
 use Rattle.admission.specs.Faults.{fine}
 use Rattle.lines.specs.declared.Origin.{Origin}
 use Rattle.lines.specs.Lines.{linesOf}
+use Rattle.lines.specs.LineFaults.{linesFault}
 use Rattle.session.specs.declared.Session.{Session}
 use Rattle.session.specs.declared.Fed.{Fed}
 use Rattle.session.specs.Batches.{originsFor, originsFault, fedWith}
 
 -- the numbers of a batch's lines, and the origins that it brings
 pub record Batch : Type 0 where
@@ -19,12 +20,13 @@ pub record Batch : Type 0 where
 abbrev pub fedBy : Session → Batch → Fed
 fedBy s b = fedWith s (b .numbers) (b .brought)
 
--- the session after each batch of a list, one after the other
-abbrev pub fedAll : Session → List Batch → Session
-fedAll s [] = s
-fedAll s (b ∷ bs) = fedAll (fedBy s b .session) bs
+-- whole lines, admitted, that bring "no origins or three numbers a line"
+pub record Admitted (b : Batch) : Type 0 where
+  pub four : length (b .numbers) % 4 ≡ 0
+  pub theirs : originsFault (length (linesOf (b .numbers))) (b .brought) ≡ fine
+  pub lines : linesFault (linesOf (b .numbers)) ≡ fine
 
--- each batch is whole lines, or empty, and brings "no origins or three numbers a line"
+-- each batch is whole lines, or empty, and brings no origins or three numbers a line
 pub data WholeLines : List Batch → Type 0 where
   none : WholeLines []
   more : {b : Batch} {bs : List Batch} → length (b .numbers) % 4 ≡ 0 → originsFault (length (linesOf (b .numbers))) (b .brought) ≡ fine →

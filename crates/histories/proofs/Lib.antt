@@ -1,0 +1,8 @@
+-- The laws of a session's calls: where it stands over which lines, that it is the fresh one over them, demand 3 over any history
+-- and over any cut into batches, and of origins.
+pub mod StandLaws
+pub mod FreshLaws
+pub mod HistoryLaws
+pub mod CutLaws
+pub mod OriginLaws
+pub mod WithdrawalCases

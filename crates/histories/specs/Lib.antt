@@ -1,0 +1,5 @@
+-- The definitions of demand 3 and of origins, which laws cite: batches, the calls of a session, how it stands after each.
+pub mod Cuts
+pub mod Histories
+pub mod Demand3
+pub mod Alike

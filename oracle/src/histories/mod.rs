@@ -1,0 +1,179 @@
+//! The vectors of a session's calls, one after the other (01; 02, T-12): lines come in batches and are taken back.
+//! A record is one call, a session goes on from record to record up to the next start. In words: how many bytes come behind the
+//! head; the kind (0 start, 1 batch without origins, 2 batch with origins, 3 withdrawal, 4 withdrawal after which the session goes on as
+//! before it); two arguments (rigid count and limit; how many numbers and how many of origins; the index and 0); how it is judged (0 taken,
+//! else the number); then of the session afterwards the line count, the rigid count, how many numbers of origins are told (0: all are
+//! unknown) and the answer as in list_vectors; the wish (2), of a start. Behind the head: the origins that stand, the numbers, their origins.
+//! What stands is by standing.rs, written from 01 and 02 alone; the answer is the Rust's for these lines, asked anew after each call.
+
+mod drawn;
+mod named;
+mod standing;
+
+use crate::builds::Solved;
+use crate::coverage_table::{self, Column};
+use crate::list_vectors::{ask_rust, write_solved};
+use crate::random::Random;
+use crate::scale::Parts;
+use crate::words::Words;
+use standing::{Call, Standing};
+
+const SEED: u64 = 0x6869_7374_6F72;
+const DRAWN: usize = 400;
+
+/// How many calls a drawn history has, its start among them.
+pub const CALLS: usize = 10;
+
+/// A call, how it was judged, and what stood before and after it.
+struct Told {
+    call: Call,
+    judged: u32,
+    before: Standing,
+    after: Standing,
+    solved_before: Solved,
+    solved: Solved,
+}
+
+/// The calls of a session, told one after the other.
+pub struct History {
+    standing: Standing,
+    told: Vec<Told>,
+}
+
+impl History {
+    /// From a start that is admitted.
+    fn start(start: Standing) -> Result<History, String> {
+        let solved = ask_rust(&start.list())?;
+        let told = Told {
+            call: Call::Start,
+            judged: 0,
+            before: start.clone(),
+            after: start.clone(),
+            solved_before: solved,
+            solved: ask_rust(&start.list())?,
+        };
+        Ok(History {
+            standing: start,
+            told: vec![told],
+        })
+    }
+
+    fn call(&mut self, call: Call) -> Result<(), String> {
+        let before = self.standing.clone();
+        let mut after = before.clone();
+        let judged = after.take(&call);
+        if !matches!(call, Call::Tried(_)) {
+            self.standing = after.clone();
+        }
+        self.told.push(Told {
+            solved_before: ask_rust(&before.list())?,
+            solved: ask_rust(&after.list())?,
+            call,
+            judged,
+            before,
+            after,
+        });
+        Ok(())
+    }
+}
+
+type Test = fn(&Told) -> bool;
+
+const COLUMNS: [Column<Told>; 4] = [
+    ("in all", |_| true),
+    ("solving then", |told| told.solved.counts.failed_line.is_none()),
+    ("relaxing then", |told| told.solved.counts.penetration.is_some()),
+    ("rigid failure then", |told| told.solved.answer.is_err()),
+];
+
+#[rustfmt::skip]
+const ROWS: &[(&str, Test)] = &[
+    ("start", |told| matches!(told.call, Call::Start)),
+    ("batch that is taken", |told| is_batch(told) && told.judged == 0),
+    ("batch refused with 2", |told| is_batch(told) && told.judged == 2),
+    ("batch refused with 4", |told| is_batch(told) && told.judged == 4),
+    ("batch refused with 6", |told| is_batch(told) && told.judged == 6),
+    ("batch refused with 7", |told| is_batch(told) && told.judged == 7),
+    ("withdrawal that is taken", is_taken),
+    ("withdrawal of the first line of several", |told| is_taken(told) && told.before.lines.len() > 1 && index(told) == 0),
+    ("withdrawal of the last line of several", |told| is_taken(told) && told.before.lines.len() > 1 && index(told) + 1 == told.before.lines.len()),
+    ("withdrawal of the only line", |told| is_taken(told) && told.before.lines.len() == 1),
+    ("withdrawal below the rigid count", |told| is_taken(told) && told.after.rigid < told.before.rigid),
+    ("withdrawal at the rigid count", |told| is_taken(told) && index(told) == told.before.rigid as usize),
+    ("withdrawal under a rigid count above the lines", |told| is_taken(told) && told.before.rigid as usize > told.before.lines.len()),
+    ("withdrawal of the failed line", |told| is_taken(told) && told.solved_before.counts.failed_line == Some(index(told))),
+    ("withdrawal that ends a rigid failure", |told| is_taken(told) && told.solved_before.answer.is_err() && told.solved.answer.is_ok()),
+    ("withdrawal that ends relaxation", |told| is_taken(told) && told.solved_before.counts.penetration.is_some() && told.solved.counts.failed_line.is_none()),
+    ("withdrawal behind which another line fails", |told| is_taken(told) && told.solved.counts.failed_line.is_some_and(|k| told.solved_before.counts.failed_line.is_some_and(|j| j < k))),
+    ("withdrawal of a line with an origin", |told| is_taken(told) && told.before.origins[index(told)] != [0; 3]),
+    ("withdrawal from 256 lines", |told| is_taken(told) && told.before.lines.len() == 256),
+    ("withdrawal refused with 15", |told| told.judged == 15),
+    ("batch to the 256th line behind a withdrawal", |told| is_batch(told) && told.judged == 0 && told.before.lines.len() == 255 && told.after.lines.len() == 256),
+];
+
+fn is_batch(told: &Told) -> bool {
+    matches!(told.call, Call::Batch(..))
+}
+
+fn is_taken(told: &Told) -> bool {
+    told.judged == 0 && matches!(told.call, Call::Withdrawal(_) | Call::Tried(_))
+}
+
+fn index(told: &Told) -> usize {
+    match told.call {
+        Call::Withdrawal(index) | Call::Tried(index) => index,
+        _ => usize::MAX,
+    }
+}
+
+/// The same bytes at each call, and the table of what they cover.
+pub fn bytes() -> Result<(Vec<u8>, String), String> {
+    let mut told = Vec::new();
+    for history in named::histories()? {
+        told.extend(history.told);
+    }
+    let mut random = Random::new(SEED);
+    for _ in 0..DRAWN {
+        told.extend(drawn::history(&mut random)?.told);
+    }
+    let table = coverage_table::of(&told, ("Calls", &COLUMNS), ROWS, |test, told| test(told));
+    Ok((Words::of(&told, write_record), table?))
+}
+
+/// A drawn history's records.
+pub fn at_scale(random: &mut Random) -> Result<Parts, String> {
+    let history = drawn::history(random)?;
+    Ok(vec![Words::of(&history.told, write_record)])
+}
+
+fn write_record(words: &mut Words, told: &Told) {
+    let after = &told.after;
+    let mut known: &[[u32; 3]] = &after.origins;
+    if known.iter().all(|origin| *origin == [0; 3]) {
+        known = &[];
+    }
+    let none = (Vec::new(), Vec::new());
+    let (kind, arguments, (numbers, origins)) = match &told.call {
+        Call::Start => (0, [after.rigid, after.limit.to_bits()], none),
+        Call::Batch(numbers, None) => (1, [numbers.len() as u32, 0], (numbers.clone(), Vec::new())),
+        Call::Batch(numbers, Some(origins)) => {
+            let counts = [numbers.len() as u32, origins.len() as u32];
+            (2, counts, (numbers.clone(), origins.clone()))
+        }
+        Call::Withdrawal(index) => (3, [*index as u32, 0], none),
+        Call::Tried(index) => (4, [*index as u32, 0], none),
+    };
+    words.word(4 * (3 * known.len() + numbers.len() + origins.len()) as u32);
+    words.word(kind);
+    arguments.iter().for_each(|argument| words.word(*argument));
+    words.word(told.judged);
+    words.word(after.lines.len() as u32);
+    words.word(after.rigid);
+    words.word(3 * known.len() as u32);
+    write_solved(words, &told.solved);
+    words.bits(after.wish.x);
+    words.bits(after.wish.y);
+    known.iter().flatten().for_each(|number| words.word(*number));
+    numbers.iter().for_each(|number| words.bits(*number));
+    origins.iter().for_each(|number| words.word(*number));
+}

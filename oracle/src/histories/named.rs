@@ -1,0 +1,143 @@
+//! Histories that are made by hand: bench cases with a line taken back, a gate that opens and closes, sessions that are emptied and fed
+//! again, full ones, and every index of lists that the session's cuts have too.
+
+use glam::Vec2;
+
+use super::drawn::standing_of;
+use super::standing::{numbers_of, Call, Standing};
+use super::History;
+use crate::cut_vectors;
+use crate::list_vectors::call::Call as List;
+use crate::list_vectors::judge::MOST_LINES;
+
+/// Of the lists that are cut, one in so many is taken, and every one of these.
+const ONE_IN: usize = 5;
+
+/// Of the lines of a long list, one in so many is taken back.
+const STEP: usize = 15;
+
+const A: [f32; 4] = [0.0, 1.0, 1.0, 0.0];
+const B: [f32; 4] = [0.0, -1.0, -1.0, 0.0];
+const FAR: [f32; 4] = [0.0, 3.0, 1.0, 0.0];
+
+pub fn histories() -> Result<Vec<History>, String> {
+    let mut histories = vec![
+        // P5, P7 and P9, each with each line taken back, and an index behind the last.
+        tried(1, &[FAR])?,
+        tried(0, &[A, B])?,
+        tried(2, &[A, B])?,
+        tried(9, &[A, B])?,
+        tried(1, &[A, B])?,
+        gate(0)?,
+        gate(2)?,
+        origins()?,
+        full()?,
+    ];
+    for (place, list) in cut_vectors::calls().iter().enumerate() {
+        if place % ONE_IN == 0 || list.line_count() > 200 {
+            histories.push(every_index(list)?);
+        }
+        if place % 50 == 0 && list.line_count() < 40 {
+            histories.push(emptied(list, place)?);
+        }
+    }
+    Ok(histories)
+}
+
+fn at_rest(rigid: u32) -> Standing {
+    Standing {
+        wish: Vec2::ZERO,
+        limit: 2.0,
+        rigid,
+        lines: Vec::new(),
+        origins: Vec::new(),
+    }
+}
+
+fn batch(lines: &[[f32; 4]]) -> Call {
+    Call::Batch(lines.concat(), None)
+}
+
+fn tried(rigid: u32, lines: &[[f32; 4]]) -> Result<History, String> {
+    let mut history = History::start(at_rest(rigid))?;
+    history.call(batch(lines))?;
+    for index in 0..=lines.len() {
+        history.call(Call::Tried(index))?;
+    }
+    Ok(history)
+}
+
+/// A floor where a gate's line comes and goes in bursts: added, removed, added, twice in one burst, refused between; the line of a wall and
+/// that of a cart stand beside it. After each call the session must be as if the gate had only ever been as it is now.
+fn gate(rigid: u32) -> Result<History, String> {
+    let (wall, cart) = ([0.0, -1.5, 1.0, 0.0], [1.25, 0.0, 0.0, 1.0]);
+    let (closed, half) = ([0.0, 0.5, -1.0, 0.0], [0.0, 1.0, -1.0, 0.0]);
+    let named = |line: [f32; 4], place: u32| Call::Batch(line.to_vec(), Some(vec![1, place, 0]));
+    let mut history = History::start(at_rest(rigid))?;
+    for _ in 0..3 {
+        history.call(named(wall, 0))?;
+        history.call(named(closed, 7))?;
+        history.call(batch(&[cart]))?;
+        let gate = history.standing.lines.len() - 2;
+        history.call(Call::Withdrawal(gate))?;
+        history.call(named(half, 7))?;
+        history.call(Call::Batch(vec![0.0; 3], None))?;
+        history.call(Call::Withdrawal(gate + 9))?;
+        history.call(Call::Withdrawal(gate + 1))?;
+        history.call(named(closed, 7))?;
+        history.call(Call::Withdrawal(gate + 1))?;
+    }
+    Ok(history)
+}
+
+/// A with an origin and B without: the origin goes with its line.
+fn origins() -> Result<History, String> {
+    let mut history = History::start(at_rest(0))?;
+    history.call(Call::Batch(A.to_vec(), Some(vec![7, 8, 9])))?;
+    history.call(batch(&[B]))?;
+    history.call(Call::Tried(0))?;
+    history.call(Call::Tried(1))?;
+    history.call(Call::Withdrawal(0))?;
+    history.call(Call::Batch(A.to_vec(), Some(vec![4, 5, 6])))?;
+    history.call(Call::Withdrawal(0))?;
+    Ok(history)
+}
+
+/// 256 lines: no room, a line taken back at the last index and at the first, and the freed place used at once.
+fn full() -> Result<History, String> {
+    let mut history = History::start(at_rest(3))?;
+    history.call(batch(&[[0.0, -1.5, 1.0, 0.0]; MOST_LINES]))?;
+    for index in [MOST_LINES - 1, 0, 128] {
+        history.call(batch(&[A]))?;
+        history.call(Call::Withdrawal(MOST_LINES))?;
+        history.call(Call::Withdrawal(index))?;
+        history.call(batch(&[A]))?;
+    }
+    Ok(history)
+}
+
+/// A list of the cuts, fed at once: each of its lines is taken back, of a long one some, and the index behind them is refused.
+fn every_index(list: &List) -> Result<History, String> {
+    let mut history = History::start(standing_of(list))?;
+    history.call(Call::Batch(list.numbers.clone(), None))?;
+    let step = if list.line_count() > 200 { STEP } else { 1 };
+    for index in (0..list.line_count()).step_by(step) {
+        history.call(Call::Tried(index))?;
+    }
+    history.call(Call::Tried(list.line_count()))?;
+    Ok(history)
+}
+
+/// A list that is fed, taken back line by line from either end until none is left, and fed again.
+fn emptied(list: &List, place: usize) -> Result<History, String> {
+    let lines = list.to_list().lines;
+    let origins: Vec<u32> = (0..3 * lines.len() as u32).collect();
+    let mut history = History::start(standing_of(list))?;
+    history.call(Call::Batch(numbers_of(&lines), Some(origins.clone())))?;
+    for left in (0..lines.len()).rev() {
+        history.call(Call::Withdrawal(if (left + place) % 3 == 0 { 0 } else { left }))?;
+    }
+    history.call(Call::Withdrawal(0))?;
+    history.call(Call::Batch(numbers_of(&lines), Some(origins)))?;
+    Ok(history)
+}
