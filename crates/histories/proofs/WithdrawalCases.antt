@@ -40,13 +40,13 @@ pub record Case : Type 0 where
   pub index : ℕ
   pub answer : Read
 
-abbrev o : Vec2
+abbrev pub o : Vec2
 o = vec (+ 0) (+ 0)
 
-abbrev right : Vec2
+abbrev pub right : Vec2
 right = vec (+ 1) (+ 0)
 
-abbrev A : Line
+abbrev pub A : Line
 A = line (vec (+ 0) (+ 1)) right
 
 abbrev B : Line

@@ -1,5 +1,7 @@
--- The definitions of demand 3 and of origins, which laws cite: batches, the calls of a session, how it stands after each.
+-- The definitions of demand 3 and of origins, which laws cite: batches, the calls of a session, how it stands after each, and lines that
+-- do not matter.
 pub mod Cuts
 pub mod Histories
 pub mod Demand3
 pub mod Alike
+pub mod MetLines

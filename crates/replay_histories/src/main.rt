@@ -10,6 +10,7 @@ use replay_records::vector_at;
 use replay_standings::is_standing;
 use session::Fed;
 use session::Session;
+use session::Unmet;
 ghost use mathlib.Core.Path.{_≡_};
 ghost use Prim.Native.Nat.{_<_};
 
@@ -66,6 +67,7 @@ fn called(session: Session, head: &[u8], rest: &[u8]) -> Fed {
         2 => fed(session, head, rest),
         3 => session.withdraw(index),
         4 => session.withdraw(index),
+        5 => asked(session, head, rest),
         _ => unknown_call(session),
     }
 }
@@ -90,6 +92,38 @@ fn fed(session: Session, head: &[u8], rest: &[u8]) -> Fed {
     }
     let brought = first_words(&rest[told + 4 * numbers..rest.len()], origins);
     session.batch_with_origins(&given[0..numbers], &brought[0..origins])
+}
+
+// What a session answers about the batch of a record, which leaves it as it is: refused with 0 where it names another line than the record does, by its index, or
+// FFFFFFFF for none.
+fn asked(session: Session, head: &[u8], rest: &[u8]) -> Fed {
+    let told = 4 * size_at(head, 28);
+    let numbers = size_at(head, 8);
+    if told + 4 * numbers > rest.len() {
+        return unknown_call(session);
+    }
+    if numbers > 1280 {
+        return unknown_call(session);
+    }
+    let given = first_numbers(&rest[told..rest.len()], numbers);
+    let unmet = session.first_unmet(&given[0..numbers]);
+    Fed {
+        judged: named_as(unmet, size_at(head, 12)),
+        session,
+    }
+}
+
+// How a session's answer about a batch is judged: by the name that is expected.
+fn named_as(unmet: Unmet, name: usize) -> Judged {
+    match unmet {
+        Unmet::At(index) => judged_by(index == name),
+        Unmet::Nothing => judged_by(name == 0xffff_ffff),
+        Unmet::Refused(number) => Judged::Fault(number),
+    }
+}
+
+fn judged_by(good: bool) -> Judged {
+    if good { Judged::Fine } else { Judged::Fault(0) }
 }
 
 // Whether a call was judged as the record has it: 0 taken, else the number of the refusal.

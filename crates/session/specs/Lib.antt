@@ -2,4 +2,5 @@
 pub mod Sessions
 pub mod Batches
 pub mod Withdrawals
+pub mod Meeting
 pub mod Handed

@@ -1,5 +1,5 @@
 // The batch session (01, "The session has three phases"): lines come in batches, with their origins or without, and can be taken back (02, T-12); after each
-// call the session stands as the whole list of its lines does.
+// call the session stands as the whole list of its lines does. It can be asked which line of a batch matters (02, T-13).
 use admission::Judged;
 use common::Vec2;
 use linear_programming::Answer;
@@ -15,10 +15,11 @@ ghost use lib.Seq.{sets};
 ghost use Rattle.lines.specs.Lines.{mostLines, linesOf};
 ghost use Rattle.lines.specs.Origins.{originsOf};
 ghost use Rattle.admission.specs.Faults.{faultOf};
-ghost use Rattle.linear_programming.specs.Read.{outcomeOf};
+ghost use Rattle.linear_programming.specs.Read.{phaseOf, outcomeOf};
 ghost use Rattle.session.specs.Sessions.{blankLines, blankOrigins, blankSession, startedAs};
 ghost use Rattle.session.specs.Batches.{originsFor, fitting, batchFault, settledOn, settled, worked, fedWith, fedAs};
 ghost use Rattle.session.specs.Withdrawals.{orGiven, thenFed, freshAs, leftOf, sourceOf, sourceIn, lowered, withdrawalFault, withdrawnAs};
+ghost use Rattle.session.specs.Meeting.{isMet, firstUnmet, pointNow, named, unmetAs};
 ghost use Rattle.session.specs.Handed.{Handed, Begins, Continues, ContinuesWith};
 
 // The lines so far, the origin of each and their count, what they are solved for, and how they stand: the phase, the failed line beside it, and the probes.
@@ -39,6 +40,14 @@ pub struct Session {
 pub struct Fed {
     pub judged: Judged,
     pub session: Session,
+}
+
+// The first line of a batch that a session's point does not strictly meet, by the index that the line gets; or that there is none; or why a batch would be
+// refused.
+pub enum Unmet {
+    At(usize),
+    Nothing,
+    Refused(u8),
 }
 
 fn blank_lines() -> [Line; Line::MOST]
@@ -215,6 +224,69 @@ impl Session {
         let fresh = refill(self, &withdrawn, lower(index, self.rigid));
         or_given(self, fresh)
     }
+
+    // The first line of a batch, by the index that it gets in the session, that the session's point does not strictly meet: its determinant is not above 0.
+    // Asked of the session as it stands when the batch arrives. Refused is what `batch` refuses before its solve: 4, 2, 4, 6, 7. Where it is `Nothing` and
+    // the session is solving, the batch changes neither phase nor point (law `nothing-unmet`).
+    pub fn first_unmet(self, numbers: &[f32]) -> Unmet
+        ensures { λ r. ⌜ r ≡ unmetAs self (now (numbers .entry)) ⌝ }
+    {
+        let count = self.count;
+        let none = [0u32; 1];
+        let judged = judge_batch(count, numbers, &none[0..0]);
+        if let Judged::Fault(number) = judged {
+            return Unmet::Refused(number);
+        }
+        let phase = self.phase;
+        let met = count_met(point_now(phase), numbers);
+        name(count, numbers.len() / 4, met)
+    }
+}
+
+// The point of a phase.
+fn point_now(phase: Phase) -> Vec2
+    ensures { λ r. ⌜ r ≡ pointNow (phaseOf phase) ⌝ }
+{
+    match phase {
+        Phase::Solving(x, y) => Vec2 { x, y },
+        Phase::Relaxing(x, y, _) => Vec2 { x, y },
+        Phase::RigidFailure(_, x, y) => Vec2 { x, y },
+    }
+}
+
+// Whether the point lies strictly on the line's left.
+fn is_met(point: Vec2, line: Line) -> bool
+    ensures { λ r. ⌜ r ≡ isMet point line ⌝ }
+{
+    let direction = line.direction;
+    let from = line.point;
+    common::determinant(direction, point.sub(from)) > 0.0
+}
+
+// How many lines from the first on the point strictly meets.
+fn count_met(point: Vec2, numbers: &[f32]) -> usize
+    ensures { λ r. ⌜ r ≡ firstUnmet point (linesOf (now (numbers .entry))) ⌝ }
+{
+    let mut i = 0usize;
+    while i < numbers.len() / 4 {
+        let line = lines::line_at(numbers, i);
+        if !is_met(point, line) {
+            return i;
+        }
+        i += 1;
+    }
+    i
+}
+
+// The index that line `place` of a batch of `most` lines gets behind `count`, if there is such a line.
+fn name(count: usize, most: usize, place: usize) -> Unmet
+    requires { ⌜ count + most ≤ mostLines ⌝ }
+    ensures { λ r. ⌜ r ≡ named count most place ⌝ }
+{
+    if place < most {
+        return Unmet::At(count + place);
+    }
+    Unmet::Nothing
 }
 
 // The first fault of a withdrawal from a session of `count` lines: more lines than a session holds (4), an index behind them (15).

@@ -1,4 +1,5 @@
-//! Drawn histories: batches of any of the lists' lines, with origins and without, withdrawals anywhere, and calls that are refused.
+//! Drawn histories: batches of any of the lists' lines, with origins and without, questions about them, withdrawals anywhere, and calls
+//! that are refused.
 
 use dodgy_plain::debug::Line;
 
@@ -56,6 +57,7 @@ fn call(random: &mut Random, standing: &Standing, lines: &mut Vec<Line>) -> Call
     match random.below(16) {
         0..=5 => Call::Withdrawal(index(random, standing)),
         6 => refused(random, standing),
+        7..=8 => question(random, standing, lines),
         _ => batch(random, standing, lines),
     }
 }
@@ -68,6 +70,19 @@ fn index(random: &mut Random, standing: &Standing) -> usize {
     }
     let any = random.below(count);
     random.pick(&[any, any, 0, count - 1, any.min(standing.rigid as usize)])
+}
+
+/// About the next lines and those that stand, or about a batch that is at fault.
+fn question(random: &mut Random, standing: &Standing, lines: &[Line]) -> Call {
+    if random.one_in(6) {
+        if let Call::Batch(numbers, None) = refused(random, standing) {
+            return Call::Asked(numbers);
+        }
+    }
+    let next = lines.iter().take(random.below(4));
+    let again = standing.lines.iter().rev().take(random.below(4));
+    let asked: Vec<Line> = next.chain(again).cloned().collect();
+    Call::Asked(numbers_of(&asked))
 }
 
 /// The next lines, 0 to 5 or all that are left.

@@ -1,8 +1,8 @@
-//! The vectors of a session's calls, one after the other (01; 02, T-12): lines come in batches and are taken back.
+//! The vectors of a session's calls, one after the other (01; 02, T-12, T-13): lines come in batches, are asked about and are taken back.
 //! A record is one call, a session goes on from record to record up to the next start. In words: how many bytes come behind the
 //! head; the kind (0 start, 1 batch without origins, 2 batch with origins, 3 withdrawal, 4 withdrawal after which the session goes on as
-//! before it); two arguments (rigid count and limit; how many numbers and how many of origins; the index and 0); how it is judged (0 taken,
-//! else the number); then of the session afterwards the line count, the rigid count, how many numbers of origins are told (0: all are
+//! before it, 5 question which line of a batch is the first that is not strictly met); two arguments (rigid count and limit; how many numbers and
+//! how many of origins; the index and 0; how many numbers, and the index that is named or FFFFFFFF for none); how it is judged (0 taken, else the number); then of the session afterwards the line count, the rigid count, how many numbers of origins are told (0: all are
 //! unknown) and the answer as in list_vectors; the wish (2), of a start. Behind the head: the origins that stand, the numbers, their origins.
 //! What stands is by standing.rs, written from 01 and 02 alone; the answer is the Rust's for these lines, asked anew after each call.
 
@@ -28,6 +28,8 @@ pub const CALLS: usize = 10;
 struct Told {
     call: Call,
     judged: u32,
+    /// The first line that is not strictly met, by the index that it gets, where a question names one.
+    named: Option<usize>,
     before: Standing,
     after: Standing,
     solved_before: Solved,
@@ -47,6 +49,7 @@ impl History {
         let told = Told {
             call: Call::Start,
             judged: 0,
+            named: None,
             before: start.clone(),
             after: start.clone(),
             solved_before: solved,
@@ -62,14 +65,18 @@ impl History {
         let before = self.standing.clone();
         let mut after = before.clone();
         let judged = after.take(&call);
+        let solved_before = ask_rust(&before.list())?;
+        let (Ok(point) | Err(point)) = solved_before.answer;
+        let named = before.first_unmet(point, &call);
         if !matches!(call, Call::Tried(_)) {
             self.standing = after.clone();
         }
         self.told.push(Told {
-            solved_before: ask_rust(&before.list())?,
+            solved_before,
             solved: ask_rust(&after.list())?,
             call,
             judged,
+            named: named.filter(|_| judged == 0),
             before,
             after,
         });
@@ -109,7 +116,43 @@ const ROWS: &[(&str, Test)] = &[
     ("withdrawal from 256 lines", |told| is_taken(told) && told.before.lines.len() == 256),
     ("withdrawal refused with 15", |told| told.judged == 15),
     ("batch to the 256th line behind a withdrawal", |told| is_batch(told) && told.judged == 0 && told.before.lines.len() == 255 && told.after.lines.len() == 256),
+    ("question that names no line", |told| is_named(told) && told.named.is_none()),
+    ("question that names the first line of several", |told| told.named == Some(told.before.lines.len()) && asked(told) > 1),
+    ("question that names a later line", |told| told.named > Some(told.before.lines.len())),
+    ("question whose batch would leave the session as it is, though a line is named", |told| told.named.is_some() && keeps_point(told)),
+    ("question refused with 2", |told| is_question(told) && told.judged == 2),
+    ("question refused with 4", |told| is_question(told) && told.judged == 4),
+    ("question refused with 6", |told| is_question(told) && told.judged == 6),
+    ("question refused with 7", |told| is_question(told) && told.judged == 7),
 ];
+
+fn is_question(told: &Told) -> bool {
+    matches!(told.call, Call::Asked(_))
+}
+
+fn is_named(told: &Told) -> bool {
+    is_question(told) && told.judged == 0
+}
+
+/// How many lines are asked about.
+fn asked(told: &Told) -> usize {
+    match &told.call {
+        Call::Asked(numbers) => numbers.len() / 4,
+        _ => 0,
+    }
+}
+
+/// Whether a solving session would be solving at the same point behind the batch that is asked about.
+fn keeps_point(told: &Told) -> bool {
+    let Call::Asked(numbers) = &told.call else {
+        return false;
+    };
+    let mut fed = told.before.clone();
+    fed.take(&Call::Batch(numbers.clone(), None));
+    let counts = &told.solved_before.counts;
+    let after = ask_rust(&fed.list());
+    counts.failed_line.is_none() && after.is_ok_and(|after| after.answer == told.solved_before.answer)
+}
 
 fn is_batch(told: &Told) -> bool {
     matches!(told.call, Call::Batch(..))
@@ -162,6 +205,11 @@ fn write_record(words: &mut Words, told: &Told) {
         }
         Call::Withdrawal(index) => (3, [*index as u32, 0], none),
         Call::Tried(index) => (4, [*index as u32, 0], none),
+        Call::Asked(numbers) => {
+            let named = told.named.map_or(u32::MAX, |index| index as u32);
+            let arguments = [numbers.len() as u32, named];
+            (5, arguments, (numbers.clone(), Vec::new()))
+        }
     };
     words.word(4 * (3 * known.len() + numbers.len() + origins.len()) as u32);
     words.word(kind);

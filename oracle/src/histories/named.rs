@@ -32,7 +32,15 @@ pub fn histories() -> Result<Vec<History>, String> {
         gate(2)?,
         origins()?,
         full()?,
+        beside_zero()?,
+        third_line_ends()?,
+        full_of_met()?,
     ];
+    for rigid in 0..=6 {
+        for order in [[1, 1, 1], [1, 2, 1], [2, 1, 1], [2, 2, 1], [3, 1, 1], [3, 2, 1]] {
+            histories.push(taken_back(rigid, order)?);
+        }
+    }
     for (place, list) in cut_vectors::calls().iter().enumerate() {
         if place % ONE_IN == 0 || list.line_count() > 200 {
             histories.push(every_index(list)?);
@@ -113,6 +121,73 @@ fn full() -> Result<History, String> {
         history.call(Call::Withdrawal(index))?;
         history.call(batch(&[A]))?;
     }
+    Ok(history)
+}
+
+/// Lines at a determinant of 0 with the point (0, 1), one f32 to either side of it, and a NaN's: asked about, fed, and asked again.
+fn beside_zero() -> Result<History, String> {
+    let line = |y: f32| [0.0, y, 1.0, 0.0];
+    let (below, above) = (1.0_f32.next_down(), 1.0_f32.next_up());
+    let mut history = History::start(at_rest(0))?;
+    history.call(batch(&[A]))?;
+    for lines in [
+        &[line(1.0)][..],
+        &[line(below)],
+        &[line(above)],
+        &[line(-1.0), line(below), line(1.0)],
+        &[line(-1.0), A],
+        &[line(-1.0), line(below)],
+        &[],
+        &[line(f32::NAN)],
+        &[[0.0, 0.0, 1.0, 1.0]],
+    ] {
+        history.call(Call::Asked(lines.concat()))?;
+        history.call(batch(lines))?;
+    }
+    history.call(Call::Asked(vec![0.0; 6]))?;
+    Ok(history)
+}
+
+/// Two strictly met lines, and a third that ends the solving phase; relaxing and rigid sessions are asked, too.
+fn third_line_ends() -> Result<History, String> {
+    let z = [0.0, -1.5, 1.0, 0.0];
+    let mut history = History::start(at_rest(1))?;
+    history.call(batch(&[A]))?;
+    history.call(Call::Asked([z, z, B].concat()))?;
+    history.call(batch(&[z, z, B]))?;
+    history.call(Call::Asked([z, A].concat()))?;
+    history.call(Call::Asked([FAR, z].concat()))?;
+    history.call(Call::Withdrawal(0))?;
+    history.call(Call::Asked([A, z].concat()))?;
+    Ok(history)
+}
+
+/// One line, and three that its point strictly meets, which are taken back in an order.
+fn taken_back(rigid: u32, order: [usize; 3]) -> Result<History, String> {
+    let met = [[0.0, -1.5, 1.0, 0.0], [1.5, 0.0, 0.0, 1.0], [-1.5, 0.0, 0.0, -1.0]];
+    let mut history = History::start(at_rest(rigid))?;
+    history.call(batch(&[A]))?;
+    history.call(Call::Asked(met.concat()))?;
+    history.call(Call::Batch(met.concat(), Some((1..=9).collect())))?;
+    for index in order {
+        history.call(Call::Withdrawal(index))?;
+    }
+    Ok(history)
+}
+
+/// Strictly met lines up to the 256th, about which a full session is not asked; then the last three are taken back.
+fn full_of_met() -> Result<History, String> {
+    let z = [0.0, -1.5, 1.0, 0.0];
+    let mut history = History::start(at_rest(255))?;
+    history.call(batch(&[A]))?;
+    history.call(Call::Asked(z.repeat(MOST_LINES - 1)))?;
+    history.call(batch(&[z; MOST_LINES - 1]))?;
+    history.call(Call::Asked(z.to_vec()))?;
+    history.call(Call::Asked(Vec::new()))?;
+    for index in [253, 254, 253] {
+        history.call(Call::Withdrawal(index))?;
+    }
+    history.call(Call::Asked(z.repeat(3)))?;
     Ok(history)
 }
 

@@ -1,4 +1,5 @@
-//! What stands in a session, and what its calls make of it: written from the definition of the build and from request T-12 alone.
+//! What stands in a session, and what its calls make of it: written from the definition of the build and
+//! from requests T-12 and T-13 alone.
 
 use dodgy_plain::debug::Line;
 use glam::Vec2;
@@ -24,6 +25,8 @@ pub enum Call {
     Withdrawal(usize),
     /// A withdrawal after which the session goes on as before it.
     Tried(usize),
+    /// Which line of a batch is the first that the point now does not strictly meet.
+    Asked(Vec<f32>),
 }
 
 impl Standing {
@@ -42,7 +45,21 @@ impl Standing {
             Call::Start => 0,
             Call::Batch(numbers, origins) => self.feed(numbers, origins.as_deref().unwrap_or(&[])),
             Call::Withdrawal(index) | Call::Tried(index) => self.withdraw(*index),
+            Call::Asked(numbers) => self.clone().feed(numbers, &[]),
         }
+    }
+
+    /// "A line is met if determinant(direction, point now − line point) > 0": the first that is not, by the index that it gets.
+    pub fn first_unmet(&self, point: Vec2, call: &Call) -> Option<usize> {
+        let Call::Asked(numbers) = call else {
+            return None;
+        };
+        let is_met = |line: Line| {
+            let from = point - line.point;
+            line.direction.x * from.y - line.direction.y * from.x > 0.0
+        };
+        let place = numbers.chunks_exact(4).position(|four| !is_met(line_of(four)))?;
+        Some(self.lines.len() + place)
     }
 
     /// "Line list: four numbers a line, else 2; 4; .. lines in order (6, 7)"; origins are judged where the lines' count is.
