@@ -10,7 +10,7 @@ use native.Mathlib.Nat.{zero-add}
 use lib.Dec.{ltb}
 use lib.ListN.{length, length-append, take, drop}
 use lib.Ieee.{Float}
-use borrow.Author.Tests.{lt-ltb, le-ltb, le-leb, ltb-true, ltb-false}
+use borrow.Author.Tests.{le-leb, ltb-true, ltb-false}
 use Rattle.arithmetic.specs.Binary32.{0ᶠ, if_then_else_}
 use Rattle.common.specs.declared.Vec2.{Vec2}
 use Rattle.lines.specs.declared.Line.{Line}
@@ -34,29 +34,34 @@ use Rattle.histories.specs.Histories.{batch, withdrawal, standingAfter, 
 use Rattle.histories.specs.MetLines.{TakenBack, all-back, one-back, withdrawals, loweredAll, withRigid, standingIn, BroughtBack}
 use Rattle.histories.proofs.StandLaws.{over-own, batch-over}
 use Rattle.histories.proofs.FreshLaws.{same-session, origins-over}
+use Rattle.histories.proofs.ChangeLaws.{lowered-one, lowered-none}
 use Rattle.histories.proofs.HistoryLaws.{each-stands, last-over}
 
 -- ---- a list that stands solving stands the same for every rigid count
 
-never-solving : (b : Bool) (k : ℕ) (p q : Vec2) (g f : Failed) (n m : ℕ) (w : Relaxed) → (if b then stands (rigidFailure k p) g n else relaxedOutcome g w) ≡ stands (solving q) f m → ⊥
+never-solving : (b : Bool) (k : ℕ) (p q : Vec2) (g f : Failed) (n m : ℕ) (w : Relaxed) →
+    (if b then stands (rigidFailure k p) g n else relaxedOutcome g w) ≡ stands (solving q) f m → ⊥
 unfolding if_then_else_
 never-solving true k p q g f n m w e = let z : _≡_ {A = ℕ} 0 1 = cc in omega arith
 never-solving false k p q g f n m (relaxed c d i) e = let z : _≡_ {A = ℕ} 0 1 = cc in omega arith
 never-solving false k p q g f n m (relaxRefused r) e = let z : _≡_ {A = ℕ} 0 1 = cc in omega arith
 
 module _ (rigid other : ℕ) (limit : Float) (lines : List Line) {p : Vec2} {f : Failed} {n : ℕ} where
-  after-free : (q : Pass) → afterPass rigid limit lines q ≡ stands (solving p) f n → afterPass other limit lines q ≡ stands (solving p) f n
+  after-free : (q : Pass) → afterPass rigid limit lines q ≡ stands (solving p) f n →
+      afterPass other limit lines q ≡ stands (solving p) f n
   unfolding afterPass
   after-free (feasible c m) e = e
   after-free (failed g c m) e =
       absurd (never-solving (ltb (g .index) rigid) (g .index) c p (failedLine g) f m n (walk (relaxLine rigid limit) (take (g .index) lines) (drop (g .index) lines) (relaxed c 0ᶠ m)) e)
   after-free (refused r) e = let z : _≡_ {A = ℕ} 0 1 = cc in absurd (omega arith)
 
-  pub rigid-free : (wish : Vec2) → wholeList rigid wish limit lines ≡ stands (solving p) f n → wholeList other wish limit lines ≡ stands (solving p) f n
+  pub rigid-free : (wish : Vec2) → wholeList rigid wish limit lines ≡ stands (solving p) f n →
+      wholeList other wish limit lines ≡ stands (solving p) f n
   unfolding wholeList
   rigid-free wish e = after-free (pass (toward wish) limit lines) e
 
-pub other-rigid : {s : Session} → Handed s → {p : Vec2} → phaseOf (s .phase) ≡ solving p → (other : ℕ) → Handed (withRigid s other)
+pub other-rigid : {s : Session} → Handed s → {p : Vec2} → phaseOf (s .phase) ≡ solving p → (other : ℕ) →
+    Handed (withRigid s other)
 unfolding judgedList
 other-rigid {s} h {p} solves other =
     let free = fault-free s h in
@@ -103,7 +108,8 @@ module _ (l : List Line) (o : List Origin) {c : ℕ} (base : length l ≡ c) (or
       and-then {o = withdrawal i} {os = withdrawals is} (index-below {g = record { lines = l ++ m; origins = os; rigid = rigid }} {i = i} (omega (arith, length-append l m)))
       (rw (out-behind l m base size low high) (back-fits rest (less l m base size low high) (less-long l m base size low high) (without i os) (lowered i rigid)))
 
-  back-stands : {n : ℕ} {is : List ℕ} → TakenBack c n is → (m : List Line) → length m ≡ n → (q : List Origin) → length q ≡ n → (rigid : ℕ) →
+  back-stands : {n : ℕ} {is : List ℕ} → TakenBack c n is → (m : List Line) → length m ≡ n → (q : List Origin) →
+      length q ≡ n → (rigid : ℕ) →
       standingAfterAll (record { lines = l ++ m; origins = o ++ q; rigid = rigid }) (withdrawals is) ≡ record { lines = l; origins = o; rigid = loweredAll is rigid }
   back-stands all-back [] size [] long rigid = rw (append-nil l, append-nil o)
   back-stands all-back (x ∷ m) size q long rigid = absurd (omega arith)
@@ -135,14 +141,6 @@ module _ {s : Session} (h : Handed s) {p : Vec2} (solves : phaseOf (s .phase) �
 
 -- ---- the rigid count afterwards, whatever the order
 
-lowered-one : (i rigid : ℕ) → i < rigid → lowered i rigid ≡ rigid - 1
-unfolding lowered if_then_else_
-lowered-one i rigid h = simp (lt-ltb i rigid h)
-
-lowered-none : (i rigid : ℕ) → rigid ≤ i → lowered i rigid ≡ rigid
-unfolding lowered if_then_else_
-lowered-none i rigid h = simp (le-ltb i rigid h)
-
 pub rigid-below : {c n : ℕ} {is : List ℕ} → TakenBack c n is → (rigid : ℕ) → rigid ≤ c → loweredAll is rigid ≡ rigid
 rigid-below all-back rigid h = refl
 rigid-below (one-back {i = i} low high rest) rigid h = rw (lowered-none i rigid (omega arith)) (rigid-below rest rigid h)
@@ -151,10 +149,12 @@ pub rigid-beyond : {c n : ℕ} {is : List ℕ} → TakenBack c n is → (rigid :
 rigid-beyond all-back rigid h = omega arith
 rigid-beyond (one-back {i = i} low high rest) rigid h = rw (lowered-one i rigid (omega arith)) (rigid-beyond rest (rigid - 1) (omega arith) ∙ omega arith)
 
-pub rigid-within : {c n : ℕ} {is : List ℕ} → TakenBack c n is → (rigid : ℕ) → c ≤ rigid → rigid ≤ c + n → loweredAll is rigid ≡ c
+pub rigid-within : {c n : ℕ} {is : List ℕ} → TakenBack c n is → (rigid : ℕ) → c ≤ rigid → rigid ≤ c + n →
+    loweredAll is rigid ≡ c
 rigid-within all-back rigid low high = omega arith
 rigid-within {c} (one-back {n} {i} {is} above below rest) rigid low high = go (λ r k m. rigid-within rest r k m) (ltb i rigid) refl
   where
-    go : ((r : ℕ) → c ≤ r → r ≤ c + n → loweredAll is r ≡ c) → (b : Bool) → ltb i rigid ≡ b → loweredAll is (lowered i rigid) ≡ c
+    go : ((r : ℕ) → c ≤ r → r ≤ c + n → loweredAll is r ≡ c) → (b : Bool) → ltb i rigid ≡ b →
+        loweredAll is (lowered i rigid) ≡ c
     go on true e = let k = ltb-true i rigid e in rw (lowered-one i rigid k) (on (rigid - 1) (omega arith) (omega arith))
     go on false e = let k = ltb-false i rigid e in rw (lowered-none i rigid k) (on rigid low (omega arith))

@@ -42,11 +42,13 @@ use Rattle.histories.proofs.FreshLaws.{phase-same, failed-same}
 -- ---- the rules over lines that are met
 
 module _ (rigid : ℕ) (wish : Vec2) (limit : Float) (p : Vec2) where
-  advance-met : (e : List Line) (l : Line) (n : ℕ) → Met p l → advance rigid wish limit e l (stands (solving p) noLine n) ≡ stands (solving p) noLine (n + 1)
+  advance-met : (e : List Line) (l : Line) (n : ℕ) → Met p l →
+      advance rigid wish limit e l (stands (solving p) noLine n) ≡ stands (solving p) noLine (n + 1)
   unfolding advance passLine entered isMet if_then_else_
   advance-met e l n h = rw h
 
-  feed-met : (e : List Line) {m : List Line} (n : ℕ) → All (Met p) m → feed rigid wish limit e m (stands (solving p) noLine n) ≡ stands (solving p) noLine (n + length m)
+  feed-met : (e : List Line) {m : List Line} (n : ℕ) → All (Met p) m →
+      feed rigid wish limit e m (stands (solving p) noLine n) ≡ stands (solving p) noLine (n + length m)
   unfolding feed
   feed-met e n none = rw add-zero
   feed-met e n (more {x} {xs} h hs) = rw (advance-met e x n h) (feed-met (e ++ (x ∷ [])) (n + 1) hs ∙ ap (stands (solving p) noLine) (omega arith))
@@ -95,7 +97,8 @@ record FirstAt (p : Vec2) (ls : List Line) (k : ℕ) : Type 0 where
   before-met : All (Met p) (take k ls)
   not-met : k < length ls → isMet p (getD ls k offLine) ≡ false
 
-first-more : (p : Vec2) (l : Line) (ls : List Line) (b : Bool) → isMet p l ≡ b → FirstAt p ls (firstUnmet p ls) → FirstAt p (l ∷ ls) (firstUnmet p (l ∷ ls))
+first-more : (p : Vec2) (l : Line) (ls : List Line) (b : Bool) → isMet p l ≡ b → FirstAt p ls (firstUnmet p ls) →
+    FirstAt p (l ∷ ls) (firstUnmet p (l ∷ ls))
 first-more p l ls true h r = rw (first-on p l ls h) (record { most = omega (arith, r .most); before-met = more h (r .before-met); not-met = λ k. r .not-met (omega arith) })
 first-more p l ls false h r = rw (first-here p l ls h) (record { most = omega arith; before-met = none; not-met = λ k. h })
 
@@ -110,18 +113,19 @@ all-met p ls h =
     let k : firstUnmet p ls ≡ length ls = omega (arith, f .most) in
     rw (k, take-length ls) at (f .before-met)
 
-some-unmet : (p : Vec2) (ls : List Line) (b : Bool) → ltb (firstUnmet p ls) (length ls) ≡ b → (All (Met p) ls → ⊥) → firstUnmet p ls < length ls
+some-unmet : (p : Vec2) (ls : List Line) (b : Bool) → ltb (firstUnmet p ls) (length ls) ≡ b → (All (Met p) ls → ⊥) →
+    firstUnmet p ls < length ls
 some-unmet p ls true e h = ltb-true (firstUnmet p ls) (length ls) e
 some-unmet p ls false e h = absurd (h (all-met p ls (ltb-false (firstUnmet p ls) (length ls) e)))
 
 -- ---- what a batch without a fault is
 
-record Passes (count : ℕ) (b : Batch) : Type 0 where
-  admitted : Admitted b
-  room : count + length (linesOf (b .numbers)) ≤ mostLines
-  alone : batchFault count (b .numbers) [] ≡ fine
+pub record Passes (count : ℕ) (b : Batch) : Type 0 where
+  pub admitted : Admitted b
+  pub room : count + length (linesOf (b .numbers)) ≤ mostLines
+  pub alone : batchFault count (b .numbers) [] ≡ fine
 
-batch-passes : (count : ℕ) (b : Batch) → batchFault count (b .numbers) (b .brought) ≡ fine → Passes count b
+pub batch-passes : (count : ℕ) (b : Batch) → batchFault count (b .numbers) (b .brought) ≡ fine → Passes count b
 unfolding batchFault fitting
 batch-passes count b e =
     let n = length (linesOf (b .numbers)) in
@@ -146,11 +150,13 @@ module _ {s : Session} (h : Handed s) {p : Vec2} (solves : phaseOf (s .phase) �
   abbrev L : List Line
   L = linesOf (b .numbers)
 
-  unmet-named : batchFault (s .count) (b .numbers) [] ≡ fine → firstUnmet p L < length L → unmetAs s (b .numbers) ≡ unmet.At (s .count + firstUnmet p L)
+  unmet-named : batchFault (s .count) (b .numbers) [] ≡ fine → firstUnmet p L < length L →
+      unmetAs s (b .numbers) ≡ unmet.At (s .count + firstUnmet p L)
   unfolding unmetAs pointNow named if_then_else_
   unmet-named e k = rw (e, solves, lt-ltb (firstUnmet p L) (length L) k)
 
-  changed-by : (f : Fault) → batchFault (s .count) (b .numbers) (b .brought) ≡ f → (fedBy s b .session .phase ≡ s .phase → ⊥) → NamesFirst s p b
+  changed-by : (f : Fault) → batchFault (s .count) (b .numbers) (b .brought) ≡ f →
+      (fedBy s b .session .phase ≡ s .phase → ⊥) → NamesFirst s p b
   unfolding fedWith
   changed-by (fault r) e changed = absurd (changed (rw e refl))
   changed-by fine e changed =

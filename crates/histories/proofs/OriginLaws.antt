@@ -1,7 +1,7 @@
--- 02, T-06: sessions that differ only in origins end alike in all else, after a batch, a withdrawal and any history (`origins-alike`,
--- `withdrawal-alike`, `all-alike`), and at each index the origin kept is the one that the line arrived with (`origins-kept`). Assumes nothing.
+-- 02, T-06: sessions that differ only in origins end alike in all else, after a batch, a withdrawal, a change and any history
+-- (`origins-alike`, `withdrawal-alike`, `change-alike`, `all-alike`), and at each index the origin kept is the one that the line arrived with (`origins-kept`). Assumes nothing.
 use Prim.Native.Nat.{ℕ, _+_, _≤_, _<_}
-use mathlib.Core.Path.{_≡_, refl, sym, ap}
+use mathlib.Core.Path.{_≡_, refl, sym, _∙_, ap}
 use mathlib.Core.Bool.{Bool, true, false}
 use mathlib.Core.List.{List, [], _∷_, _++_}
 use native.Mathlib.Omega.{arith}
@@ -10,7 +10,7 @@ use lib.ListN.{length, getD, List·getD-append}
 use lib.Seq.{getD-append-add, length-take-le}
 use lib.Ieee.{Float}
 use borrow.Author.Tests.{ltb-true}
-use Rattle.admission.specs.Faults.{fine, faultOf}
+use Rattle.admission.specs.Faults.{Fault, fine, fault, faultOf}
 use Rattle.admission.proofs.FaultLaws.{judgements-agree}
 use Rattle.common.specs.declared.Vec2.{Vec2}
 use Rattle.lines.specs.declared.Line.{Line}
@@ -24,14 +24,16 @@ use Rattle.session.specs.declared.Fed.{Fed}
 use Rattle.session.specs.Sessions.{originsIn}
 use Rattle.session.specs.Batches.{originsFor, originsFault, batchFault, settled, worked, fedWith}
 use Rattle.session.specs.Handed.{Handed}
-use Rattle.session.specs.Withdrawals.{withdrawnAs}
+use Rattle.session.specs.Withdrawals.{orGiven, withdrawnAs}
+use Rattle.session.specs.Changes.{changeFault}
 use Rattle.session.proofs.StoreLaws.{origins-each}
 use Rattle.session.proofs.HandedLaws.{continues}
 use Rattle.histories.specs.Cuts.{Batch, fedBy, arriving}
-use Rattle.histories.specs.Histories.{Operation, doneAll}
-use Rattle.histories.specs.Alike.{labelled, Alike, alike, Theirs, SameLines, no-call, batch-each, withdrawal-each}
+use Rattle.histories.specs.Histories.{Operation, changedBy, doneAll}
+use Rattle.histories.specs.Alike.{labelled, Alike, alike, Theirs, SameLines, no-call, batch-each, withdrawal-each, change-each}
 use Rattle.histories.proofs.StandLaws.{StandsOver, over-own}
 use Rattle.histories.proofs.FreshLaws.{count-over, same-but-origins, withdrawn-taken, withdrawn-over, withdrawn-behind, withdrawn-handed}
+use Rattle.histories.proofs.ChangeLaws.{left-right, changed-fed, change-behind, up-from, change-handed}
 
 -- ---- alike in all else
 
@@ -40,7 +42,8 @@ pub record AlikeFed (r q : Fed) : Type 0 where
   pub judged-same : r .judged ≡ q .judged
   pub sessions : Alike (r .session) (q .session)
 
-settled-alike : (s : Session) (qs : List Origin) (m : List Line) (os ps : List ℕ) (o : Outcome) → AlikeFed (settled s m os o) (settled (labelled qs s) m ps o)
+settled-alike : (s : Session) (qs : List Origin) (m : List Line) (os ps : List ℕ) (o : Outcome) →
+    AlikeFed (settled s m os o) (settled (labelled qs s) m ps o)
 settled-alike s qs m os ps (stands ph f n) = record { judged-same = refl; sessions = alike _ }
 settled-alike s qs m os ps (refusal r) = record { judged-same = refl; sessions = alike qs }
 
@@ -60,7 +63,8 @@ module _ (xs : List Float) (os ps : List ℕ) (theirs : originsFault (length (li
   origins-alike (alike {s} qs) =
       rw (← same-fault (s .count), same-work s qs) (settled-alike s qs (linesOf xs) os ps (batchFault (s .count) xs os ⟫ worked s (linesOf xs)))
 
-alike-by : {s t : Session} (b c : Batch) → b .numbers ≡ c .numbers → Theirs b → Theirs c → Alike s t → AlikeFed (fedBy s b) (fedBy t c)
+alike-by : {s t : Session} (b c : Batch) → b .numbers ≡ c .numbers → Theirs b → Theirs c → Alike s t →
+    AlikeFed (fedBy s b) (fedBy t c)
 alike-by b c e theirs others a = rw (← e) (origins-alike (b .numbers) (b .brought) (c .brought) theirs (rw e others) a)
 
 -- ---- a line taken back
@@ -73,7 +77,8 @@ pub over-alike : {s t : Session} {rigid : ℕ} {wish : Vec2} {limit : Float} {li
     StandsOver s rigid wish limit lines os → StandsOver t rigid wish limit lines ps → Alike s t
 over-alike {t = t} o p = alike-to (t .origins) (same-but-origins o p refl)
 
-pub withdrawal-alike : {s t : Session} → Handed s → Handed t → Alike s t → (i : ℕ) → AlikeFed (withdrawnAs s i) (withdrawnAs t i)
+pub withdrawal-alike : {s t : Session} → Handed s → Handed t → Alike s t → (i : ℕ) →
+    AlikeFed (withdrawnAs s i) (withdrawnAs t i)
 withdrawal-alike h k (alike {s} qs) i = go (ltb i (s .count)) refl
   where
     go : (b : Bool) → ltb i (s .count) ≡ b → AlikeFed (withdrawnAs s i) (withdrawnAs (labelled qs s) i)
@@ -88,14 +93,40 @@ withdrawal-alike h k (alike {s} qs) i = go (ltb i (s .count)) refl
         }
     go false e = rw (withdrawn-behind s h i e, withdrawn-behind (labelled qs s) k i e) (record { judged-same = refl; sessions = alike qs })
 
+-- ---- a change
+
+given-alike : {s t : Session} {r q : Fed} → AlikeFed r q → Alike s t → AlikeFed (orGiven s r) (orGiven t q)
+given-alike {s} {t} {r} {q} a p = go (faultOf (r .judged)) refl
+  where
+    go : (f : Fault) → faultOf (r .judged) ≡ f → AlikeFed (orGiven s r) (orGiven t q)
+    go fine e = rw (e, sym (ap faultOf (a .judged-same)) ∙ e) a
+    go (fault n) e = rw (e, sym (ap faultOf (a .judged-same)) ∙ e) (record { judged-same = refl; sessions = p })
+
+pub change-alike : {s t : Session} → Handed s → Handed t → Alike s t → (is : List ℕ) (b c : Batch) →
+    b .numbers ≡ c .numbers → Theirs b → Theirs c →
+    AlikeFed (changedBy s is b) (changedBy t is c)
+change-alike h k (alike {s} qs) is b c same theirs others = go (changeFault (s .count) is) refl
+  where
+    go : (f : Fault) → changeFault (s .count) is ≡ f → AlikeFed (changedBy s is b) (changedBy (labelled qs s) is c)
+    go (fault r) e = rw (change-behind s is b r e, change-behind (labelled qs s) is c r e) (record { judged-same = refl; sessions = alike qs })
+    go fine e =
+        let up = up-from s h is e in
+        let o = over-own h in
+        let p = over-own k in
+        rw (changed-fed o is up b, changed-fed p is up c)
+        (given-alike (alike-by b c same theirs others (over-alike (left-right o is up .over) (left-right p is up .over))) (alike qs))
+
 -- ---- any calls, one after the other
 
-pub all-alike : {s t : Session} {os ps : List Operation} → Handed s → Handed t → Alike s t → SameLines os ps → Alike (doneAll s os) (doneAll t ps)
+pub all-alike : {s t : Session} {os ps : List Operation} → Handed s → Handed t → Alike s t → SameLines os ps →
+    Alike (doneAll s os) (doneAll t ps)
 all-alike h k a no-call = a
 all-alike {s} {t} h k a (batch-each {b} {c} e theirs others same) =
     all-alike (continues s h (b .numbers) (b .brought) .handed) (continues t k (c .numbers) (c .brought) .handed) (alike-by b c e theirs others a .sessions) same
 all-alike {s} {t} h k a (withdrawal-each {i} same) =
     all-alike (withdrawn-handed s h i) (withdrawn-handed t k i) (withdrawal-alike h k a i .sessions) same
+all-alike {s} {t} h k a (change-each {is} {b} {c} e theirs others same) =
+    all-alike (change-handed s h is b) (change-handed t k is c) (change-alike h k a is b c e theirs others .sessions) same
 
 -- ---- each line's own
 

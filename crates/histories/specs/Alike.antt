@@ -9,7 +9,7 @@ use Rattle.lines.specs.Lines.{linesOf}
 use Rattle.session.specs.declared.Session.{Session}
 use Rattle.session.specs.Batches.{originsFault}
 use Rattle.histories.specs.Cuts.{Batch}
-use Rattle.histories.specs.Histories.{Operation, batch, withdrawal}
+use Rattle.histories.specs.Histories.{Operation, batch, withdrawal, change}
 
 -- the session with other origins, and all else as it is
 abbrev pub labelled : List Origin → Session → Session
@@ -33,8 +33,12 @@ pub data Alike : Session → Session → Type 0 where
 abbrev pub Theirs : Batch → Type 0
 Theirs b = originsFault (length (linesOf (b .numbers))) (b .brought) ≡ fine
 
--- the same calls but for origins: batches of the same lines, withdrawals of the same index
+-- the same calls but for origins: batches of the same lines, withdrawals of the same index, changes of both
 pub data SameLines : List Operation → List Operation → Type 0 where
   no-call : SameLines [] []
-  batch-each : {b c : Batch} {os ps : List Operation} → b .numbers ≡ c .numbers → Theirs b → Theirs c → SameLines os ps → SameLines (batch b ∷ os) (batch c ∷ ps)
+  batch-each : {b c : Batch} {os ps : List Operation} → b .numbers ≡ c .numbers → Theirs b → Theirs c →
+      SameLines os ps → SameLines (batch b ∷ os) (batch c ∷ ps)
   withdrawal-each : {i : ℕ} {os ps : List Operation} → SameLines os ps → SameLines (withdrawal i ∷ os) (withdrawal i ∷ ps)
+  change-each : {is : List ℕ} {b c : Batch} {os ps : List Operation} → b .numbers ≡ c .numbers → Theirs b → Theirs c →
+      SameLines os ps →
+      SameLines (change is b ∷ os) (change is c ∷ ps)

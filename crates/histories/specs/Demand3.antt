@@ -1,5 +1,5 @@
--- Demand 3 as one statement (01; 02, T-12): lines come to a session in batches, empty ones too, and are taken back, one at a time.
--- Definitions only. Assumes nothing.
+-- Demand 3 as one statement (01; 02, T-12): lines come to a session in batches, empty ones too, and are taken back, one
+-- at a time or several in one step with a batch. Definitions only. Assumes nothing.
 use Prim.Native.Nat.{ℕ}
 use mathlib.Core.Path.{_≡_}
 use mathlib.Core.List.{List, [], _∷_}
@@ -15,7 +15,7 @@ use Rattle.session.specs.declared.Session.{Session}
 use Rattle.session.specs.Sessions.{linesIn, originsIn, outcomeIn, startedAs}
 use Rattle.session.specs.Withdrawals.{freshAs}
 use Rattle.histories.specs.Cuts.{Batch, fedBy, joined, arrived}
-use Rattle.histories.specs.Histories.{Operation, batch, withdrawal, doneBy, doneAll, Standing, nothingYet, standingAfter, batches}
+use Rattle.histories.specs.Histories.{Operation, batch, withdrawal, change, doneBy, doneAll, Standing, nothingYet, standingAfter, batches}
 
 -- the session over what stands
 pub record StandsFresh (wish : Vec2) (limit : Float) (g : Standing) (s : Session) : Type 0 where
@@ -32,11 +32,13 @@ pub record StandsFresh (wish : Vec2) (limit : Float) (g : Standing) (s : Session
   -- and so as the single call over them does
   pub called : outcomeIn s ≡ listCall (g .rigid) wish limit (numbersOf (g .lines))
 
--- "line k stays the failed line only until the next withdrawal"
+-- "line k stays the failed line only until the next withdrawal"; a change withdraws, too
 pub data KeepsFailed (s : Session) : Operation → Type 0 where
-  still-failed : {b : Batch} → ((k : Failure) → failedOf (s .failed) ≡ failedLine k → failedOf (fedBy s b .session .failed) ≡ failedLine k) →
+  still-failed : {b : Batch} →
+      ((k : Failure) → failedOf (s .failed) ≡ failedLine k → failedOf (fedBy s b .session .failed) ≡ failedLine k) →
       KeepsFailed s (batch b)
   until-then : {i : ℕ} → KeepsFailed s (withdrawal i)
+  until-changed : {is : List ℕ} {b : Batch} → KeepsFailed s (change is b)
 
 -- a call of a session over what stands
 pub record CallStands (wish : Vec2) (limit : Float) (g : Standing) (s : Session) (o : Operation) : Type 0 where
@@ -63,7 +65,7 @@ pub record Demand3 (rigid : ℕ) (wish : Vec2) (limit : Float) (os : List Operat
   -- line that has failed stays the failed line
   pub each : EachStands wish limit (nothingYet rigid) (startedAs wish limit rigid .session) os
 
--- the case without withdrawals: a list cut into the batches bs
+-- the case of batches alone: a list cut into the batches bs
 pub record CutStands (rigid : ℕ) (wish : Vec2) (limit : Float) (bs : List Batch) : Type 0 where
   pub history : Demand3 rigid wish limit (batches bs)
   -- after the last it stands as the single call over the numbers of all batches does,

@@ -12,7 +12,8 @@ use session::Fed;
 use session::Session;
 use session::Unmet;
 ghost use mathlib.Core.Path.{_≡_};
-ghost use Prim.Native.Nat.{_<_};
+ghost use Prim.Native.Nat.{_+_, _*_, _<_, _≤_};
+ghost use lib.ListN.{length};
 
 // A walk over the records, and the session on its way.
 struct Playing {
@@ -21,7 +22,8 @@ struct Playing {
 }
 
 // A number of a head. From 0 on: how many bytes come behind the head, the call's kind, its two arguments, how it is judged, the line count, the rigid count, how
-// many numbers of origins are told, the answer (seven), the wish (two).
+// many numbers of origins are told, the answer (seven), the wish (two; of a change by origin the kind and the place), and of a change how many indices there are,
+// or were withdrawn.
 fn size_at(head: &[u8], at: usize) -> usize
     ensures { λ r. ⌜ r < 4294967296 ⌝ }
 {
@@ -68,24 +70,89 @@ fn called(session: Session, head: &[u8], rest: &[u8]) -> Fed {
         3 => session.withdraw(index),
         4 => session.withdraw(index),
         5 => asked(session, head, rest),
+        6 => changed(session, head, rest),
+        7 => changed_by_origin(session, head, rest),
         _ => unknown_call(session),
     }
 }
 
-// The batch of a record, behind the origins that are told: kind 1 brings none.
-fn fed(session: Session, head: &[u8], rest: &[u8]) -> Fed {
+// Where the parts of a record stand behind its head: the origins that are told end at `told`, and numbers, their origins and indices follow, so many of each.
+struct Parts {
+    told: usize,
+    numbers: usize,
+    origins: usize,
+    indices: usize,
+}
+
+// The parts of a record; none where it does not hold as many as its head says, or more than any.
+fn parts_of(head: &[u8], rest: &[u8]) -> Parts
+    ensures { λ r. ⌜ (r .told + 4 * r .numbers + 4 * r .origins ≤ length (now (rest .entry))) × (r .numbers ≤ 1280) × (r .origins ≤ 776) × (r .indices ≤ 264) ⌝ }
+{
+    let none = Parts {
+        told: 0,
+        numbers: 0,
+        origins: 0,
+        indices: 0,
+    };
     let told = 4 * size_at(head, 28);
     let numbers = size_at(head, 8);
-    let origins = size_at(head, 12);
+    let origins = named_origins(head);
+    let indices = named_indices(head);
     if told + 4 * numbers + 4 * origins > rest.len() {
-        return unknown_call(session);
+        return none;
     }
     if numbers > 1280 {
-        return unknown_call(session);
+        return none;
     }
     if origins > 776 {
-        return unknown_call(session);
+        return none;
     }
+    if indices > 264 {
+        return none;
+    }
+    Parts {
+        told,
+        numbers,
+        origins,
+        indices,
+    }
+}
+
+// How many numbers of origins a batch brings: a question brings none.
+fn named_origins(head: &[u8]) -> usize
+    ensures { λ r. ⌜ r < 4294967296 ⌝ }
+{
+    if words::word_at(head, 4) == 5 {
+        return 0;
+    }
+    size_at(head, 12)
+}
+
+// How many indices a change has.
+fn named_indices(head: &[u8]) -> usize {
+    if words::word_at(head, 4) == 6 {
+        return size_at(head, 68);
+    }
+    0
+}
+
+// The first `count` words as sizes, at most 264, and then zeros.
+fn first_sizes(bytes: &[u8], count: usize) -> [usize; 264] {
+    let mut found: [usize; 264] = [0; 264];
+    let mut i = 0usize;
+    while i < 264 {
+        found[i] = word_of(bytes, i, count) as usize;
+        i += 1;
+    }
+    found
+}
+
+// The batch of a record: kind 1 brings no origins.
+fn fed(session: Session, head: &[u8], rest: &[u8]) -> Fed {
+    let p = parts_of(head, rest);
+    let told = p.told;
+    let numbers = p.numbers;
+    let origins = p.origins;
     let given = first_numbers(&rest[told..rest.len()], numbers);
     if words::word_at(head, 4) == 1 {
         return session.batch(&given[0..numbers]);
@@ -94,17 +161,48 @@ fn fed(session: Session, head: &[u8], rest: &[u8]) -> Fed {
     session.batch_with_origins(&given[0..numbers], &brought[0..origins])
 }
 
+// The change of a record, its indices behind its batch.
+fn changed(session: Session, head: &[u8], rest: &[u8]) -> Fed {
+    let p = parts_of(head, rest);
+    let told = p.told;
+    let numbers = p.numbers;
+    let origins = p.origins;
+    let indices = p.indices;
+    let given = first_numbers(&rest[told..rest.len()], numbers);
+    let brought = first_words(&rest[told + 4 * numbers..rest.len()], origins);
+    let at = told + 4 * numbers + 4 * origins;
+    let withdrawn = first_sizes(&rest[at..rest.len()], indices);
+    session.change(
+        &withdrawn[0..indices],
+        &given[0..numbers],
+        &brought[0..origins],
+    )
+}
+
+// The change by origin of a record: refused with 0 where another number of lines is withdrawn than the record has.
+fn changed_by_origin(session: Session, head: &[u8], rest: &[u8]) -> Fed {
+    let p = parts_of(head, rest);
+    let told = p.told;
+    let numbers = p.numbers;
+    let origins = p.origins;
+    let given = first_numbers(&rest[told..rest.len()], numbers);
+    let brought = first_words(&rest[told + 4 * numbers..rest.len()], origins);
+    let kind = words::word_at(head, 60);
+    let place = words::word_at(head, 64);
+    let changed = session.change_origin(kind, place, &given[0..numbers], &brought[0..origins]);
+    let fed = changed.fed;
+    if changed.withdrawn != size_at(head, 68) {
+        return unknown_call(session);
+    }
+    fed
+}
+
 // What a session answers about the batch of a record, which leaves it as it is: refused with 0 where it names another line than the record does, by its index, or
 // FFFFFFFF for none.
 fn asked(session: Session, head: &[u8], rest: &[u8]) -> Fed {
-    let told = 4 * size_at(head, 28);
-    let numbers = size_at(head, 8);
-    if told + 4 * numbers > rest.len() {
-        return unknown_call(session);
-    }
-    if numbers > 1280 {
-        return unknown_call(session);
-    }
+    let p = parts_of(head, rest);
+    let told = p.told;
+    let numbers = p.numbers;
     let given = first_numbers(&rest[told..rest.len()], numbers);
     let unmet = session.first_unmet(&given[0..numbers]);
     Fed {
@@ -227,9 +325,9 @@ fn turn(playing: Playing, head: &mut [u8], rest: &mut [u8]) -> Playing
 // The walk to its end.
 fn walked(start: Playing) -> Walk {
     let mut playing = start;
-    let mut head: [u8; 68] = [0; 68];
-    // 256 origins that stand; 257 lines, and as many origins.
-    let mut rest: [u8; 10268] = [0; 10268];
+    let mut head: [u8; 72] = [0; 72];
+    // 256 origins that stand; 257 lines, and as many origins; 264 indices.
+    let mut rest: [u8; 11324] = [0; 11324];
     while playing.walk.left > 0 {
         playing = turn(playing, &mut head, &mut rest);
     }

@@ -106,7 +106,7 @@ module _ {A : Type 0} where
         rw (take-next (withoutAll is (take count l)) n (omega arith) d, left-in is n (take count l) d, getD-take count l (sourceIn is n) d (omega (arith, near)), e)
 
   -- an index that is below a bound of the list's length
-  without-few : (i n : ℕ) (l : List A) → i < n → length l ≤ n → length (without i l) ≤ n - 1
+  pub without-few : (i n : ℕ) (l : List A) → i < n → length l ≤ n → length (without i l) ≤ n - 1
   unfolding without
   without-few i n [] h m = omega arith
   without-few zero n (x ∷ l) h m = omega arith

@@ -2,5 +2,6 @@
 pub mod Sessions
 pub mod Batches
 pub mod Withdrawals
+pub mod Changes
 pub mod Meeting
 pub mod Handed

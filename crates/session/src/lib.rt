@@ -9,9 +9,12 @@ use lines::Line;
 use lines::Origin;
 ghost use mathlib.Core.Path.{_≡_};
 ghost use mathlib.Core.Bool.{true};
+ghost use mathlib.Core.List.{_++_};
 ghost use Prim.Native.Nat.{_+_, _-_, _*_, _/_, _≤_, _<_};
 ghost use lib.ListN.{length, take, set};
+ghost use lib.Dec.{ltb};
 ghost use lib.Seq.{sets};
+ghost use Rattle.arithmetic.specs.Binary32.{if_then_else_};
 ghost use Rattle.lines.specs.Lines.{mostLines, linesOf};
 ghost use Rattle.lines.specs.Origins.{originsOf};
 ghost use Rattle.admission.specs.Faults.{faultOf};
@@ -19,6 +22,7 @@ ghost use Rattle.linear_programming.specs.Read.{phaseOf, outcomeOf};
 ghost use Rattle.session.specs.Sessions.{blankLines, blankOrigins, blankSession, startedAs};
 ghost use Rattle.session.specs.Batches.{originsFor, fitting, batchFault, settledOn, settled, worked, fedWith, fedAs};
 ghost use Rattle.session.specs.Withdrawals.{orGiven, thenFed, freshAs, leftOf, sourceOf, sourceIn, lowered, withdrawalFault, withdrawnAs};
+ghost use Rattle.session.specs.Changes.{ascendingFault, changeFault, belowIn, loweredBy, changedAs, isOf, indexIf, indicesFrom, withdrawing, originChangedAs};
 ghost use Rattle.session.specs.Meeting.{isMet, firstUnmet, pointNow, named, unmetAs};
 ghost use Rattle.session.specs.Handed.{Handed, Begins, Continues, ContinuesWith};
 
@@ -40,6 +44,12 @@ pub struct Session {
 pub struct Fed {
     pub judged: Judged,
     pub session: Session,
+}
+
+// What a change by origin hands back: how many lines were withdrawn, none where it was refused, and the answer.
+pub struct Changed {
+    pub withdrawn: usize,
+    pub fed: Fed,
 }
 
 // The first line of a batch that a session's point does not strictly meet, by the index that the line gets; or that there is none; or why a batch would be
@@ -225,6 +235,48 @@ impl Session {
         or_given(self, fresh)
     }
 
+    // The session without the lines at several indices of it as it stands, strictly ascending, and with a batch behind those that are left: one step, which
+    // happens whole or not at all. The rigid count is one less for each index below it. Refused, the session is the one given: a session of more than 256
+    // lines (4), an index that is not below the line count or not above the one before (15), then as a batch of the lines that are left (2, 4 with the
+    // places freed, 6, 7, 8, 9). The last two stand in the order, but no session that was handed out meets them (law `change-told`).
+    pub fn change(self, withdrawn: &[usize], numbers: &[f32], origins: &[u32]) -> Fed
+        ensures { λ r. ⌜ r ≡ changedAs self (now (withdrawn .entry)) (now (numbers .entry)) (now (origins .entry)) ⌝ }
+    {
+        let count = self.count;
+        let judged = judge_change(count, withdrawn);
+        if let Judged::Fault(_) = judged {
+            return Fed {
+                judged,
+                session: self,
+            };
+        }
+        let fresh = refill(self, withdrawn, lower_by(withdrawn, self.rigid));
+        let changed = then_feed(fresh, numbers, origins);
+        or_given(self, changed)
+    }
+
+    // The same for every line whose origin has this kind and place, all lines of one obstacle, say: a gate is named by its wall, not by an index that moved.
+    // Where no line has it, nothing is withdrawn and the batch is added; how many were withdrawn is told.
+    pub fn change_origin(self, kind: u32, place: u32, numbers: &[f32], origins: &[u32]) -> Changed
+        ensures { λ r. ⌜ r ≡ originChangedAs self kind place (now (numbers .entry)) (now (origins .entry)) ⌝ }
+    {
+        let count = self.count;
+        if count > Line::MOST {
+            return Changed {
+                withdrawn: 0,
+                fed: Fed {
+                    judged: Judged::Fault(4),
+                    session: self,
+                },
+            };
+        }
+        let standing = self.origins;
+        let mut found = [0usize; Line::MOST];
+        let n = find(standing, count, kind, place, &mut found);
+        let fed = self.change(&found[0..n], numbers, origins);
+        told_withdrawn(n, fed)
+    }
+
     // The first line of a batch, by the index that it gets in the session, that the session's point does not strictly meet: its determinant is not above 0.
     // Asked of the session as it stands when the batch arrives. Refused is what `batch` refuses before its solve: 4, 2, 4, 6, 7. Where it is `Nothing` and
     // the session is solving, the batch changes neither phase nor point (law `nothing-unmet`).
@@ -240,6 +292,123 @@ impl Session {
         let phase = self.phase;
         let met = count_met(point_now(phase), numbers);
         name(count, numbers.len() / 4, met)
+    }
+}
+
+// The first fault of a change of a session of `count` lines before its batch: more lines than a session holds (4), an index that is not below them, or not
+// above the one before (15).
+fn judge_change(count: usize, withdrawn: &[usize]) -> Judged
+    ensures { λ r. ⌜ faultOf r ≡ changeFault count (now (withdrawn .entry)) ⌝ }
+{
+    if count > Line::MOST {
+        return Judged::Fault(4);
+    }
+    judge_ascending(count, withdrawn)
+}
+
+// 15 where indices are not strictly ascending, or not below the count.
+fn judge_ascending(count: usize, withdrawn: &[usize]) -> Judged
+    requires { ⌜ count ≤ mostLines ⌝ }
+    ensures { λ r. ⌜ faultOf r ≡ ascendingFault count 0 (now (withdrawn .entry)) ⌝ }
+{
+    let mut low = 0usize;
+    let mut k = 0usize;
+    while k < withdrawn.len() {
+        let next = withdrawn[k];
+        if next < low {
+            return Judged::Fault(15);
+        }
+        if next >= count {
+            return Judged::Fault(15);
+        }
+        low = next + 1;
+        k += 1;
+    }
+    Judged::Fine
+}
+
+// One more where the index is below the rigid count.
+fn more_below(next: usize, rigid: usize, below: usize) -> usize
+    requires { ⌜ below < 18446744073709551615 ⌝ }
+    ensures { λ r. ⌜ r ≡ below + (if ltb next rigid then 1 else 0) ⌝ }
+{
+    if next < rigid {
+        return below + 1;
+    }
+    below
+}
+
+// How many indices are below the rigid count.
+fn count_below(withdrawn: &[usize], rigid: usize) -> usize
+    ensures { λ r. ⌜ r ≡ belowIn rigid (now (withdrawn .entry)) ⌝ }
+{
+    let mut below = 0usize;
+    let mut k = 0usize;
+    while k < withdrawn.len() {
+        below = more_below(withdrawn[k], rigid, below);
+        k += 1;
+    }
+    below
+}
+
+// The rigid count once the lines at these indices are gone.
+fn lower_by(withdrawn: &[usize], rigid: usize) -> usize
+    ensures { λ r. ⌜ r ≡ loweredBy (now (withdrawn .entry)) rigid ⌝ }
+{
+    let below = count_below(withdrawn, rigid);
+    if below > rigid {
+        return 0;
+    }
+    rigid - below
+}
+
+// Whether an origin has this kind and place.
+fn is_of(origin: Origin, kind: u32, place: u32) -> bool
+    ensures { λ r. ⌜ r ≡ isOf kind place origin ⌝ }
+{
+    (origin.kind == kind) & (origin.place == place)
+}
+
+// The index behind the first `n` of a list, where it is one of those looked for; and how many there are then.
+fn note(found: &mut [usize], n: usize, index: usize, wanted: bool) -> usize
+    requires { ⌜ (n < length (now found)) × (length (now found) ≡ mostLines) ⌝ }
+    ensures { λ r. ⌜ (r ≤ n + 1) × (take r (now (found .exit)) ≡ take n (now (found .entry)) ++ indexIf wanted index) ⌝ }
+{
+    if wanted {
+        found[n] = index;
+        return n + 1;
+    }
+    n
+}
+
+// The indices of the first `count` origins that have this kind and place, and how many there are.
+fn find(
+    origins: [Origin; Line::MOST],
+    count: usize,
+    kind: u32,
+    place: u32,
+    found: &mut [usize],
+) -> usize
+    requires { ⌜ (count ≤ mostLines) × (length (now found) ≡ mostLines) ⌝ }
+    ensures { λ r. ⌜ (r ≤ mostLines) × (length (now (found .exit)) ≡ mostLines) × (take r (now (found .exit)) ≡ indicesFrom kind place 0 (take count origins)) ⌝ }
+{
+    let mut n = 0usize;
+    let mut i = 0usize;
+    while i < count {
+        n = note(found, n, i, is_of(origins[i], kind, place));
+        i += 1;
+    }
+    n
+}
+
+// A call's answer, and how many lines it withdrew, if it was not refused.
+fn told_withdrawn(n: usize, fed: Fed) -> Changed
+    ensures { λ r. ⌜ r ≡ withdrawing n fed ⌝ }
+{
+    let judged = fed.judged;
+    match judged {
+        Judged::Fine => Changed { withdrawn: n, fed },
+        Judged::Fault(_) => Changed { withdrawn: 0, fed },
     }
 }
 

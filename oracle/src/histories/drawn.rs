@@ -1,5 +1,5 @@
-//! Drawn histories: batches of any of the lists' lines, with origins and without, questions about them, withdrawals anywhere, and calls
-//! that are refused.
+//! Drawn histories: batches of any of the lists' lines, with origins and without, questions about them, withdrawals anywhere,
+//! changes by indices and by origin, and calls that are refused.
 
 use dodgy_plain::debug::Line;
 
@@ -54,7 +54,9 @@ pub fn standing_of(list: &List) -> Standing {
 }
 
 fn call(random: &mut Random, standing: &Standing, lines: &mut Vec<Line>) -> Call {
-    match random.below(16) {
+    match random.below(20) {
+        16..=17 => change(random, standing, lines),
+        18..=19 => change_origin(random, standing, lines),
         0..=5 => Call::Withdrawal(index(random, standing)),
         6 => refused(random, standing),
         7..=8 => question(random, standing, lines),
@@ -70,6 +72,45 @@ fn index(random: &mut Random, standing: &Standing) -> usize {
     }
     let any = random.below(count);
     random.pick(&[any, any, 0, count - 1, any.min(standing.rigid as usize)])
+}
+
+/// Some of the lines for the next ones; at times indices that do not ascend, or one behind the last, or a batch at fault.
+fn change(random: &mut Random, standing: &Standing, lines: &mut Vec<Line>) -> Call {
+    let one_in = 1 + random.below(4);
+    let mut indices: Vec<usize> = (0..standing.lines.len()).filter(|_| random.one_in(one_in)).collect();
+    match random.below(12) {
+        0 => indices.push(standing.lines.len()),
+        1 => indices.reverse(),
+        2 => indices.extend(indices.last().copied()),
+        _ => {}
+    }
+    let (numbers, origins) = added(random, standing, lines);
+    Call::Change(indices, numbers, origins)
+}
+
+/// All lines of an origin for the next ones, mostly of one that stands.
+fn change_origin(random: &mut Random, standing: &Standing, lines: &mut Vec<Line>) -> Call {
+    let any = [random.below(3) as u32, random.below(3) as u32, 0];
+    let count = standing.origins.len();
+    let place = random.below(count + 1);
+    let standing_one = standing.origins.get(place).copied().unwrap_or(any);
+    let last = standing.origins.last().copied().unwrap_or(any);
+    let [kind, place, _] = random.pick(&[any, standing_one, last]);
+    let (numbers, origins) = added(random, standing, lines);
+    Call::ChangeOrigin(kind, place, numbers, origins)
+}
+
+/// The batch of a change, at times one at fault.
+fn added(random: &mut Random, standing: &Standing, lines: &mut Vec<Line>) -> (Vec<f32>, Vec<u32>) {
+    let batch = if random.one_in(4) {
+        refused(random, standing)
+    } else {
+        batch(random, standing, lines)
+    };
+    match batch {
+        Call::Batch(numbers, origins) => (numbers, origins.unwrap_or_default()),
+        _ => (Vec::new(), Vec::new()),
+    }
 }
 
 /// About the next lines and those that stand, or about a batch that is at fault.

@@ -1,10 +1,14 @@
-//! The vectors of a session's calls, one after the other (01; 02, T-12, T-13): lines come in batches, are asked about and are taken back.
-//! A record is one call, a session goes on from record to record up to the next start. In words: how many bytes come behind the
-//! head; the kind (0 start, 1 batch without origins, 2 batch with origins, 3 withdrawal, 4 withdrawal after which the session goes on as
-//! before it, 5 question which line of a batch is the first that is not strictly met); two arguments (rigid count and limit; how many numbers and
-//! how many of origins; the index and 0; how many numbers, and the index that is named or FFFFFFFF for none); how it is judged (0 taken, else the number); then of the session afterwards the line count, the rigid count, how many numbers of origins are told (0: all are
-//! unknown) and the answer as in list_vectors; the wish (2), of a start. Behind the head: the origins that stand, the numbers, their origins.
-//! What stands is by standing.rs, written from 01 and 02 alone; the answer is the Rust's for these lines, asked anew after each call.
+//! The vectors of a session's calls, one after the other (01; 02, T-12, T-13): lines come in batches, are asked about,
+//! are taken back and are changed for others. A record is one call, a session goes on from record to record up to the
+//! next start. In words: how many bytes come behind the head; the kind (0 start, 1 batch without origins, 2 batch with
+//! origins, 3 withdrawal, 4 withdrawal after which the session goes on as before it, 5 question which line of a batch
+//! is the first that is not strictly met, 6 change, 7 change by origin); two arguments (rigid count and limit; how
+//! many numbers and how many of origins; the index and 0; how many numbers, and the index that is named or FFFFFFFF
+//! for none); how it is judged (0 taken, else the number); then of the session afterwards the line count, the rigid
+//! count, how many numbers of origins are told (0: all are unknown) and the answer as in list_vectors; the wish (2),
+//! of a change by origin the kind and the place; of a change how many indices, by origin how many were withdrawn.
+//! Behind the head: the origins that stand, the numbers, their origins, the indices. What stands is by standing.rs,
+//! written from 01 and 02 alone; the answer is the Rust's for these lines, asked anew after each call.
 
 mod drawn;
 mod named;
@@ -124,7 +128,50 @@ const ROWS: &[(&str, Test)] = &[
     ("question refused with 4", |told| is_question(told) && told.judged == 4),
     ("question refused with 6", |told| is_question(told) && told.judged == 6),
     ("question refused with 7", |told| is_question(told) && told.judged == 7),
+    ("change that is taken", |told| is_change(told) && told.judged == 0),
+    ("change that withdraws several lines", |told| is_change(told) && withdrawn(told) > 1),
+    ("change that withdraws lines on both sides of the rigid count", |told| is_change(told) && told.after.rigid < told.before.rigid && withdrawn(told) > (told.before.rigid - told.after.rigid) as usize),
+    ("change of a full session for as many lines", |told| is_change(told) && told.before.lines.len() == 256 && told.after.lines.len() == 256 && withdrawn(told) == 256),
+    ("change that only the freed places make fit", |told| is_change(told) && told.judged == 0 && told.before.lines.len() + batch_size(told) > 256),
+    ("change that withdraws nothing", |told| is_change(told) && told.judged == 0 && withdrawn(told) == 0),
+    ("change refused with 2", |told| is_change(told) && told.judged == 2),
+    ("change refused with 4", |told| is_change(told) && told.judged == 4),
+    ("change refused with 6", |told| is_change(told) && told.judged == 6),
+    ("change refused with 7", |told| is_change(told) && told.judged == 7),
+    ("change refused with 15", |told| is_change(told) && told.judged == 15),
+    ("change by origin that is taken", |told| is_by_origin(told) && told.judged == 0),
+    ("change by origin that finds several lines", |told| is_by_origin(told) && withdrawn(told) > 1),
+    ("change by origin that finds none", |told| is_by_origin(told) && told.judged == 0 && withdrawn(told) == 0),
+    ("change by origin that is refused", |told| is_by_origin(told) && told.judged != 0),
 ];
+
+fn is_change(told: &Told) -> bool {
+    matches!(told.call, Call::Change(..))
+}
+
+fn is_by_origin(told: &Told) -> bool {
+    matches!(told.call, Call::ChangeOrigin(..))
+}
+
+/// How many lines a change withdrew: none where it is refused.
+fn withdrawn(told: &Told) -> usize {
+    if told.judged != 0 {
+        return 0;
+    }
+    match &told.call {
+        Call::Change(indices, ..) => indices.len(),
+        Call::ChangeOrigin(kind, place, ..) => told.before.of_origin(*kind, *place).len(),
+        _ => 0,
+    }
+}
+
+/// How many lines a change adds.
+fn batch_size(told: &Told) -> usize {
+    match &told.call {
+        Call::Change(_, numbers, _) | Call::ChangeOrigin(_, _, numbers, _) => numbers.len() / 4,
+        _ => 0,
+    }
+}
 
 fn is_question(told: &Told) -> bool {
     matches!(told.call, Call::Asked(_))
@@ -205,13 +252,27 @@ fn write_record(words: &mut Words, told: &Told) {
         }
         Call::Withdrawal(index) => (3, [*index as u32, 0], none),
         Call::Tried(index) => (4, [*index as u32, 0], none),
+        Call::Change(_, numbers, origins) | Call::ChangeOrigin(_, _, numbers, origins) => {
+            let counts = [numbers.len() as u32, origins.len() as u32];
+            let kind = if matches!(told.call, Call::Change(..)) { 6 } else { 7 };
+            (kind, counts, (numbers.clone(), origins.clone()))
+        }
         Call::Asked(numbers) => {
             let named = told.named.map_or(u32::MAX, |index| index as u32);
             let arguments = [numbers.len() as u32, named];
             (5, arguments, (numbers.clone(), Vec::new()))
         }
     };
-    words.word(4 * (3 * known.len() + numbers.len() + origins.len()) as u32);
+    let (mut indices, mut more) = (&[][..], 0);
+    let mut pair = [after.wish.x.to_bits(), after.wish.y.to_bits()];
+    if let Call::Change(withdrawn, ..) = &told.call {
+        (indices, more) = (withdrawn, withdrawn.len());
+    }
+    if let Call::ChangeOrigin(kind, place, ..) = told.call {
+        pair = [kind, place];
+        more = withdrawn(told);
+    }
+    words.word(4 * (3 * known.len() + numbers.len() + origins.len() + indices.len()) as u32);
     words.word(kind);
     arguments.iter().for_each(|argument| words.word(*argument));
     words.word(told.judged);
@@ -219,9 +280,10 @@ fn write_record(words: &mut Words, told: &Told) {
     words.word(after.rigid);
     words.word(3 * known.len() as u32);
     write_solved(words, &told.solved);
-    words.bits(after.wish.x);
-    words.bits(after.wish.y);
+    pair.iter().for_each(|number| words.word(*number));
+    words.word(more as u32);
     known.iter().flatten().for_each(|number| words.word(*number));
     numbers.iter().for_each(|number| words.bits(*number));
     origins.iter().for_each(|number| words.word(*number));
+    indices.iter().for_each(|index| words.word(*index as u32));
 }

@@ -35,6 +35,9 @@ pub fn histories() -> Result<Vec<History>, String> {
         beside_zero()?,
         third_line_ends()?,
         full_of_met()?,
+        changed_gate(0)?,
+        changed_gate(3)?,
+        changed_full()?,
     ];
     for rigid in 0..=6 {
         for order in [[1, 1, 1], [1, 2, 1], [2, 1, 1], [2, 2, 1], [3, 1, 1], [3, 2, 1]] {
@@ -121,6 +124,49 @@ fn full() -> Result<History, String> {
         history.call(Call::Withdrawal(index))?;
         history.call(batch(&[A]))?;
     }
+    Ok(history)
+}
+
+/// The gate of above in one call each: a burst of changes of which some are refused, by indices and by the gate's wall. After each the session
+/// must be the fresh one over what stands; a refused one leaves it as it was.
+fn changed_gate(rigid: u32) -> Result<History, String> {
+    let (wall, cart) = ([0.0, -1.5, 1.0, 0.0], [1.25, 0.0, 0.0, 1.0]);
+    let (closed, half) = ([0.0, 0.5, -1.0, 0.0], [0.0, 1.0, -1.0, 0.0]);
+    let steep = [0.0, 0.0, 1.0, 1.0];
+    let gate = |lines: &[[f32; 4]]| (lines.concat(), [1, 7, 0].repeat(lines.len()));
+    let mut history = History::start(at_rest(rigid))?;
+    history.call(Call::Batch([wall, closed, cart].concat(), Some(vec![1, 0, 0, 1, 7, 0, 2, 0, 0])))?;
+    for _ in 0..2 {
+        for lines in [&[half][..], &[closed, half], &[steep], &[closed], &[half, [f32::NAN; 4]], &[]] {
+            let (numbers, origins) = gate(lines);
+            history.call(Call::ChangeOrigin(1, 7, numbers, origins))?;
+        }
+        // A wrong name withdraws nothing, and says so.
+        let (numbers, origins) = gate(&[closed]);
+        history.call(Call::ChangeOrigin(1, 8, numbers, origins))?;
+    }
+    for indices in [vec![2], vec![0, 2], vec![2, 0], vec![1, 1], vec![0, 9], vec![], vec![0, 1]] {
+        let (numbers, origins) = gate(&[half]);
+        history.call(Call::Change(indices.clone(), numbers.clone(), origins.clone()))?;
+        history.call(Call::Change(indices.clone(), steep.to_vec(), Vec::new()))?;
+        history.call(Call::Change(indices.clone(), numbers.clone(), vec![1, 7]))?;
+        history.call(Call::Change(indices, [numbers, vec![0.0]].concat(), origins))?;
+    }
+    Ok(history)
+}
+
+/// 256 lines for 256 others; then one too many, and one more with a place freed.
+fn changed_full() -> Result<History, String> {
+    let z = [0.0, -1.5, 1.0, 0.0];
+    let all: Vec<usize> = (0..MOST_LINES).collect();
+    let mut history = History::start(at_rest(100))?;
+    history.call(batch(&[z; MOST_LINES]))?;
+    history.call(Call::Change(all.clone(), A.repeat(MOST_LINES), Vec::new()))?;
+    history.call(Call::Change(all, z.repeat(MOST_LINES + 1), Vec::new()))?;
+    history.call(Call::Change(vec![3], z.repeat(2), Vec::new()))?;
+    history.call(Call::Change(vec![3, 100, 255], z.repeat(3), vec![5; 9]))?;
+    history.call(Call::ChangeOrigin(5, 5, z.repeat(3), Vec::new()))?;
+    history.call(Call::ChangeOrigin(0, 0, A.to_vec(), Vec::new()))?;
     Ok(history)
 }
 

@@ -1,5 +1,5 @@
 //! What stands in a session, and what its calls make of it: written from the definition of the build and
-//! from requests T-12 and T-13 alone.
+//! from requests T-12 and T-13 alone; a change is a withdrawal of several lines and a batch, all of it or nothing.
 
 use dodgy_plain::debug::Line;
 use glam::Vec2;
@@ -27,6 +27,10 @@ pub enum Call {
     Tried(usize),
     /// Which line of a batch is the first that the point now does not strictly meet.
     Asked(Vec<f32>),
+    /// The indices that are withdrawn, and a batch: all of it, or nothing.
+    Change(Vec<usize>, Vec<f32>, Vec<u32>),
+    /// The same for all lines whose origin has this kind and place.
+    ChangeOrigin(u32, u32, Vec<f32>, Vec<u32>),
 }
 
 impl Standing {
@@ -46,6 +50,10 @@ impl Standing {
             Call::Batch(numbers, origins) => self.feed(numbers, origins.as_deref().unwrap_or(&[])),
             Call::Withdrawal(index) | Call::Tried(index) => self.withdraw(*index),
             Call::Asked(numbers) => self.clone().feed(numbers, &[]),
+            Call::Change(indices, numbers, origins) => self.change(indices, numbers, origins),
+            Call::ChangeOrigin(kind, place, numbers, origins) => {
+                self.change(&self.of_origin(*kind, *place), numbers, origins)
+            }
         }
     }
 
@@ -82,6 +90,38 @@ impl Standing {
             .extend(origins.chunks_exact(3).map(|three| [three[0], three[1], three[2]]));
         self.origins.resize(self.lines.len(), [0; 3]);
         0
+    }
+
+    /// The indices of the lines whose origin has this kind and place.
+    pub fn of_origin(&self, kind: u32, place: u32) -> Vec<usize> {
+        let has = |index: &usize| self.origins[*index][..2] == [kind, place];
+        (0..self.lines.len()).filter(has).collect()
+    }
+
+    /// Indices of what stands: 15 at the first that is not above the one before or not below the count. The rigid count is one less for each that is below it.
+    fn change(&mut self, indices: &[usize], numbers: &[f32], origins: &[u32]) -> u32 {
+        let mut low = 0;
+        for index in indices {
+            if *index < low || *index >= self.lines.len() {
+                return 15;
+            }
+            low = index + 1;
+        }
+        let is_left = |index: &usize| !indices.contains(index);
+        let left: Vec<usize> = (0..self.lines.len()).filter(is_left).collect();
+        let rigid = self.rigid as usize;
+        let below = indices.iter().filter(|index| **index < rigid).count();
+        let mut changed = Standing {
+            lines: left.iter().map(|index| self.lines[*index].clone()).collect(),
+            origins: left.iter().map(|index| self.origins[*index]).collect(),
+            rigid: self.rigid - below as u32,
+            ..*self
+        };
+        let told = changed.feed(numbers, origins);
+        if told == 0 {
+            *self = changed;
+        }
+        told
     }
 
     /// "the rigid count is one less if the index was below it. .. Later lines move down one"; "15 if the index is not below the line count"

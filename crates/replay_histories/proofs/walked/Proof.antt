@@ -6,7 +6,7 @@ use Rattle.replay_histories.proofs.walked.Statement.{statement}
 use Rattle.replay_histories.proofs.walked.Tie as tie
 
 abbrev Inv-loop : tie.InvT-loop
-Inv-loop playing₀ head₀ rest₀ playing head rest = (length head ≡ 68) × (length rest ≡ 10268)
+Inv-loop playing₀ head₀ rest₀ playing head rest = (length head ≡ 72) × (length rest ≡ 11324)
 
 abbrev μ-loop : tie.MeasureT-loop
 μ-loop playing₀ head₀ rest₀ playing head rest = playing .walk .left
