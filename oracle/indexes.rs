@@ -50,7 +50,7 @@ fn places(log: &[u8]) -> Result<Vec<(u32, u32)>, u8> {
     Ok(all)
 }
 
-fn index_of(log: &[u8]) -> Result<Vec<u8>, u8> {
+pub fn index_of(log: &[u8]) -> Result<Vec<u8>, u8> {
     let places = places(log)?;
     let mut rest = vec![1];
     rest.extend((log.len() as u32).to_be_bytes());
@@ -121,7 +121,7 @@ fn both(log: &[u8], index: &[u8], a: u64, b: u64) -> Result<(u64, u64), u8> {
     Ok(found)
 }
 
-fn ask(log: &[u8], index: &[u8], a: u64, b: u64) -> Result<u64, u8> {
+pub fn ask(log: &[u8], index: &[u8], a: u64, b: u64) -> Result<u64, u8> {
     both(log, index, a, b).map(|(first, second)| second - first)
 }
 
@@ -200,12 +200,12 @@ fn end(left: usize, [total, count, _]: Extent) -> Result<Vec<u8>, u8> {
 // ---- the cases
 
 /// Commands and what they must answer, with the log and the index's buffer as the program holds them.
-struct Script {
-    input: Vec<u8>,
-    output: Vec<u8>,
-    log: Vec<u8>,
-    buffer: Vec<u8>,
-    length: usize,
+pub struct Script {
+    pub input: Vec<u8>,
+    pub output: Vec<u8>,
+    pub log: Vec<u8>,
+    pub buffer: Vec<u8>,
+    pub length: usize,
 }
 
 impl Script {
@@ -225,13 +225,13 @@ impl Script {
         self.output.extend(number.to_be_bytes());
     }
 
-    fn log(&mut self, log: &[u8]) {
+    pub fn log(&mut self, log: &[u8]) {
         self.command(1, [0, log.len(), 0]);
         self.input.extend(log);
         self.log = log.to_vec();
     }
 
-    fn more_log(&mut self, record: &[u8]) {
+    pub fn more_log(&mut self, record: &[u8]) {
         self.command(1, [self.log.len(), record.len(), 0]);
         self.input.extend(record);
         self.log.extend(record);
@@ -244,19 +244,19 @@ impl Script {
         self.length = index.len();
     }
 
-    fn lengths(&mut self, log: usize, index: usize) {
+    pub fn lengths(&mut self, log: usize, index: usize) {
         self.command(6, [log, index, 0]);
         self.log.truncate(log);
         self.length = index;
     }
 
-    fn build(&mut self, room: usize) {
+    pub fn build(&mut self, room: usize) {
         self.command(3, [room, 0, 0]);
         let answer = build(&self.log, &mut self.buffer[..room]);
         self.written(answer, room);
     }
 
-    fn append(&mut self, length: usize, room: usize, record: &[u8]) {
+    pub fn append(&mut self, length: usize, room: usize, record: &[u8]) {
         self.command(5, [length, room, record.len()]);
         self.input.extend(record);
         let answer = append(&self.log, &mut self.buffer[..room], length, record);
@@ -271,7 +271,7 @@ impl Script {
         }
     }
 
-    fn ask(&mut self, a: u64, b: u64) -> Result<u64, u8> {
+    pub fn ask(&mut self, a: u64, b: u64) -> Result<u64, u8> {
         self.command(4, [a as usize, b as usize, 0]);
         let answer = ask(&self.log, &self.buffer[..self.length], a, b);
         self.told(answer);
@@ -375,7 +375,7 @@ impl Script {
 }
 
 /// Numbers that look drawn, the same each time.
-struct Draw(u64);
+pub struct Draw(pub u64);
 
 impl Draw {
     fn below(&mut self, n: u64) -> u64 {
@@ -384,7 +384,7 @@ impl Draw {
     }
 }
 
-const REFUSED: [u8; 4] = [0, 2, 1, 134];
+pub const REFUSED: [u8; 4] = [0, 2, 1, 134];
 /// The codes of refusals: 129 to 138, and 142 (02, T-11).
 const REFUSALS: [u8; 11] = [129, 130, 131, 132, 133, 134, 135, 136, 137, 138, 142];
 
@@ -394,7 +394,7 @@ fn outcome(code: u8, draw: &mut Draw) -> Vec<u8> {
     record
 }
 
-fn records(count: usize, draw: &mut Draw) -> Vec<Vec<u8>> {
+pub fn records(count: usize, draw: &mut Draw) -> Vec<Vec<u8>> {
     (0..count)
         .map(|_| match draw.below(8) {
             0 => vec![0, 2, 1, REFUSALS[draw.below(11) as usize]],
@@ -405,7 +405,7 @@ fn records(count: usize, draw: &mut Draw) -> Vec<Vec<u8>> {
 }
 
 /// The full walk.
-fn fallbacks_of(records: &[Vec<u8>]) -> u32 {
+pub fn fallbacks_of(records: &[Vec<u8>]) -> u32 {
     records.iter().filter(|record| record[1] == 16 && record[3] >= 3).count() as u32
 }
 

@@ -81,9 +81,13 @@ headIn index = take headBytes index
 unfoldable pub entryIn : List ℕ → ℕ → List ℕ
 entryIn index a = take entryBytes (drop (entryPlace a) index)
 
--- the bytes from there that so many records can have
+-- the bytes that the records from there to it can have
+abbrev pub stretchBytes : ℕ → ℕ
+stretchBytes a = longestAnswer * (a % apart)
+
+-- the log from where the entry points
 unfoldable pub stretchIn : List ℕ → List ℕ → ℕ → List ℕ
-stretchIn log entry a = take (longestAnswer * (a % apart)) (drop (offsetIn entry) log)
+stretchIn log entry a = take (stretchBytes a) (drop (offsetIn entry) log)
 
 unfoldable pub questionIn : List ℕ → List ℕ → ℕ → ℕ → Fallbacks
 questionIn log index a b =

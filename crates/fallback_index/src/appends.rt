@@ -22,7 +22,7 @@ pub(crate) fn update_in(log: &[u8], index: &[u8], record: &[u8]) -> Update
     let at = questions::start_within(index.len(), index_building::entry_at(count));
     let to = questions::end_within(index.len(), at, IndexWritten::ENTRY_BYTES);
     let from = questions::start_within(log.len(), words::word_at(&index[at..to], 0) as usize);
-    let past = questions::end_within(log.len(), from, questions::most_bytes(count));
+    let past = questions::end_within(log.len(), from, crate::most_bytes(count));
     crate::update_by_parts(
         log.len(),
         index.len(),

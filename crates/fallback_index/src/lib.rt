@@ -1,12 +1,13 @@
 // Fallbacks between two ticks (02, T-10): questions that a log's index answers from two short stretches of the log, and an append.
 ghost use mathlib.Core.Path.{_≡_};
 ghost use Rattle.index_building.specs.Indexes.{greatest, standing};
-ghost use Rattle.fallback_index.specs.Questions.{questionOf, questionIn};
+ghost use Rattle.fallback_index.specs.Questions.{stretchBytes, questionOf, questionIn};
 ghost use Rattle.fallback_index.specs.Appends.{updateOf, appendedOver};
 
 mod appends;
 mod questions;
 
+use answer_records::Answer;
 use index_building::IndexWritten;
 use log_walks::Met;
 
@@ -35,9 +36,9 @@ pub fn count_fallbacks(log: &[u8], index: &[u8], a: usize, b: usize) -> Fallback
     let at_b = questions::start_within(index.len(), index_building::entry_at(b));
     let to_b = questions::end_within(index.len(), at_b, IndexWritten::ENTRY_BYTES);
     let from_a = questions::start_within(log.len(), words::word_at(&index[at_a..to_a], 0) as usize);
-    let past_a = questions::end_within(log.len(), from_a, questions::most_bytes(a));
+    let past_a = questions::end_within(log.len(), from_a, most_bytes(a));
     let from_b = questions::start_within(log.len(), words::word_at(&index[at_b..to_b], 0) as usize);
-    let past_b = questions::end_within(log.len(), from_b, questions::most_bytes(b));
+    let past_b = questions::end_within(log.len(), from_b, most_bytes(b));
     count_by_parts(
         log.len(),
         index.len(),
@@ -51,8 +52,15 @@ pub fn count_fallbacks(log: &[u8], index: &[u8], a: usize, b: usize) -> Fallback
     )
 }
 
+// How many bytes of the log a question rests on at most, from where the last entry at or before a record points.
+pub fn most_bytes(a: usize) -> usize
+    ensures { λ r. ⌜ r ≡ stretchBytes a ⌝ }
+{
+    Answer::BYTES * (a % IndexWritten::APART)
+}
+
 // `count_fallbacks` by what it rests on: the lengths of log and index, the index's first 13 bytes, its entries at or before a and b
-// (8 bytes from 13 + 8 * (a / 64) on), and the log from where each entry points, 18 * (a % 64) bytes or what there is.
+// (8 bytes from 13 + 8 * (a / 64) on), and the log from where each entry points, `most_bytes` or what there is.
 pub fn count_by_parts(
     log_length: usize,
     index_length: usize,

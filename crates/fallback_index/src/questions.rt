@@ -11,13 +11,6 @@ ghost use Rattle.fallback_index.specs.Questions.{namedLog, namedCount, h
 ghost use Rattle.fallback_index.specs.Parts.{upTo, countIn};
 ghost use Rattle.index_building.specs.Indexes.{greatest};
 
-// The bytes that the records from the last entry at or before a record to it can have.
-pub(crate) fn most_bytes(a: usize) -> usize
-    ensures { λ r. ⌜ r ≡ 18 * (a % 64) ⌝ }
-{
-    18 * (a % IndexWritten::APART)
-}
-
 // A place, or the end of all bytes where it lies past that.
 pub(crate) fn start_within(all: usize, at: usize) -> usize
     ensures { λ r. ⌜ (r ≡ upTo all at) × (r ≤ all) ⌝ }

@@ -12,8 +12,9 @@ use lib.Seq.{sets, length-sets}
 use borrow.Author.Tests.{leb-true, le-leb, lt-leb, eq-eqb, ne-eqb}
 use Rattle.arithmetic.specs.Binary32.{if_then_else_}
 use Rattle.fields.proofs.StoreLaws.{sets-append}
-use Rattle.admission.specs.Faults.{fine, fault, must}
+use Rattle.admission.specs.Faults.{Fault, fine, fault, must, unlessFault}
 use Rattle.admission.proofs.FaultLaws.{⊳-fine, must-fine}
+use Rattle.answer_records.specs.Answers.{longestAnswer}
 use Rattle.answer_logs.specs.Logs.{Entry}
 use Rattle.answer_logs.specs.Parts.{wholeAt, Wholes, reached, stopped, aheadWhole}
 use Rattle.log_walks.specs.declared.Passed.the-variants as passed
@@ -22,14 +23,15 @@ use Rattle.log_walks.specs.Walks.{passedBy}
 use Rattle.log_walks.specs.Parts.{isWhole, wholesOf}
 use Rattle.log_walks.proofs.FoundLaws.{size-within}
 use Rattle.log_walks.proofs.WalkLaws.{one-fallback}
-use Rattle.log_walks.proofs.PartLaws.{Passes, part-passed, part-bad, part-ended}
+use Rattle.log_walks.proofs.PartLaws.{Passes, part-passed, part-bad, part-ended, few-behind}
 use Rattle.index_building.specs.declared.Extent.{Extent}
 use Rattle.index_building.specs.declared.Progress.the-variants as progress
+use Rattle.index_building.specs.declared.PartBuilt.{PartBuilt}
 use Rattle.index_building.specs.declared.PartBuilt.the-variants as built
-use Rattle.index_building.specs.Indexes.{newEntry, standing, laidOver, putOver}
+use Rattle.index_building.specs.Indexes.{newEntry, Standing, standing, laidOver, putOver}
 use Rattle.index_building.specs.Builds.{extent, withRecord, entryHere, completed, most64, extentFault, completedBy, progressBy, partBy, partOver}
 use Rattle.index_building.proofs.LengthLaws.{entry-length}
-use Rattle.index_building.proofs.LaidLaws.{nothing-laid}
+use Rattle.index_building.proofs.LaidLaws.{nothing-laid, laid-length}
 
 -- ---- what a part may bring
 
@@ -260,3 +262,39 @@ module _ (part : List ℕ) (x : Extent) (buffer : List ℕ) where
           (out : List ℕ) → out ≡ sets buffer 0 (completedBy x (wholesOf part)) → standing (built.Whole used needed after) out ≡ partOver part x buffer
       unfolding partOver
       part-done needed f h out p = rw (← fits) (part-done-by x buffer (wholesOf part) used after e needed f h out p)
+
+-- what is told of whole records lies within the part and the buffer, and fewer bytes are left than an answer may have
+pub record Within (part out : List ℕ) (used n : ℕ) : Type 0 where
+  pub within-part : used ≤ length part
+  pub few-left : length part < used + longestAnswer
+  pub within-buffer : n ≤ length out
+
+module _ (part : List ℕ) (x : Extent) (buffer : List ℕ) (used n : ℕ) (after : Extent) (out : List ℕ) where
+  by-room : (l : List Entry) (u : ℕ) → wholesOf part ≡ reached l u → Dec (length (completed x l) ≤ length buffer) →
+      standing (built.Whole used n after) out ≡ partBy x buffer (reached l u) → Within part out used n
+  unfolding putOver
+  by-room l u p (no h) e =
+      let f = ap (λ (s : Standing PartBuilt). s .told) (rw (lt-leb (length (completed x l)) (length buffer) (omega arith)) at e) in
+      absurd (let z : _≡_ {A = ℕ} 0 1 = cc in omega arith)
+  by-room l u p (yes h) e =
+      let q = rw (le-leb (length (completed x l)) (length buffer) h) at e in
+      let f = ap (λ (s : Standing PartBuilt). s .told) q in
+      let g = ap (λ (s : Standing PartBuilt). length (s .contents)) q in
+      let a : used ≡ u = cc in
+      let b : n ≡ length (completed x l) = cc in
+      let few = few-behind part p in
+      record {
+        within-part = omega (arith, few .0);
+        few-left = omega (arith, few .1);
+        within-buffer = omega (arith, laid-length (completed x l) buffer h);
+      }
+
+  by-fault : (f : Fault) (w : Wholes) → wholesOf part ≡ w →
+      standing (built.Whole used n after) out ≡ unlessFault (λ r. standing (built.Refused r) buffer) f (partBy x buffer w) → Within part out used n
+  by-fault (fault r) w p e = let f = ap (λ (s : Standing PartBuilt). s .told) e in absurd (let z : _≡_ {A = ℕ} 0 1 = cc in omega arith)
+  by-fault fine (stopped r place) p e = let f = ap (λ (s : Standing PartBuilt). s .told) e in absurd (let z : _≡_ {A = ℕ} 0 1 = cc in omega arith)
+  by-fault fine (reached l u) p e = by-room l u p (decLe (length (completed x l)) (length buffer)) e
+
+  pub part-within : standing (built.Whole used n after) out ≡ partOver part x buffer → Within part out used n
+  unfolding partOver
+  part-within e = by-fault (extentFault (length part) x) (wholesOf part) refl e

@@ -26,6 +26,10 @@ headBytes = 13
 abbrev pub entryBytes : ℕ
 entryBytes = 8
 
+-- those up to the first entry, that included
+abbrev pub startBytes : ℕ
+startBytes = 21
+
 -- the greatest number in four bytes
 abbrev pub greatest : ℕ
 greatest = 4294967295

@@ -1,8 +1,9 @@
-// The index of a log's fallbacks (02, T-10), written: built from a log, whole or in parts, and stored over its old bytes with new numbers.
+// The index of a log's fallbacks (02, T-10), written: built from a log, whole or in parts, and stored over its old
+// bytes with new numbers.
 ghost use mathlib.Core.Path.{_≡_};
 ghost use Rattle.index_building.specs.Indexes.{standing, entryPlace};
 ghost use Rattle.index_building.specs.Builds.{builtOver, partOver, endOver};
-ghost use Rattle.index_building.specs.Stores.{storedOver};
+ghost use Rattle.index_building.specs.Stores.{storedOver, endsOver};
 
 mod builds;
 mod puts;
@@ -38,8 +39,8 @@ pub struct Extent {
     pub fallbacks: u64,
 }
 
-// A part of a log that was read: the bytes of it that are used, the bytes of the entries that were written, and how far the
-// log is read then; or the number of a refusal.
+// A part of a log that was read: the bytes of it that are used, the bytes of the entries that were written, and how
+// far the log is read then; or the number of a refusal.
 pub enum PartBuilt {
     Whole(usize, usize, Extent),
     Refused(u8),
@@ -58,9 +59,9 @@ pub fn entry_at(a: usize) -> usize
     IndexWritten::HEAD_BYTES + IndexWritten::ENTRY_BYTES * (a / IndexWritten::APART)
 }
 
-// Writes the log's index to the buffer's start; bytes behind it keep their contents. Refused, with the buffer as it was: the
-// log's first bad record (1 or 2), then a log of more than 4,294,967,295 bytes, since no other number of the index is
-// greater (4), then a buffer shorter than the index (10).
+// Writes the log's index to the buffer's start; bytes behind it keep their contents. Refused, with the buffer as it
+// was: the log's first bad record (1 or 2), then a log of more than 4,294,967,295 bytes, since no other number of the
+// index is greater (4), then a buffer shorter than the index (10).
 pub fn build_index(log: &[u8], buffer: &mut [u8]) -> IndexWritten
     ensures { λ r. ⌜ standing r (now (buffer .exit)) ≡ builtOver (now (log .entry)) (now (buffer .entry)) ⌝ }
 {
@@ -76,11 +77,11 @@ pub fn build_index(log: &[u8], buffer: &mut [u8]) -> IndexWritten
     }
 }
 
-// A build of a log that comes in parts, one behind the other: writes the entries that the records of a part complete to the
-// buffer's start, behind a log that was read so far; before the first part that is nothing. Whole records are read; bytes
-// that are left belong before the next part. The first entry, for record 0, is `build_end`'s. Refused, with the buffer as
-// it was: numbers that such a part could bring over 64 bits (4), the part's first bad record (1 or 2), then a buffer shorter
-// than the entries (10): 8 bytes for each 256 of the part, and 8 more, are enough.
+// A build of a log that comes in parts, one behind the other: writes the entries that the records of a part complete
+// to the buffer's start, behind a log that was read so far; before the first part that is nothing. Whole records are
+// read; bytes that are left belong before the next part. The first entry, for record 0, is `build_end`'s. Refused,
+// with the buffer as it was: numbers that such a part could bring over 64 bits (4), the part's first bad record (1 or
+// 2), then a buffer shorter than the entries (10): 8 bytes for each 256 of the part, and 8 more, are enough.
 pub fn build_part(part: &[u8], before: Extent, buffer: &mut [u8]) -> PartBuilt
     ensures { λ r. ⌜ standing r (now (buffer .exit)) ≡ partOver (now (part .entry)) before (now (buffer .entry)) ⌝ }
 {
@@ -102,18 +103,19 @@ pub fn build_part(part: &[u8], before: Extent, buffer: &mut [u8]) -> PartBuilt
     }
 }
 
-// The end of a log that came in parts: writes the index up to its first entry, behind which those belong that the parts
-// completed, to the buffer's start. Refused, with the buffer as it was: bytes that are left, which are a record cut short
-// (2), a number over 4,294,967,295 (4), then a buffer of fewer than 21 bytes (10).
+// The end of a log that came in parts: writes the index up to its first entry, behind which those belong that the
+// parts completed, to the buffer's start. Refused, with the buffer as it was: bytes that are left, which are a record
+// cut short (2), a number over 4,294,967,295 (4), then a buffer of fewer than 21 bytes (10).
 pub fn build_end(rest: &[u8], extent: Extent, buffer: &mut [u8]) -> IndexWritten
     ensures { λ r. ⌜ standing r (now (buffer .exit)) ≡ endOver (now (rest .entry)) extent (now (buffer .entry)) ⌝ }
 {
     builds::store_end(IndexWritten::GREATEST, rest.len(), extent, buffer)
 }
 
-// Brings an index's bytes, at the buffer's start, up to date: stores the log's length and the count before the entries, and behind the
-// entries of a record less the one that the count calls for, if any, with the fallbacks before the log's end. Refused, with the
-// buffer as it was: a length or a count over 4,294,967,295 (4), then a buffer shorter than the index (10).
+// Brings an index's bytes, at the buffer's start, up to date: stores the log's length and the count before the
+// entries, and behind the entries of a record less the one that the count calls for, if any, with the fallbacks
+// before the log's end. Refused, with the buffer as it was: a length or a count over 4,294,967,295 (4), then a buffer
+// shorter than the index (10).
 pub fn store_update(buffer: &mut [u8], total: u64, count: u64, before: u64) -> IndexWritten
     ensures { λ r. ⌜ standing r (now (buffer .exit)) ≡ storedOver (now (buffer .entry)) total count before ⌝ }
 {
@@ -130,4 +132,25 @@ pub fn store_update(buffer: &mut [u8], total: u64, count: u64, before: u64) -> I
     puts::put_head(buffer, total as u32, count as u32);
     puts::put_new_entry(buffer, entry_at(count as usize + 63), count, total, before);
     IndexWritten::Length(whole)
+}
+
+// The ends of an index brought up to date, to the buffer's start, for a host that keeps the entries elsewhere: the 13
+// bytes before the entries, and behind them the entry that the count calls for, if any; the entries of a record less
+// belong in between. It returns how many bytes they have. Refused, with the buffer as it was: a length or a count
+// over 4,294,967,295 (4), then a buffer of fewer than 21 bytes (10).
+pub fn put_ends(buffer: &mut [u8], total: u64, count: u64, before: u64) -> IndexWritten
+    ensures { λ r. ⌜ standing r (now (buffer .exit)) ≡ endsOver (now (buffer .entry)) total count before ⌝ }
+{
+    if total > IndexWritten::GREATEST {
+        return IndexWritten::Refused(4);
+    }
+    if count > IndexWritten::GREATEST {
+        return IndexWritten::Refused(4);
+    }
+    if buffer.len() < IndexWritten::START_BYTES {
+        return IndexWritten::Refused(10);
+    }
+    puts::put_head(buffer, total as u32, count as u32);
+    let end = puts::put_new_entry(buffer, IndexWritten::HEAD_BYTES, count, total, before);
+    IndexWritten::Length(end)
 }

@@ -1,0 +1,2 @@
+-- The laws of `fallbacks`.
+pub mod TurnLaws

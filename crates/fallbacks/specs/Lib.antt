@@ -1,0 +1,2 @@
+-- The definitions that the contracts of `fallbacks` cite.
+pub mod Turns
