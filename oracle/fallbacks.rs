@@ -232,7 +232,8 @@ fn unusable(room: &mut Room, log: &[u8], index: &[u8]) {
 
 /// The library's answers to what was asked of it above.
 fn library(root: &Path, script: &Script) {
-    let mut child = Command::new(root.join("target/bin/fallback_cases"))
+    let mut child = Command::new(root.join("tools/run"))
+        .arg("fallback_cases")
         .stdin(Stdio::piped())
         .stdout(Stdio::piped())
         .spawn()
@@ -343,6 +344,11 @@ fn main() {
     library(&room.root, &script);
     refused(&mut room, &mut draw);
     println!("./fallbacks: {} runs, lines, status and files as 02's words and the library give them", room.runs);
+    // Elsewhere an emulator runs the program, and its calls are not the program's.
+    if !cfg!(target_arch = "x86_64") {
+        println!("./fallbacks: runs that are killed, or of which a call fails, left out: the processor is not x86-64");
+        return;
+    }
     if Command::new("strace").arg("-V").output().is_err() {
         println!("./fallbacks: runs that are killed, or of which a call fails, left out: no strace");
         return;
