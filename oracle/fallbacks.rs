@@ -207,6 +207,7 @@ fn unusable(room: &mut Room, log: &[u8], index: &[u8]) {
         &["count", &there, "/", "0", "0"],
         &["build", "no such log", &that],
         &["build", "/", &that],
+        &["build", &there, &there],
         &["build", &there, "/no such folder/index"],
         &["append", &there, &that, "no such record"],
         &["append", &there, &that, "/"],
