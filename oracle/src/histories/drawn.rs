@@ -1,14 +1,17 @@
-//! Drawn histories: batches of any of the lists' lines, with origins and without, questions about them, withdrawals anywhere,
-//! changes by indices and by origin, and calls that are refused.
+//! Drawn histories: batches of any of the lists' lines, with origins and without, some of them taken back whole at once, questions
+//! about them, withdrawals anywhere, changes by indices and by origin, and calls that are refused.
 
 use dodgy_plain::debug::Line;
 
 use super::standing::{numbers_of, Call, Standing};
-use super::{History, CALLS};
+use super::{is_batch, is_met, History, CALLS};
 use crate::list_vectors::call::Call as List;
 use crate::list_vectors::judge::{self, MOST_LINES};
 use crate::list_vectors::made;
 use crate::random::Random;
+
+/// Of the batches that are taken, one in so many is taken back.
+const TAKEN_BACK: usize = 5;
 
 type Make = fn(&mut Random) -> List;
 
@@ -39,8 +42,27 @@ pub fn history(random: &mut Random) -> Result<History, String> {
             lines.extend(history.standing.lines.get(index).cloned());
         }
         history.call(call)?;
+        take_back(random, &mut history, &mut lines)?;
     }
     Ok(history)
+}
+
+/// Behind a batch that was taken, at times: all of its lines go again next, in any order, if as many calls are left.
+fn take_back(random: &mut Random, history: &mut History, lines: &mut Vec<Line>) -> Result<(), String> {
+    let calls = history.told.len();
+    let told = &history.told[calls - 1];
+    let (first, count) = (told.before.lines.len(), told.after.lines.len());
+    let can_be = is_batch(told) && first < count && calls + count - first <= CALLS;
+    if !can_be || !random.one_in(TAKEN_BACK) {
+        return Ok(());
+    }
+    let met = is_met(told);
+    lines.extend_from_slice(&told.after.lines[first..]);
+    for left in (1..=count - first).rev() {
+        history.call(Call::Withdrawal(first + random.below(left)))?;
+    }
+    history.told[calls + count - first - 1].back = Some(met);
+    Ok(())
 }
 
 pub fn standing_of(list: &List) -> Standing {

@@ -34,6 +34,8 @@ struct Told {
     judged: u32,
     /// The first line that is not strictly met, by the index that it gets, where a question names one.
     named: Option<usize>,
+    /// Of the last withdrawal of a batch that is taken back whole: whether the session before the batch was solving and strictly met it.
+    back: Option<bool>,
     before: Standing,
     after: Standing,
     solved_before: Solved,
@@ -54,6 +56,7 @@ impl History {
             call: Call::Start,
             judged: 0,
             named: None,
+            back: None,
             before: start.clone(),
             after: start.clone(),
             solved_before: solved,
@@ -81,6 +84,7 @@ impl History {
             call,
             judged,
             named: named.filter(|_| judged == 0),
+            back: None,
             before,
             after,
         });
@@ -101,6 +105,7 @@ const COLUMNS: [Column<Told>; 4] = [
 const ROWS: &[(&str, Test)] = &[
     ("start", |told| matches!(told.call, Call::Start)),
     ("batch that is taken", |told| is_batch(told) && told.judged == 0),
+    ("batch that a solving session strictly meets", is_met),
     ("batch refused with 2", |told| is_batch(told) && told.judged == 2),
     ("batch refused with 4", |told| is_batch(told) && told.judged == 4),
     ("batch refused with 6", |told| is_batch(told) && told.judged == 6),
@@ -118,6 +123,8 @@ const ROWS: &[(&str, Test)] = &[
     ("withdrawal behind which another line fails", |told| is_taken(told) && told.solved.counts.failed_line.is_some_and(|k| told.solved_before.counts.failed_line.is_some_and(|j| j < k))),
     ("withdrawal of a line with an origin", |told| is_taken(told) && told.before.origins[index(told)] != [0; 3]),
     ("withdrawal from 256 lines", |told| is_taken(told) && told.before.lines.len() == 256),
+    ("withdrawal of the last line left of a batch that is taken back whole", |told| told.back.is_some()),
+    ("withdrawal of the last line left of such a batch, strictly met by a solving session", |told| told.back == Some(true)),
     ("withdrawal refused with 15", |told| told.judged == 15),
     ("batch to the 256th line behind a withdrawal", |told| is_batch(told) && told.judged == 0 && told.before.lines.len() == 255 && told.after.lines.len() == 256),
     ("question that names no line", |told| is_named(told) && told.named.is_none()),
@@ -203,6 +210,17 @@ fn keeps_point(told: &Told) -> bool {
 
 fn is_batch(told: &Told) -> bool {
     matches!(told.call, Call::Batch(..))
+}
+
+/// Whether a batch of some lines was taken by a session that was solving and whose point strictly met them all (02, T-13).
+fn is_met(told: &Told) -> bool {
+    let Call::Batch(numbers, _) = &told.call else {
+        return false;
+    };
+    let (Ok(point) | Err(point)) = told.solved_before.answer;
+    let is_solving = told.solved_before.counts.failed_line.is_none();
+    let unmet = told.before.first_unmet(point, &Call::Asked(numbers.clone()));
+    is_solving && told.judged == 0 && !numbers.is_empty() && unmet.is_none()
 }
 
 fn is_taken(told: &Told) -> bool {

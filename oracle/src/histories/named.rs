@@ -1,5 +1,5 @@
 //! Histories that are made by hand: bench cases with a line taken back, a gate that opens and closes, sessions that are emptied and fed
-//! again, full ones, and every index of lists that the session's cuts have too.
+//! again, full ones, and every index of the lists that the session's cuts have too.
 
 use glam::Vec2;
 
@@ -10,11 +10,9 @@ use crate::cut_vectors;
 use crate::list_vectors::call::Call as List;
 use crate::list_vectors::judge::MOST_LINES;
 
-/// Of the lists that are cut, one in so many is taken, and every one of these.
-const ONE_IN: usize = 5;
-
-/// Of the lines of a long list, one in so many is taken back.
-const STEP: usize = 15;
+/// A list that takes more probes than these is long in the solving: of its indices one in so many is tried, the first and the last among them.
+const MOST_PROBES: u32 = 65_536;
+const STEP: usize = 5;
 
 const A: [f32; 4] = [0.0, 1.0, 1.0, 0.0];
 const B: [f32; 4] = [0.0, -1.0, -1.0, 0.0];
@@ -45,9 +43,7 @@ pub fn histories() -> Result<Vec<History>, String> {
         }
     }
     for (place, list) in cut_vectors::calls().iter().enumerate() {
-        if place % ONE_IN == 0 || list.line_count() > 200 {
-            histories.push(every_index(list)?);
-        }
+        histories.push(every_index(list)?);
         if place % 50 == 0 && list.line_count() < 40 {
             histories.push(emptied(list, place)?);
         }
@@ -237,11 +233,12 @@ fn full_of_met() -> Result<History, String> {
     Ok(history)
 }
 
-/// A list of the cuts, fed at once: each of its lines is taken back, of a long one some, and the index behind them is refused.
+/// A list of the cuts, fed at once: each of its lines is taken back, of one that is long in the solving some, and the index behind them is refused.
 fn every_index(list: &List) -> Result<History, String> {
     let mut history = History::start(standing_of(list))?;
     history.call(Call::Batch(list.numbers.clone(), None))?;
-    let step = if list.line_count() > 200 { STEP } else { 1 };
+    let probes = history.told.last().map_or(0, |told| told.solved.counts.probes);
+    let step = if probes > MOST_PROBES { STEP } else { 1 };
     for index in (0..list.line_count()).step_by(step) {
         history.call(Call::Tried(index))?;
     }
