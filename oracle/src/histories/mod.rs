@@ -125,7 +125,7 @@ const ROWS: &[(&str, Test)] = &[
     ("withdrawal from 256 lines", |told| is_taken(told) && told.before.lines.len() == 256),
     ("withdrawal of the last line left of a batch that is taken back whole", |told| told.back.is_some()),
     ("withdrawal of the last line left of such a batch, strictly met by a solving session", |told| told.back == Some(true)),
-    ("withdrawal refused with 15", |told| told.judged == 15),
+    ("withdrawal refused with 15", |told| is_withdrawal(told) && told.judged == 15),
     ("batch to the 256th line behind a withdrawal", |told| is_batch(told) && told.judged == 0 && told.before.lines.len() == 255 && told.after.lines.len() == 256),
     ("question that names no line", |told| is_named(told) && told.named.is_none()),
     ("question that names the first line of several", |told| told.named == Some(told.before.lines.len()) && asked(told) > 1),
@@ -223,8 +223,12 @@ fn is_met(told: &Told) -> bool {
     is_solving && told.judged == 0 && !numbers.is_empty() && unmet.is_none()
 }
 
+fn is_withdrawal(told: &Told) -> bool {
+    matches!(told.call, Call::Withdrawal(_) | Call::Tried(_))
+}
+
 fn is_taken(told: &Told) -> bool {
-    told.judged == 0 && matches!(told.call, Call::Withdrawal(_) | Call::Tried(_))
+    told.judged == 0 && is_withdrawal(told)
 }
 
 fn index(told: &Told) -> usize {
