@@ -262,14 +262,43 @@ fn stands(session: Session, head: &[u8], rest: &[u8]) -> bool {
         & is_standing(head, 32, phase, failed, session.probes)
 }
 
-// Whether a session with more lines than it holds gets 4, whatever is taken back.
+// Whether a session with more lines than it holds gets 4, whatever is asked of it: before an index (15), numbers and origins (2) are looked at.
 fn is_forged_refused(given: Session, head: &[u8]) -> bool {
     let forged = Session {
         count: Line::MOST + 1,
         ..given
     };
-    let fed = forged.withdraw(size_at(head, 8));
+    let index = size_at(head, 8);
+    let fed = forged.withdraw(index);
     let judged = fed.judged;
+    is_4(judged) & is_forged_change_refused(forged, index) & is_forged_question_refused(forged)
+}
+
+// The same for a change of the line at the index, and of those of an origin, of which none is withdrawn.
+fn is_forged_change_refused(forged: Session, index: usize) -> bool {
+    let withdrawn = [index];
+    let five = [0.0f32; 5];
+    let one = [0u32; 1];
+    let fed = forged.change(&withdrawn, &five, &one);
+    let changed = forged.change_origin(0, 0, &five, &one);
+    let judged = fed.judged;
+    let by_origin = changed.fed;
+    let judged_by_origin = by_origin.judged;
+    is_4(judged) & is_4(judged_by_origin) & (changed.withdrawn == 0)
+}
+
+// The same for a question.
+fn is_forged_question_refused(forged: Session) -> bool {
+    let five = [0.0f32; 5];
+    let unmet = forged.first_unmet(&five);
+    match unmet {
+        Unmet::At(_) => false,
+        Unmet::Nothing => false,
+        Unmet::Refused(number) => number == 4,
+    }
+}
+
+fn is_4(judged: Judged) -> bool {
     match judged {
         Judged::Fine => false,
         Judged::Fault(number) => number == 4,
