@@ -1,6 +1,7 @@
 //! Runs `./fallbacks` on files, and holds its lines, its exit status and the files that it leaves to the index written from
 //! document 02 alone (oracle/indexes.rs) and to the library's functions, which `fallback_cases` runs on the same logs. Then it stops
-//! a build and an append before each of their system calls, and lets each fail, by strace where that is at hand.
+//! a build and an append before each of their calls that are named in `CALLS`, and lets each read, write, open, sync and rename fail
+//! in turn, by strace where that is at hand and the processor is x86-64.
 //! Standard library only.
 //! usage: fallbacks ROOT ROOM
 
