@@ -80,7 +80,7 @@ unfolding neighboursFrom
 neighbours-long place zero = refl
 neighbours-long place (suc n) = ap suc (neighbours-long (place + 1) n)
 
-neighbour-at : (place n i : ℕ) → i < n → getD (neighboursFrom place n) i unknown ≡ neighbourOrigin (place + i)
+pub neighbour-at : (place n i : ℕ) → i < n → getD (neighboursFrom place n) i unknown ≡ neighbourOrigin (place + i)
 unfolding neighboursFrom
 neighbour-at place zero i h = absurd (omega arith)
 neighbour-at place (suc n) zero h = rw add-zero

@@ -4,6 +4,7 @@ pub mod Steps
 pub mod WholeLaws
 pub mod WholeProbes
 pub mod CauseLaws
+pub mod FailedLaws
 pub mod ResumeLaws
 pub mod Bounds
 pub mod Agreement
