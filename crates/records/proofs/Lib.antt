@@ -12,4 +12,5 @@ pub mod TurnLaws
 pub mod Agreement
 pub mod RefusalLaws
 pub mod OutcomeLaws
+pub mod PlaceLaws
 pub mod NumberLaws
