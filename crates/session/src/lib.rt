@@ -256,7 +256,8 @@ impl Session {
     }
 
     // The same for every line whose origin has this kind and place, all lines of one obstacle, say: a gate is named by its wall, not by an index that moved.
-    // Where no line has it, nothing is withdrawn and the batch is added; how many were withdrawn is told.
+    // Where no line has it, nothing is withdrawn and the batch is added; how many were withdrawn is told. Kind 0 and place 0 are those of an unknown origin: they
+    // name every line that came without one.
     pub fn change_origin(self, kind: u32, place: u32, numbers: &[f32], origins: &[u32]) -> Changed
         ensures { λ r. ⌜ r ≡ originChangedAs self kind place (now (numbers .entry)) (now (origins .entry)) ⌝ }
     {
