@@ -1,12 +1,15 @@
 -- Two outcomes that one promise about a turn allows agree: where the stream stands, and what input and output hold then; and so do two
--- parts. (Those of one record answered agree by `writings-agree` of `answer_records`.) Assumes nothing.
+-- parts, and two answers to a record with what its buffer holds. (Those without the failure agree by `writings-agree` of `answer_records`.)
+-- Assumes nothing.
 use Prim.Native.Nat.{ℕ}
 use mathlib.Core.Path.{_≡_, refl, ap}
 use mathlib.Core.List.{List}
 use Rattle.arithmetic.proofs.Agree.{agree, agree-read}
+use Rattle.dodgy_2d.specs.declared.SceneAnswer.{SceneAnswer}
 use Rattle.records.specs.declared.Part.{Part as PartCode}
 use Rattle.records.specs.declared.Part.the-variants as code
 use Rattle.records.specs.declared.Stream.{Stream}
+use Rattle.records.specs.Answered.{Solved, solved}
 use Rattle.records.specs.Parts.{Part, skipped, overlong, whole, cutShort, partOf}
 use Rattle.records.specs.Turns.{Lent, lent}
 
@@ -33,3 +36,7 @@ part-back code.Cut = refl
 
 pub parts-agree : {one other : PartCode} {promised : Part} → partOf one ≡ promised → partOf other ≡ promised → one ≡ other
 parts-agree = agree-read partOf partAs part-back
+
+pub answers-agree : {one other : SceneAnswer} {held out : List ℕ} {promised : Solved} → solved one held ≡ promised → solved other out ≡ promised
+    → (one ≡ other) × (held ≡ out)
+answers-agree p q = (agree (ap (λ (s : Solved). s .told) p) (ap (λ (s : Solved). s .told) q), agree (ap (λ (s : Solved). s .contents) p) (ap (λ (s : Solved). s .contents) q))

@@ -8,7 +8,11 @@ use Rattle.arithmetic.specs.Binary32.{if_then_else_}
 use Rattle.admission.specs.Faults.{fault}
 use Rattle.common.specs.declared.Vec2.{Vec2}
 use Rattle.linear_programming.specs.Whole.{Failed, noLine, failedLine}
+use Rattle.dodgy_2d.specs.declared.SceneAnswer.{SceneAnswer}
+use Rattle.dodgy_2d.specs.declared.SceneAnswer.the-variants as answer-code
 use Rattle.dodgy_2d.specs.Outcomes.{SceneOutcome, outcome, refusedScene, sceneOutcome}
+use Rattle.dodgy_2d.specs.Origins.{sceneOrigin}
+use Rattle.dodgy_2d.specs.Read.{sceneAnswerAs}
 use Rattle.fields.specs.Got.{Got, refused, got}
 use Rattle.scene_records.specs.Versions.{Numbered, sceneIn}
 use Rattle.answer_records.specs.declared.Answer.{Answer}
@@ -52,6 +56,29 @@ laidAnswer (refusal r) buffer = written (fault r) buffer
 -- "Record: 10;" comes first, then the record's own faults, then the scene's
 unfoldable pub answerTo : List ℕ → List ℕ → Written
 answerTo bytes buffer = if leb longestAnswer (length buffer) then laidAnswer (answered bytes) buffer else written (fault 10) buffer
+
+-- ---- with the failed line's cause and origin, which the record does not say
+
+-- what is told, and what the buffer holds then
+pub record Solved : Type 0 where
+  pub told : SceneAnswer
+  pub contents : List ℕ
+
+abbrev pub solved : SceneAnswer → List ℕ → Solved
+solved a l = record { told = a; contents = l }
+
+abbrev pub solvedIn : Got Numbered → SceneAnswer
+solvedIn (refused r) = answer-code.Refused r
+solvedIn (got x at) = sceneAnswerAs (sceneOutcome (x .scene)) (sceneOrigin (x .scene))
+
+unfoldable pub sceneAnswer : List ℕ → List ℕ → SceneAnswer
+sceneAnswer bytes buffer = if leb longestAnswer (length buffer) then solvedIn (sceneIn bytes) else answer-code.Refused 10
+
+-- the bytes are those of `answerTo`
+abbrev pub sceneAnswerTo : List ℕ → List ℕ → Solved
+sceneAnswerTo bytes buffer = solved (sceneAnswer bytes buffer) (answerTo bytes buffer .contents)
+
+-- ---- the program's reply
 
 -- "The program writes a refused scene as 00 02 01 and 128 + number."
 abbrev pub replyBytes : Answered → List ℕ

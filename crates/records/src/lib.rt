@@ -1,10 +1,11 @@
 // Records answered (01, "Records (ours)"): one scene record to its answer, and the program's work on a stream of records.
 use admission::Judged;
 use answer_records::Answer;
+use dodgy_2d::SceneAnswer;
 use scene_records::NumberedScene;
 ghost use mathlib.Core.Path.{_≡_};
 ghost use Rattle.answer_records.specs.Answers.{writtenOf};
-ghost use Rattle.records.specs.Answered.{answerTo};
+ghost use Rattle.records.specs.Answered.{answerTo, solved, sceneAnswerTo};
 ghost use Rattle.records.specs.Parts.{partOf, partIn};
 ghost use Rattle.records.specs.Turns.{lent, turnOver};
 
@@ -75,17 +76,29 @@ pub(crate) enum Step {
 pub fn answer_record(bytes: &[u8], buffer: &mut [u8]) -> Judged
     ensures { λ r. ⌜ writtenOf r (now (buffer .exit)) ≡ answerTo (now (bytes .entry)) (now (buffer .entry)) ⌝ }
 {
+    let answer = answer_scene(bytes, buffer);
+    match answer {
+        SceneAnswer::Outcome(_, _, _, _, _, _) => Judged::Fine,
+        SceneAnswer::Refused(number) => Judged::Fault(number),
+    }
+}
+
+// `answer_record`, and what its bytes do not say: why the failed line failed, and where that line comes from.
+pub fn answer_scene(bytes: &[u8], buffer: &mut [u8]) -> SceneAnswer
+    ensures { λ r. ⌜ solved r (now (buffer .exit)) ≡ sceneAnswerTo (now (bytes .entry)) (now (buffer .entry)) ⌝ }
+{
     if buffer.len() < Answer::BYTES {
-        return Judged::Fault(10);
+        return SceneAnswer::Refused(10);
     }
     let read = scene_records::read_scene(bytes);
     let judged = read.judged;
     if let Judged::Fault(number) = judged {
-        return Judged::Fault(number);
+        return SceneAnswer::Refused(number);
     }
     let scene = read.scene;
     let answer = dodgy_2d::compute_avoiding_velocity(scene);
-    outcome::write_outcome(answer, buffer)
+    outcome::write_outcome(answer, buffer);
+    answer
 }
 
 // The next part of what is left of a stream, with so many bytes still to be skipped. A record is overlong by its length field, as soon

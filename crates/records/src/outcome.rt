@@ -1,17 +1,15 @@
 // A scene's outcome as an answer record.
-use admission::Judged;
 use answer_records::Answer;
 use dodgy_2d::SceneAnswer;
 use linear_programming::FailedLine;
 ghost use mathlib.Core.Path.{_≡_};
 ghost use Rattle.linear_programming.specs.Read.{failedOf};
 ghost use Rattle.dodgy_2d.specs.Read.{outcomeOf};
-ghost use Rattle.answer_records.specs.Answers.{writtenOf};
 ghost use Rattle.records.specs.Answered.{placeIn, ofOutcome, laidAnswer};
 
-// The outcome's record at the buffer's start; or the refusal's number, with the buffer as it was.
-pub(crate) fn write_outcome(outcome: SceneAnswer, buffer: &mut [u8]) -> Judged
-    ensures { λ r. ⌜ writtenOf r (now (buffer .exit)) ≡ laidAnswer (ofOutcome (outcomeOf outcome)) (now (buffer .entry)) ⌝ }
+// The outcome's record at the buffer's start; beside a refusal, and where there is no room for it, the buffer is as it was.
+pub(crate) fn write_outcome(outcome: SceneAnswer, buffer: &mut [u8])
+    ensures { λ _. ⌜ now (buffer .exit) ≡ laidAnswer (ofOutcome (outcomeOf outcome)) (now (buffer .entry)) .contents ⌝ }
 {
     match outcome {
         SceneAnswer::Outcome(code, x, y, failed, probes, _) => {
@@ -22,9 +20,9 @@ pub(crate) fn write_outcome(outcome: SceneAnswer, buffer: &mut [u8]) -> Judged
                 failed: failed_place(failed),
                 probes,
             };
-            answer_records::write_answer(buffer, answer)
+            answer_records::write_answer(buffer, answer);
         }
-        SceneAnswer::Refused(number) => Judged::Fault(number),
+        SceneAnswer::Refused(_) => {}
     }
 }
 

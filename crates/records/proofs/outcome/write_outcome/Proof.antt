@@ -1,6 +1,7 @@
 -- `records::outcome::write_outcome` meets its contract. Assumes nothing.
-use mathlib.Core.Path.{sym, _∙_}
+use mathlib.Core.Path.{sym, ap, _∙_}
 use borrow.Author.Needs.{needs}
+use Rattle.answer_records.specs.Answers.{Written}
 use Rattle.records.proofs.OutcomeLaws.{pattern-bits}
 use Rattle.records.proofs.outcome.write_outcome.Statement.{statement}
 use Rattle.records.proofs.outcome.write_outcome.Tie as tie
@@ -13,12 +14,9 @@ returns c =
       ← (c .before .before .before .before .before .before .pattern .ensures ∙ sym (pattern-bits _ (known .1 .0 .1))),
       ← (c .before .before .before .before .before .pattern2 .ensures ∙ sym (pattern-bits _ (known .1 .1 .0 .1))),
       ← c .before .before .before .before .failed-place .ensures,
-    ) (c .before .before .write-answer .ensures)
-
-returns-2 : tie.Need-returns-2
-returns-2 c = simp (c .before .outcome2 .given .1)
+    ) (ap (λ (w : Written). w .contents) (c .before .before .write-answer .ensures))
 
 pub write-outcome-spec : {M : Type 1} → statement M
 write-outcome-spec =
     tie.close (tie.spec (λ c. search needs) (λ c κs. search needs) (λ c κs. search needs) (λ c κs. search needs) (λ c κs. search needs)
-    (λ c. search needs) (λ c. search needs) returns returns-2)
+    (λ c. search needs) (λ c. search needs) returns (λ c. search needs))
