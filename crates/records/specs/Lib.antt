@@ -1,4 +1,4 @@
--- The definitions that the contracts of `records` cite.
+-- The definitions that the contracts of `records` cite, and where a record's numbers stand, which a law does.
 pub mod Answered
 pub mod Numbers
 pub mod Parts
