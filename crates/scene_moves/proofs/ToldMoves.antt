@@ -4,14 +4,15 @@ use native.Mathlib.Omega.{arith}
 use mathlib.Core.Path.{_≡_, refl, sym, ap, _∙_}
 use mathlib.Core.Bool.{Bool, true, false}
 use mathlib.Core.List.{List, _++_, map}
+use lib.Dec.{leb}
 use lib.ListN.{length, take, drop, length-map}
 use lib.Seq.{sets, sets-eq, length-sets}
 use native.Mathlib.Nat.{zero-add}
-use borrow.Author.Tests.{le-leb, lt-leb}
+use borrow.Author.Tests.{le-leb, lt-leb, leb-true}
 use Rattle.admission.specs.declared.Judged.the-variants as judged
-use Rattle.admission.specs.Faults.{Fault, fine, fault, faultOf}
-use Rattle.admission.proofs.FaultLaws.{no-fault}
-use Rattle.fields.specs.Got.{Got, refused, got}
+use Rattle.admission.specs.Faults.{Fault, fine, fault, must, _⊳_, unlessFault, faultOf}
+use Rattle.admission.proofs.FaultLaws.{no-fault, ⊳-fine, must-fine}
+use Rattle.fields.specs.Got.{Got, refused, got, guard}
 use Rattle.scene_records.specs.declared.Version.{Version}
 use Rattle.scene_records.specs.declared.Version.the-variants.{One, Two}
 use Rattle.scene_records.specs.declared.NumberedScene.{NumberedScene}
@@ -88,6 +89,19 @@ module _ (v : Version) (s : List ℕ) (r : NumberedScene) (e : r ≡ numberedAs 
 
 -- ---- what is told of one that was read
 
+-- "11, .. then 10": whether no number is lost, then whether so many bytes fit
+abbrev pub moveFault : Bool → ℕ → ℕ → Fault
+moveFault kept n m = must kept 11 ⊳ must (leb n m) 10
+
+pub both-pass : (kept : Bool) (n m : ℕ) → fine ≡ moveFault kept n m → (kept ≡ true) × (n ≤ m)
+both-pass kept n m f = let passed = ⊳-fine (must kept 11) (sym f) in (must-fine kept 11 (passed .0), leb-true n m (must-fine (leb n m) 10 (passed .1)))
+
+laid-judged : (kept : Bool) (bytes : List ℕ) (end : ℕ) (buffer : List ℕ) →
+    laidMove (guard kept 11 (got bytes end)) buffer ≡ unlessFault (λ r. written (fault r) 0 buffer) (moveFault kept (length bytes) (length buffer)) (written fine (length bytes) (bytes ++ drop (length bytes) buffer))
+unfolding laidScene
+laid-judged true bytes end buffer = refl
+laid-judged false bytes end buffer = refl
+
 module _ (v w : Version) (s buffer : List ℕ) (r : NumberedScene) (known : Read v s r) where
   abbrev count : ℕ
   count = r .scene .neighbours
@@ -95,9 +109,15 @@ module _ (v w : Version) (s buffer : List ℕ) (r : NumberedScene) (known : Read
   abbrev bytes : List ℕ
   bytes = movedBytes v w count s
 
-  pub told-lost : keeps w (known .parts) ≡ false → written (fault 11) 0 buffer ≡ movedInto v w s buffer
+  -- the refusal of a record that was read: 11, then 10
+  pub told-refused : (n : ℕ) → n ≡ movedLength v w count s → (m : ℕ) → fault m ≡ moveFault (keeps w (known .parts)) n (length buffer) → written (fault m) 0 buffer ≡ movedInto v w s buffer
   unfolding movedInto moved
-  told-lost k = rw (known .read, k)
+  told-refused n e m f =
+      let size : length bytes ≡ n = moved-long v w count s (known .room) ∙ sym e in
+      let told : fault m ≡ moveFault (keeps w (known .parts)) (length bytes) (length buffer) = rw size f in
+      let same : movedInto v w s buffer ≡ laidMove (guard (keeps w (known .parts)) 11 (got bytes (known .end))) buffer = rw (known .read, known .many) in
+      ap (λ (g : Fault). unlessFault (λ r. written (fault r) 0 buffer) g (written fine (length bytes) (bytes ++ drop (length bytes) buffer))) told
+      ∙ sym (same ∙ laid-judged (keeps w (known .parts)) bytes (known .end) buffer)
 
   goes : keeps w (known .parts) ≡ true → movedInto v w s buffer ≡ laidScene fine bytes buffer
   unfolding movedInto moved

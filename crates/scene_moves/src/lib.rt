@@ -1,5 +1,7 @@
 // Moves of a scene record between its versions (02, T-07): from 1 to 2, and from 2 back to 1 where every number is 0.
 use admission::Judged;
+use admission::fault_unless;
+use admission::first_of;
 use scene_records::NumberedScene;
 use scene_records::SceneRead;
 use scene_records::SceneWritten;
@@ -48,12 +50,12 @@ pub fn to_version_1(source: &[u8], buffer: &mut [u8]) -> SceneWritten
     }
     let count = read.scene.neighbours;
     let numbers = read.numbers;
-    if !is_zero(&numbers, count) {
-        return SceneWritten::Refused(11);
-    }
     let length = source.len() - 4 * count;
-    if buffer.len() < length {
-        return SceneWritten::Refused(10);
+    let lost = fault_unless(is_zero(&numbers, count), 11);
+    let short = fault_unless(length <= buffer.len(), 10);
+    let first = first_of(lost, short);
+    if let Judged::Fault(number) = first {
+        return SceneWritten::Refused(number);
     }
     let start = source.len() - 20 * count;
     put::put_start(buffer, source, start, length, SceneRead::VERSION);
