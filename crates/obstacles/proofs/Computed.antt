@@ -1,6 +1,7 @@
 -- What computing an obstacle's faults and its lines opens. Assumes nothing.
 use Rattle.admission.specs.Faults.{within, inside}
 use Rattle.admission.specs.Heads.{isKind, roomFor, isEmptyOpen}
+use Rattle.common.specs.Vectors.{eqOf}
 use Rattle.lines.specs.LineFaults.{lineFault}
 use Rattle.edges.proofs.Computed.{computed as edges}
 use Rattle.obstacles.specs.ObstacleFaults.{vectorFault, agentFault, numberFault, componentsFault, vertexFault, verticesFault, headFault, outlineFault, obstacleFault}
@@ -9,7 +10,7 @@ use Rattle.obstacles.specs.Doubled.{doubled, follows, lastOf, closes}
 use Rattle.obstacles.specs.Obstacles.{admitted, addEdge, linesUpTo, edgeCount, endsOf, obstacleLines, obstacleCall}
 
 unfoldable pub faultsComputed : Unit {0}
-unfolding within inside vectorFault agentFault isKind roomFor isEmptyOpen headFault numberFault componentsFault doubled follows vertexFault verticesFault
+unfolding within inside vectorFault agentFault isKind roomFor isEmptyOpen headFault numberFault componentsFault eqOf doubled follows vertexFault verticesFault
     verticesOf lastOf closes outlineFault obstacleFault
 faultsComputed = tt
 

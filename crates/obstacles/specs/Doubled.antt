@@ -1,16 +1,16 @@
 -- 02, T-11: neighbouring vertices of an obstacle that are equal by value. Definitions only. Assumes nothing.
 use Prim.Native.Nat.{ℕ}
-use mathlib.Core.Bool.{Bool, true, not, _&&_, _||_}
+use mathlib.Core.Bool.{Bool, true, not, _||_}
 use mathlib.Core.List.{List, [], _∷_}
 use lib.Dec.{eqb}
-use Rattle.arithmetic.specs.Binary32.{_≈ᶠ_}
 use Rattle.admission.specs.Heads.{openKind}
 use Rattle.common.specs.declared.Vec2.{Vec2}
+use Rattle.common.specs.Vectors.{eqOf}
 use Rattle.edges.specs.Edges.{OuterVertex, none, at}
 
 -- "equal by value in both components": −0 is 0
 unfoldable pub doubled : Vec2 → Vec2 → Bool
-doubled u v = u .x ≈ᶠ v .x && u .y ≈ᶠ v .y
+doubled u v = eqOf u v
 
 -- "Two neighbouring vertices": a vertex may follow the one before it, if there is one, where they are not equal
 unfoldable pub follows : OuterVertex → Vec2 → Bool
