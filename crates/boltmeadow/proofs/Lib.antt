@@ -1,0 +1,4 @@
+-- The laws of `boltmeadow`: of what a call leaves in a lent buffer and in the arrays of a session, and that beside a refusal all else is 0.
+pub mod BlankLaws
+pub mod LeftLaws
+pub mod SessionLaws

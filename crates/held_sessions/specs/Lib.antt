@@ -1,0 +1,2 @@
+-- The definitions that the contracts of `held_sessions` cite.
+pub mod Blocks

@@ -1,0 +1,2 @@
+-- The definitions that the contracts of `plain_numbers` cite.
+pub mod Kinds
