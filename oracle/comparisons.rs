@@ -1,7 +1,8 @@
 // An independent comparison of two logs of answers, and partners' logs to compare: written from 02's T-09 and 01's records, with
 // nothing of ours.
 // usage: comparisons verdict OURS THEIRS         the lines that ./compare writes where the scenes are answered as in OURS
-//        comparisons alter WAY PLACE < LOG       the log with one record changed in one way, named below: of those that can be changed so
+// comparisons alter WAY PLACE < LOG       the log with one record changed in one way, named below: of those that can be
+// changed so
 //                                                that at the place, from 0, or the last; it fails where none can
 //        comparisons draw SEED < LOG             the log with up to three records changed, at drawn places and in drawn ways
 //        comparisons records FROM COUNT < SCENES so many records from that one on, each as long as its first two bytes say
@@ -124,7 +125,8 @@ fn starts(log: &[u8]) -> Vec<usize> {
     all
 }
 
-// Whether the way changes this record: fields and zeros are an outcome's, a refusal's number a refusal's. Behind the last there is only room for more.
+// Whether the way changes this record: fields and zeros are an outcome's, a refusal's number a refusal's. Behind the
+// last there is only room for more.
 fn fits(way: &str, record: &[u8]) -> bool {
     let outcome = record.len() == 18;
     match way {

@@ -444,7 +444,8 @@ fn whole_log(script: &mut Script, count: usize, draw: &mut Draw) {
     }
 }
 
-/// One answer that is not the walk's is found among all pairs: where the walk has one more before a record, and where an entry has.
+/// One answer that is not the walk's is found among all pairs: where the walk has one more before a record, and where
+/// an entry has.
 fn told_apart(script: &mut Script, draw: &mut Draw) {
     let records = records(128, draw);
     let walked: Vec<u32> = (0..=128).map(|n| fallbacks_of(&records[..n])).collect();
@@ -463,7 +464,8 @@ fn told_apart(script: &mut Script, draw: &mut Draw) {
     assert_eq!(script.ask_all(&walked), (pairs, None));
 }
 
-/// Each byte of a log and of its index changed, and six questions asked; what lies outside of what one rests on does not change it.
+/// Each byte of a log and of its index changed, and six questions asked; what lies outside of what one rests on does
+/// not change it.
 fn changed_bytes(script: &mut Script, draw: &mut Draw) {
     let records = records(130, draw);
     let log = records.concat();

@@ -1,4 +1,5 @@
-//! `compare`: every pattern of f32 through `arithmetic::sqrt` and through the processor's own root. `times`: what one call of each takes.
+//! `compare`: every pattern of f32 through `arithmetic::sqrt` and through the processor's own root. `times`: what one
+//! call of each takes.
 
 mod processor_time;
 

@@ -1,5 +1,5 @@
-//! What a session of 256 strictly met lines takes, fed at once, in batches of 16 and line by line; and the unchanged Rust, which has no
-//! sessions: to know where it stands behind each batch it has to be asked anew for all lines so far.
+//! What a session of 256 strictly met lines takes, fed at once, in batches of 16 and line by line; and the unchanged
+//! Rust, which has no sessions: to know where it stands behind each batch it has to be asked anew for all lines so far.
 
 mod processor_time;
 

@@ -1,5 +1,5 @@
-//! The window into the given files: lib.rs has a module of this name under its feature "debug" and hands it the lines of each pass.
-//! Whatever the files keep private is handed out here as it stands.
+//! The window into the given files: lib.rs has a module of this name under its feature "debug" and hands it the lines
+//! of each pass. Whatever the files keep private is handed out here as it stands.
 
 use crate::Agent;
 

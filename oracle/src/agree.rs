@@ -7,7 +7,8 @@ use crate::records::answers::name_of;
 use crate::records::Records;
 use crate::words::hex_bytes;
 
-/// Prints how many answers there are of each kind. Fails where there are none, and where any differ, with the first one's index and, if `scenes` are given, its scene.
+/// Prints how many answers there are of each kind. Fails where there are none, and where any differ, with the first
+/// one's index and, if `scenes` are given, its scene.
 pub fn compare_files(answers: &str, others: &str, scenes: Option<&str>) -> Result<(), String> {
     let read = |file: &str| fs::read(file).map_err(|fault| format!("{file}: {fault}"));
     let (answers, others) = (read(answers)?, read(others)?);

@@ -1,5 +1,6 @@
-//! What 02's T-11 changes of answers that were stored before it: every stored case is answered anew. An answer that is another now must be the refusal 14, and
-//! the case must have a doubled vertex, found edge by edge and not by the judge's walk; every other answer must be as it was stored.
+//! What 02's T-11 changes of answers that were stored before it: every stored case is answered anew. An answer that is
+//! another now must be the refusal 14, and the case must have a doubled vertex, found edge by edge and not by the
+//! judge's walk; every other answer must be as it was stored.
 
 use std::collections::BTreeMap;
 use std::fs;

@@ -1,5 +1,5 @@
-//! Obstacles that are lent as numbers (02, T-01, T-08 and T-11): what they are by 01's "Refusal numbers" alone, fields in a scene's order, each first for numbers
-//! that are not lent (2), then by its own rule; and how they are spoiled.
+//! Obstacles that are lent as numbers (02, T-01, T-08 and T-11): what they are by 01's "Refusal numbers" alone, fields
+//! in a scene's order, each first for numbers that are not lent (2), then by its own rule; and how they are spoiled.
 
 use crate::edge_vectors::call::{CLOSED, OPEN, SCENE_VERTICES};
 use crate::edge_vectors::judge::{count_fault, is_kind, outline, vertex};

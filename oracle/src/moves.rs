@@ -1,7 +1,8 @@
-//! Moves of scene records between their versions (02, T-07): calls, and in a file of their own what a move must tell and leave in the buffer.
-//! What moves here reads the record by the judge and writes the scene anew, so it shares no step with a move that copies bytes.
-//! A call is a pair, the version to move to, a pair, the buffer's length, a pair, the record's length, and the record. An answer is a pair, the length that was written
-//! or FF00 and the refusal's number, and the whole buffer, which was all sentinels.
+//! Moves of scene records between their versions (02, T-07): calls, and in a file of their own what a move must tell
+//! and leave in the buffer. What moves here reads the record by the judge and writes the scene anew, so it shares no
+//! step with a move that copies bytes. A call is a pair, the version to move to, a pair, the buffer's length, a pair,
+//! the record's length, and the record. An answer is a pair, the length that was written or FF00 and the refusal's
+//! number, and the whole buffer, which was all sentinels.
 
 use std::fs;
 

@@ -1,5 +1,6 @@
-//! Scene records answered by the plain build alone, with no counter and nothing compared, to measure how fast it is. It does not tell whether a
-//! solve relaxed, which line failed or how many probes there were: 1 is written for outcome 2, 3 for 4, FFFF for the failed line, 0 for the probes.
+//! Scene records answered by the plain build alone, with no counter and nothing compared, to measure how fast it is. It
+//! does not tell whether a solve relaxed, which line failed or how many probes there were: 1 is written for outcome 2,
+//! 3 for 4, FFFF for the failed line, 0 for the probes.
 
 use std::fs;
 use std::time::Instant;

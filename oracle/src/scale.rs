@@ -1,5 +1,5 @@
-//! Sets at scale: as many random cases as are asked for, of every kind that the vectors are made of, but for those by hand and those that
-//! are searched for.
+//! Sets at scale: as many random cases as are asked for, of every kind that the vectors are made of, but for those by
+//! hand and those that are searched for.
 
 use std::fs::File;
 use std::io::{self, BufWriter, Write};

@@ -1,4 +1,5 @@
--- Laws of faults: no fault means that each rule passed, the order of telling can be regrouped, and two judgements that one promise allows agree. Assumes nothing.
+-- Laws of faults: no fault means that each rule passed, the order of telling can be regrouped, and two judgements that
+-- one promise allows agree. Assumes nothing.
 use Prim.Native.Nat.{ℕ}
 use mathlib.Core.Path.{_≡_, refl}
 use mathlib.Core.Bool.{Bool, true, false}
@@ -28,7 +29,8 @@ pub ⊳-assoc : (f g h : Fault) → (f ⊳ (g ⊳ h)) ≡ ((f ⊳ g) ⊳ h)
 ⊳-assoc (fault r) g h = refl
 
 -- what the refusals and the rest have, the whole has; each side may use how the judgement came out
-pub unless-case : {A : Type 0} (P : A → Type 0) (refuse : ℕ → A) (f : Fault) {a : A} → (f ≡ fine → P a) → ((r : ℕ) → f ≡ fault r → P (refuse r)) → P (unlessFault refuse f a)
+pub unless-case : {A : Type 0} (P : A → Type 0) (refuse : ℕ → A) (f : Fault) {a : A} → (f ≡ fine → P a) →
+    ((r : ℕ) → f ≡ fault r → P (refuse r)) → P (unlessFault refuse f a)
 unless-case P refuse fine h k = h refl
 unless-case P refuse (fault r) h k = k r refl
 

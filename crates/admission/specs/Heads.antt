@@ -1,4 +1,5 @@
--- An obstacle's head, its kind and vertex count, and what is admitted of it (01, "What is admitted", "Refusal numbers"). Definitions only. Assumes nothing.
+-- An obstacle's head, its kind and vertex count, and what is admitted of it (01, "What is admitted", "Refusal
+-- numbers"). Definitions only. Assumes nothing.
 use Prim.Native.Nat.{ℕ}
 use mathlib.Core.Bool.{Bool, _&&_, _||_}
 use lib.Dec.{eqb, leb}

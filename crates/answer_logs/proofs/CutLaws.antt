@@ -23,7 +23,8 @@ use Rattle.answer_logs.proofs.LogLaws.{found-there, found-cut}
 
 -- ---- a record that names more bytes than an answer has is refused, whatever stands in it
 
-unnamed : (there : Bool) (f : Fault) (r : Said) → unlessFault said.unreadable (must there 2 ⊳ must false 2 ⊳ f) r ≡ said.unreadable 2
+unnamed : (there : Bool) (f : Fault) (r : Said) → unlessFault said.unreadable (must there 2 ⊳ must false 2 ⊳ f) r
+    ≡ said.unreadable 2
 unnamed true f r = refl
 unnamed false f r = refl
 
@@ -35,7 +36,8 @@ overlong-reply : (s : List ℕ) → longestAnswer < sizeIn s → answerIn s ≡ 
 unfolding answerIn answerFault sizeIn
 overlong-reply s h =
     rw (no-length (pairOf s 0) (omega arith))
-    (unnamed (leb 2 (length s)) (must (eqb (length s) (2 + pairOf s 0)) 2 ⊳ must (eqb (getD s 2 0) answerVersion) 1 ⊳ must (eqb (lengthOfCode (getD s 3 0)) (pairOf s 0)) 2) _)
+    (unnamed (leb 2 (length s)) (must (eqb (length s) (2 + pairOf s 0)) 2 ⊳ must
+    (eqb (getD s 2 0) answerVersion) 1 ⊳ must (eqb (lengthOfCode (getD s 3 0)) (pairOf s 0)) 2) _)
 
 size-take : (n : ℕ) (s : List ℕ) → 2 ≤ n → sizeIn (take n s) ≡ sizeIn s
 unfolding sizeIn pairOf
@@ -47,7 +49,8 @@ size-least s = omega arith
 
 pub found-overlong : (s : List ℕ) → 0 < length s → longestAnswer < sizeIn s → foundIn s ≡ bad 2
 found-overlong s h k =
-    found-there s h ∙ ap (foundAs (sizeIn s)) (overlong-reply (take (sizeIn s) s) (omega (arith, size-take (sizeIn s) s (size-least s))))
+    found-there s h ∙ ap (foundAs (sizeIn s))
+    (overlong-reply (take (sizeIn s) s) (omega (arith, size-take (sizeIn s) s (size-least s))))
 
 -- ---- what stands at the start of a part stands there with more behind it
 
@@ -98,7 +101,8 @@ module _ (s : List ℕ) (sure : waits s ≡ false) where
   tests =
       let both = or-false (ltb (length s) 2) (leb (sizeIn s) longestAnswer && ltb (length s) (sizeIn s)) sure in (
         ltb-false (length s) 2 (both .0),
-        ⊎-elim (λ e. inl (leb-false (sizeIn s) longestAnswer e)) (λ e. inr (ltb-false (length s) (sizeIn s) e)) (and-false (leb (sizeIn s) longestAnswer) (ltb (length s) (sizeIn s)) (both .1)),
+        ⊎-elim (λ e. inl (leb-false (sizeIn s) longestAnswer e)) (λ e. inr (ltb-false (length s) (sizeIn s) e))
+            (and-false (leb (sizeIn s) longestAnswer) (ltb (length s) (sizeIn s)) (both .1)),
       )
 
   pub found-append : (more : List ℕ) → foundIn (s ++ more) ≡ foundIn s
@@ -107,7 +111,8 @@ module _ (s : List ℕ) (sure : waits s ≡ false) where
   placed : Placed s (foundIn s)
   placed =
       let two : 0 < length s = omega (arith, tests .0) in
-      ⊎-elim (λ k. rw (found-overlong s two k) placed-bad) (λ k. rw (found-there s two) (placed-reply s (sizeIn s) (answerIn (take (sizeIn s) s)) k)) (tests .1)
+      ⊎-elim (λ k. rw (found-overlong s two k) placed-bad)
+      (λ k. rw (found-there s two) (placed-reply s (sizeIn s) (answerIn (take (sizeIn s) s)) k)) (tests .1)
 
 -- ---- the records of a part, and then of what it leaves with more behind it
 
@@ -122,32 +127,41 @@ joinedTo left place s more (stopped n p) = refusedAt n p
 nothing-yet : (left place : ℕ) (s more : List ℕ) → recordsFrom left place (s ++ more) ≡ joinedTo left place s more (reached [] 0)
 nothing-yet left place s more = rw (sub-zero left, add-zero place)
 
-ahead-joined : (left place : ℕ) (s more : List ℕ) (e : Entry) (size : ℕ) (w : Wholes) → ahead e (joinedTo left (place + 1) (drop size s) more w) ≡ joinedTo (suc left) place s more (aheadWhole e size w)
+ahead-joined : (left place : ℕ) (s more : List ℕ) (e : Entry) (size : ℕ) (w : Wholes) →
+    ahead e (joinedTo left (place + 1) (drop size s) more w) ≡ joinedTo (suc left) place s more (aheadWhole e size w)
 ahead-joined left place s more e size (reached l used) =
     let less : left - length l ≡ suc left - suc (length l) = omega arith in
     let next : place + 1 + length l ≡ place + suc (length l) = omega arith in
     ap (λ (n : ℕ). ahead e (aheadAll l (recordsFrom n (place + 1 + length l) (drop used (drop size s) ++ more)))) less
     ∙ ap (λ (n : ℕ). ahead e (aheadAll l (recordsFrom (suc left - suc (length l)) n (drop used (drop size s) ++ more)))) next
-    ∙ ap (λ (t : List ℕ). ahead e (aheadAll l (recordsFrom (suc left - suc (length l)) (place + suc (length l)) (t ++ more)))) (drop-drop used size s)
+    ∙ ap (λ (t : List ℕ). ahead e (aheadAll l (recordsFrom (suc left - suc (length l)) (place + suc (length l))
+    (t ++ more)))) (drop-drop used size s)
 ahead-joined left place s more e size (stopped n p) = refl
 
-module _ (left place : ℕ) (s more : List ℕ) (rest : (size : ℕ) → recordsFrom left (place + 1) (drop size s ++ more) ≡ joinedTo left (place + 1) (drop size s) more (wholesFrom left (place + 1) (drop size s))) where
-  step-cut : (f : Found) → Placed s f → onward place (λ size. recordsFrom left (place + 1) (drop size (s ++ more))) f ≡ joinedTo (suc left) place s more (onwardWhole place (λ size. wholesFrom left (place + 1) (drop size s)) f)
+module _ (left place : ℕ) (s more : List ℕ) (rest : (size : ℕ) → recordsFrom left (place + 1) (drop size s ++ more)
+    ≡ joinedTo left (place + 1) (drop size s) more (wholesFrom left (place + 1) (drop size s))) where
+  step-cut : (f : Found) → Placed s f → onward place (λ size. recordsFrom left (place + 1) (drop size (s ++ more))) f
+      ≡ joinedTo (suc left) place s more (onwardWhole place (λ size. wholesFrom left (place + 1) (drop size s)) f)
   step-cut (bad n) placed-bad = refl
   step-cut (entry e size) (placed-entry h) =
-      ap (λ (t : List ℕ). ahead e (recordsFrom left (place + 1) t)) (drop-append-le size s more h) ∙ ap (ahead e) (rest size) ∙ ahead-joined left place s more e size (wholesFrom left (place + 1) (drop size s))
+      ap (λ (t : List ℕ). ahead e (recordsFrom left (place + 1) t)) (drop-append-le size s more h)
+      ∙ ap (ahead e) (rest size) ∙ ahead-joined left place s more e size (wholesFrom left (place + 1) (drop size s))
 
-  step-waits : (b : Bool) → waits s ≡ b → onward place (λ size. recordsFrom left (place + 1) (drop size (s ++ more))) (foundIn (s ++ more)) ≡
-      joinedTo (suc left) place s more (onwardWhole place (λ size. wholesFrom left (place + 1) (drop size s)) (if b then ended else foundIn s))
+  step-waits : (b : Bool) → waits s ≡ b →
+      onward place (λ size. recordsFrom left (place + 1) (drop size (s ++ more))) (foundIn (s ++ more)) ≡
+      joinedTo (suc left) place s more (onwardWhole place (λ size. wholesFrom left (place + 1) (drop size s))
+      (if b then ended else foundIn s))
   unfolding if_then_else_ recordsFrom
   step-waits true e = nothing-yet (suc left) place s more
   step-waits false e = rw (found-append s e more) (step-cut (foundIn s) (placed s e))
 
-pub cut-anywhere : (left place : ℕ) (s more : List ℕ) → recordsFrom left place (s ++ more) ≡ joinedTo left place s more (wholesFrom left place s)
+pub cut-anywhere : (left place : ℕ) (s more : List ℕ) → recordsFrom left place (s ++ more)
+    ≡ joinedTo left place s more (wholesFrom left place s)
 unfolding recordsFrom wholesFrom foundWhole
 cut-anywhere zero place [] more = nothing-yet zero place [] more
 cut-anywhere zero place (x ∷ s) more = refl
-cut-anywhere (suc left) place s more = step-waits left place s more (λ size. cut-anywhere left (place + 1) (drop size s) more) (waits s) refl
+cut-anywhere (suc left) place s more =
+    step-waits left place s more (λ size. cut-anywhere left (place + 1) (drop size s) more) (waits s) refl
 
 -- ---- the end of a log: bytes that a part leaves are a record cut short
 
@@ -158,14 +172,16 @@ closing n place (stopped m p) = refusedAt m p
 pub waits-cut : (s : List ℕ) → waits s ≡ true → length s < sizeIn s
 unfolding waits
 waits-cut s h =
-    ⊎-elim (λ e. omega (arith, ltb-true (length s) 2 e, size-least s)) (λ e. ltb-true (length s) (sizeIn s) (and-right (leb (sizeIn s) longestAnswer) (ltb (length s) (sizeIn s)) e))
+    ⊎-elim (λ e. omega (arith, ltb-true (length s) 2 e, size-least s))
+    (λ e. ltb-true (length s) (sizeIn s) (and-right (leb (sizeIn s) longestAnswer) (ltb (length s) (sizeIn s)) e))
     (or-cases (ltb (length s) 2) (leb (sizeIn s) longestAnswer && ltb (length s) (sizeIn s)) h)
 
 behind-test : (used size n : ℕ) → size ≤ n → (b : Bool) → ltb used (n - size) ≡ b → ltb (size + used) n ≡ b
 behind-test used size n h true e = let k = ltb-true used (n - size) e in lt-ltb (size + used) n (omega arith)
 behind-test used size n h false e = let k = ltb-false used (n - size) e in le-ltb (size + used) n (omega arith)
 
-ahead-closing : (place : ℕ) (s : List ℕ) (e : Entry) (size : ℕ) → size ≤ length s → (w : Wholes) → ahead e (closing (length (drop size s)) (place + 1) w) ≡ closing (length s) place (aheadWhole e size w)
+ahead-closing : (place : ℕ) (s : List ℕ) (e : Entry) (size : ℕ) → size ≤ length s → (w : Wholes) →
+    ahead e (closing (length (drop size s)) (place + 1) w) ≡ closing (length s) place (aheadWhole e size w)
 ahead-closing place s e size h (reached l used) =
     let same = behind-test used size (length s) h (ltb used (length (drop size s))) (ap (ltb used) (sym (length-drop size s))) in
     let next : place + 1 + length l ≡ place + suc (length l) = omega arith in
@@ -173,18 +189,27 @@ ahead-closing place s e size h (reached l used) =
     ∙ ap (λ (b : Bool). ahead e (aheadAll l (if b then refusedAt 2 (place + suc (length l)) else whole []))) (sym same)
 ahead-closing place s e size h (stopped m p) = refl
 
-waiting-end : (place : ℕ) (s : List ℕ) (more : ℕ → Records) → waits s ≡ true → onward place more (foundIn s) ≡ closing (length s) place (reached [] 0)
+waiting-end : (place : ℕ) (s : List ℕ) (more : ℕ → Records) → waits s ≡ true → onward place more (foundIn s)
+    ≡ closing (length s) place (reached [] 0)
 unfolding foundIn if_then_else_
 waiting-end place [] more h = refl
-waiting-end place (x ∷ s) more h = rw (found-cut (x ∷ s) (omega arith) (waits-cut (x ∷ s) h), lt-ltb 0 (length (x ∷ s)) (omega arith), add-zero place)
+waiting-end place (x ∷ s) more h = rw (
+  found-cut (x ∷ s) (omega arith) (waits-cut (x ∷ s) h),
+  lt-ltb 0 (length (x ∷ s)) (omega arith),
+  add-zero place,
+)
 
-module _ (left place : ℕ) (s : List ℕ) (rest : (size : ℕ) → recordsFrom left (place + 1) (drop size s) ≡ closing (length (drop size s)) (place + 1) (wholesFrom left (place + 1) (drop size s))) where
-  close-placed : (f : Found) → Placed s f → onward place (λ size. recordsFrom left (place + 1) (drop size s)) f ≡ closing (length s) place (onwardWhole place (λ size. wholesFrom left (place + 1) (drop size s)) f)
+module _ (left place : ℕ) (s : List ℕ) (rest : (size : ℕ) → recordsFrom left (place + 1) (drop size s)
+    ≡ closing (length (drop size s)) (place + 1) (wholesFrom left (place + 1) (drop size s))) where
+  close-placed : (f : Found) → Placed s f → onward place (λ size. recordsFrom left (place + 1) (drop size s)) f
+      ≡ closing (length s) place (onwardWhole place (λ size. wholesFrom left (place + 1) (drop size s)) f)
   close-placed (bad n) placed-bad = refl
-  close-placed (entry e size) (placed-entry h) = ap (ahead e) (rest size) ∙ ahead-closing place s e size h (wholesFrom left (place + 1) (drop size s))
+  close-placed (entry e size) (placed-entry h) =
+      ap (ahead e) (rest size) ∙ ahead-closing place s e size h (wholesFrom left (place + 1) (drop size s))
 
   close-waits : (b : Bool) → waits s ≡ b → onward place (λ size. recordsFrom left (place + 1) (drop size s)) (foundIn s) ≡
-      closing (length s) place (onwardWhole place (λ size. wholesFrom left (place + 1) (drop size s)) (if b then ended else foundIn s))
+      closing (length s) place (onwardWhole place (λ size. wholesFrom left (place + 1) (drop size s))
+      (if b then ended else foundIn s))
   unfolding if_then_else_
   close-waits true e = waiting-end place s _ e
   close-waits false e = close-placed (foundIn s) (placed s e)
@@ -201,15 +226,22 @@ pub waiting-few : (s : List ℕ) → waits s ≡ true → length s < longestAnsw
 unfolding waits
 waiting-few s h =
     ⊎-elim (λ e. omega (arith, ltb-true (length s) 2 e))
-    (λ e. omega (arith, leb-true (sizeIn s) longestAnswer (and-left (leb (sizeIn s) longestAnswer) (ltb (length s) (sizeIn s)) e), waits-cut s h))
+    (λ e. omega (
+      arith,
+      leb-true (sizeIn s) longestAnswer
+          (and-left (leb (sizeIn s) longestAnswer) (ltb (length s) (sizeIn s)) e),
+      waits-cut s h,
+    ))
     (or-cases (ltb (length s) 2) (leb (sizeIn s) longestAnswer && ltb (length s) (sizeIn s)) h)
 
 data Few (n : ℕ) : Wholes → Type 0 where
   few-reached : {l : List Entry} {used : ℕ} → used ≤ n → n < used + longestAnswer → Few n (reached l used)
   few-stopped : {m p : ℕ} → Few n (stopped m p)
 
-few-ahead : (s : List ℕ) (e : Entry) (size : ℕ) → size ≤ length s → (w : Wholes) → Few (length (drop size s)) w → Few (length s) (aheadWhole e size w)
-few-ahead s e size h (reached l used) (few-reached p q) = few-reached {used = size + used} (omega (arith, length-drop size s)) (omega (arith, length-drop size s))
+few-ahead : (s : List ℕ) (e : Entry) (size : ℕ) → size ≤ length s → (w : Wholes) → Few (length (drop size s)) w →
+    Few (length s) (aheadWhole e size w)
+few-ahead s e size h (reached l used) (few-reached p q) =
+    few-reached {used = size + used} (omega (arith, length-drop size s)) (omega (arith, length-drop size s))
 few-ahead s e size h (stopped m p) few-stopped = few-stopped
 
 module _ (place : ℕ) (s : List ℕ) (rest : ℕ → Wholes) (few-rest : (size : ℕ) → Few (length (drop size s)) (rest size)) where
@@ -231,5 +263,6 @@ few (suc left) place s = few-waits place s _ (λ size. few left (place + 1) (dro
 few-of : {n : ℕ} {l : List Entry} {used : ℕ} → Few n (reached l used) → (used ≤ n) × (n < used + longestAnswer)
 few-of (few-reached p q) = (p, q)
 
-pub few-left : (left place : ℕ) (s : List ℕ) {l : List Entry} {used : ℕ} → wholesFrom left place s ≡ reached l used → (used ≤ length s) × (length s < used + longestAnswer)
+pub few-left : (left place : ℕ) (s : List ℕ) {l : List Entry} {used : ℕ} → wholesFrom left place s ≡ reached l used →
+    (used ≤ length s) × (length s < used + longestAnswer)
 few-left left place s e = few-of (rw e at (few left place s))

@@ -19,7 +19,8 @@ use Rattle.answer_logs.specs.declared.Logged.{Logged}
 use Rattle.answer_logs.specs.declared.Logged.the-variants as logged
 
 -- bytes that do not match their length are the fault 2, whatever stands in them
-unmatched : (there named : Bool) (f : Fault) (r : Said) → unlessFault said.unreadable (must there 2 ⊳ must named 2 ⊳ must false 2 ⊳ f) r ≡ said.unreadable 2
+unmatched : (there named : Bool) (f : Fault) (r : Said) →
+    unlessFault said.unreadable (must there 2 ⊳ must named 2 ⊳ must false 2 ⊳ f) r ≡ said.unreadable 2
 unmatched true true f r = refl
 unmatched true false f r = refl
 unmatched false named f r = refl
@@ -27,7 +28,9 @@ unmatched false named f r = refl
 -- a record that is cut short
 pub cut-short : (s : List ℕ) → length s < sizeIn s → answerIn s ≡ said.unreadable 2
 unfolding answerIn answerFault sizeIn
-cut-short s h = rw (ne-eqb (length s) (2 + pairOf s 0) (λ e. omega arith)) (unmatched (leb 2 (length s)) (isLength (pairOf s 0)) (must (eqb (getD s 2 0) answerVersion) 1 ⊳ must (eqb (lengthOfCode (getD s 3 0)) (pairOf s 0)) 2) _)
+cut-short s h = rw (ne-eqb (length s) (2 + pairOf s 0) (λ e. omega arith))
+    (unmatched (leb 2 (length s)) (isLength (pairOf s 0)) (must (eqb (getD s 2 0) answerVersion) 1 ⊳ must
+    (eqb (lengthOfCode (getD s 3 0)) (pairOf s 0)) 2) _)
 
 pub found-there : (s : List ℕ) → 0 < length s → foundIn s ≡ foundAs (sizeIn s) (answerIn (take (sizeIn s) s))
 unfolding foundIn
@@ -35,7 +38,8 @@ found-there [] h = absurd (omega arith)
 found-there (x ∷ s) h = refl
 
 pub found-cut : (s : List ℕ) → 0 < length s → length s < sizeIn s → foundIn s ≡ bad 2
-found-cut s h k = found-there s h ∙ ap (λ (x : Said). foundAs (sizeIn s) x) (ap answerIn (take-all (sizeIn s) s (omega arith)) ∙ cut-short s k)
+found-cut s h k = found-there s h ∙ ap (λ (x : Said). foundAs (sizeIn s) x)
+    (ap answerIn (take-all (sizeIn s) s (omega arith)) ∙ cut-short s k)
 
 pub size-at : (s : List ℕ) (at : ℕ) → sizeIn (drop at s) ≡ 2 + pairOf s at
 unfolding sizeIn pairOf

@@ -57,9 +57,11 @@ module _ (place at : ℕ) (here more : ℕ → Wholes) (same : (size : ℕ) → 
   onward-at (entry (refusal n) size) = let back : at + size - at ≡ size = omega arith in rw (back, same size)
 
 module _ (place : ℕ) (s : List ℕ) (at : ℕ) where
-  pub next-whole : (left : ℕ) → wholesFrom (suc left) place (drop at s) ≡ onwardAt at place (λ behind. wholesFrom left (place + 1) (drop behind s)) (wholeAt s at)
+  pub next-whole : (left : ℕ) → wholesFrom (suc left) place (drop at s)
+      ≡ onwardAt at place (λ behind. wholesFrom left (place + 1) (drop behind s)) (wholeAt s at)
   unfolding wholesFrom wholeAt
-  next-whole left = onward-at place at _ _ (λ size. ap (wholesFrom left (place + 1)) (drop-drop size at s)) (foundWhole (drop at s))
+  next-whole left =
+      onward-at place at _ _ (λ size. ap (wholesFrom left (place + 1)) (drop-drop size at s)) (foundWhole (drop at s))
 
   more-begins : (rest : List ℕ) → 0 < length rest → noMoreWhole place rest ≡ stopped 4 place
   more-begins [] h = absurd (omega arith)

@@ -33,16 +33,20 @@ module _ (s : List ℕ) where
   abbrev code : ℕ
   code = getD s 3 0
 
-  other-coded : answerFault s ≡ fine → (pairOf s 0 ≡ outcomeLength → ⊥) → lengthOfCode (128 + (code - refusedCode)) ≡ refusalLength
+  other-coded : answerFault s ≡ fine → (pairOf s 0 ≡ outcomeLength → ⊥) → lengthOfCode (128 + (code - refusedCode))
+      ≡ refusalLength
   other-coded e other =
       let same : 128 + (code - refusedCode) ≡ code = omega (arith, refusal-coded s e other) in
       ap lengthOfCode same ∙ faultless s e .coded ∙ refusal-named s e other
 
-  coded-as : (f : Fault) → answerFault s ≡ f → Coded (unlessFault said.unreadable f (if eqb (pairOf s 0) outcomeLength then said.outcome (outcomeIn s) else said.refusal (code - refusedCode)))
+  coded-as : (f : Fault) → answerFault s ≡ f →
+      Coded (unlessFault said.unreadable f (if eqb (pairOf s 0) outcomeLength then said.outcome
+      (outcomeIn s) else said.refusal (code - refusedCode)))
   unfolding outcomeIn
   coded-as (fault n) e = coded-fault
   coded-as fine e =
-      if-case Coded (eqb (pairOf s 0) outcomeLength) (λ b. coded-outcome (faultless s e .coded ∙ eqb-true _ _ b)) (λ b. coded-refusal (other-coded e (eqb-false _ _ b)))
+      if-case Coded (eqb (pairOf s 0) outcomeLength) (λ b. coded-outcome (faultless s e .coded ∙ eqb-true _ _ b))
+      (λ b. coded-refusal (other-coded e (eqb-false _ _ b)))
 
   pub coded : Coded (answerIn s)
   unfolding answerIn
@@ -54,8 +58,10 @@ module _ (s : List ℕ) where
 pub data Stands (s : List ℕ) (at : ℕ) : Logged → Type 0 where
   no-record : Stands s at logged.End
   bad-record : {n : ℕ} → Stands s at (logged.Fault n)
-  an-outcome : {a : Answer} {behind : ℕ} → at < behind → behind ≤ length s → lengthOfCode (a .code) ≡ outcomeLength → Stands s at (logged.Outcome a behind)
-  a-refusal : {n behind : ℕ} → at < behind → behind ≤ length s → lengthOfCode (128 + n) ≡ refusalLength → Stands s at (logged.Refusal n behind)
+  an-outcome : {a : Answer} {behind : ℕ} → at < behind → behind ≤ length s → lengthOfCode (a .code) ≡ outcomeLength →
+      Stands s at (logged.Outcome a behind)
+  a-refusal : {n behind : ℕ} → at < behind → behind ≤ length s → lengthOfCode (128 + n) ≡ refusalLength →
+      Stands s at (logged.Refusal n behind)
 
 module _ (s : List ℕ) (at : ℕ) where
   stands-reply : (size : ℕ) (r : Said) → Coded r → 0 < size → at + size ≤ length s → Stands s at (loggedAs at (foundAs size r))
@@ -63,9 +69,13 @@ module _ (s : List ℕ) (at : ℕ) where
   stands-reply size (said.refusal n) (coded-refusal e) h k = a-refusal {behind = at + size} (omega arith) k e
   stands-reply size (said.unreadable n) coded-fault h k = bad-record
 
-  stands-sized : (rest : List ℕ) → 0 < length rest → length rest ≡ length s - at → (b : Bool) → leb (sizeIn rest) (length rest) ≡ b → Stands s at (loggedAs at (foundIn rest))
+  stands-sized : (rest : List ℕ) → 0 < length rest → length rest ≡ length s - at → (b : Bool) →
+      leb (sizeIn rest) (length rest) ≡ b → Stands s at (loggedAs at (foundIn rest))
   unfolding sizeIn
-  stands-sized rest there h true e = let k = leb-true (sizeIn rest) (length rest) e in rw (found-there rest there) (stands-reply (sizeIn rest) (answerIn (take (sizeIn rest) rest)) (coded _) (omega arith) (omega arith))
+  stands-sized rest there h true e =
+      let k = leb-true (sizeIn rest) (length rest) e in
+      rw (found-there rest there) (stands-reply (sizeIn rest) (answerIn (take (sizeIn rest) rest)) (coded _)
+      (omega arith) (omega arith))
   stands-sized rest there h false e = rw (found-cut rest there (leb-false (sizeIn rest) (length rest) e)) bad-record
 
   stands-in : (rest : List ℕ) → length rest ≡ length s - at → Stands s at (loggedAs at (foundIn rest))

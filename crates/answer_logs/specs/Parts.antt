@@ -9,7 +9,8 @@ use Rattle.answer_records.specs.Answers.{longestAnswer}
 use Rattle.answer_logs.specs.declared.Logged.{Logged}
 use Rattle.answer_logs.specs.Logs.{Entry, Found, ended, bad, entry, sizeIn, foundIn, loggedAs}
 
--- bytes that may be the start of a record which is not all there: its length is missing, or it names no more bytes than an answer has, and some are missing
+-- bytes that may be the start of a record which is not all there: its length is missing, or it names no more bytes than
+-- an answer has, and some are missing
 unfoldable pub waits : List ℕ → Bool
 waits s = ltb (length s) 2 || (leb (sizeIn s) longestAnswer && ltb (length s) (sizeIn s))
 

@@ -1,4 +1,5 @@
--- Two outcomes that a writer's promise allows agree: the judgement, and what the buffer holds then. So do two that the reader's promise allows. Assumes nothing.
+-- Two outcomes that a writer's promise allows agree: the judgement, and what the buffer holds then. So do two that the
+-- reader's promise allows. Assumes nothing.
 use Prim.Native.Nat.{ℕ}
 use mathlib.Core.Path.{_≡_, refl, ap}
 use mathlib.Core.List.{List}
@@ -10,8 +11,12 @@ use Rattle.answer_records.specs.declared.Reply.the-variants as reply
 use Rattle.answer_records.specs.Answers.{Written, writtenOf}
 use Rattle.answer_records.specs.Replies.{Said, outcome, refusal, unreadable, saidOf}
 
-pub writings-agree : {one other : Judged} {held kept : List ℕ} {promised : Written} → writtenOf one held ≡ promised → writtenOf other kept ≡ promised → (one ≡ other) × (held ≡ kept)
-writings-agree p q = (judgements-agree (ap (λ (w : Written). w .told) p) (ap (λ (w : Written). w .told) q), agree (ap (λ (w : Written). w .contents) p) (ap (λ (w : Written). w .contents) q))
+pub writings-agree : {one other : Judged} {held kept : List ℕ} {promised : Written} → writtenOf one held ≡ promised →
+    writtenOf other kept ≡ promised → (one ≡ other) × (held ≡ kept)
+writings-agree p q = (
+  judgements-agree (ap (λ (w : Written). w .told) p) (ap (λ (w : Written). w .told) q),
+  agree (ap (λ (w : Written). w .contents) p) (ap (λ (w : Written). w .contents) q),
+)
 
 -- the reply that says it
 replyAs : Said → Reply

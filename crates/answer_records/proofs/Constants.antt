@@ -7,7 +7,8 @@ use Rattle.fields.specs.Bytes.{bigEndian}
 use Rattle.answer_records.specs.declared.Answer.{Answer}
 use Rattle.answer_records.specs.Answers.{outcomeLength, refusalLength, answerVersion, longestAnswer, noFailedLine, refusedCode, answerBytes, refusalBytes}
 
-pub constants : (outcomeLength ∷ refusalLength ∷ answerVersion ∷ noFailedLine ∷ refusedCode ∷ []) ≡ (16 ∷ 2 ∷ 1 ∷ 0xFFFF ∷ 128 ∷ [])
+pub constants : (outcomeLength ∷ refusalLength ∷ answerVersion ∷ noFailedLine ∷ refusedCode ∷ [])
+    ≡ (16 ∷ 2 ∷ 1 ∷ 0xFFFF ∷ 128 ∷ [])
 constants = refl
 
 pub outcome-size : (a : Answer) → (length (answerBytes a) ≡ longestAnswer) × (longestAnswer ≡ 2 + outcomeLength)

@@ -17,7 +17,8 @@ use Rattle.answer_records.specs.Replies.{isLength, isRefusalCode, length
 
 pub two-lengths : (n : ℕ) → isLength n ≡ true → (n ≡ outcomeLength) ⊎ (n ≡ refusalLength)
 unfolding isLength
-two-lengths n h = ⊎-elim (λ e. inl (eqb-true _ _ e)) (λ e. inr (eqb-true _ _ e)) (or-cases (eqb n outcomeLength) (eqb n refusalLength) h)
+two-lengths n h = ⊎-elim (λ e. inl (eqb-true _ _ e)) (λ e. inr (eqb-true _ _ e))
+    (or-cases (eqb n outcomeLength) (eqb n refusalLength) h)
 
 pub has-code : (n : ℕ) → isLength n ≡ true → 2 ≤ n
 has-code n h = ⊎-elim (λ e. omega arith) (λ e. omega arith) (two-lengths n h)
@@ -53,12 +54,14 @@ unfolding lengthOfCode
 outcome-code k =
     if-case (λ (n : ℕ). n ≡ outcomeLength → (1 ≤ k) × (k ≤ 5)) (leb 1 k && leb k 5)
     (λ b e. (leb-true 1 k (and-left (leb 1 k) (leb k 5) b), leb-true k 5 (and-right (leb 1 k) (leb k 5) b)))
-    (λ b. if-all (λ (n : ℕ). n ≡ outcomeLength → (1 ≤ k) × (k ≤ 5)) (isRefusalCode k) (λ e. absurd (omega arith)) (λ e. absurd (omega arith)))
+    (λ b. if-all (λ (n : ℕ). n ≡ outcomeLength → (1 ≤ k) × (k ≤ 5)) (isRefusalCode k) (λ e. absurd (omega arith))
+    (λ e. absurd (omega arith)))
 
 pub code-within : (k : ℕ) → isRefusalCode k ≡ true → (129 ≤ k) × (k ≤ 142)
 code-within k h =
     ⊎-elim
-    (λ d. (let most = leb-true k 138 (and-right (leb 129 k) (leb k 138) d) in (leb-true 129 k (and-left (leb 129 k) (leb k 138) d), omega arith)))
+    (λ d. (let most = leb-true k 138 (and-right (leb 129 k) (leb k 138) d) in
+    (leb-true 129 k (and-left (leb 129 k) (leb k 138) d), omega arith)))
     (λ e. (let same : k ≡ 142 = eqb-true k 142 e in (omega arith, omega arith)))
     (or-cases (leb 129 k && leb k 138) (eqb k 142) h)
 
@@ -67,7 +70,8 @@ pub refusal-code : (k : ℕ) → lengthOfCode k ≡ refusalLength → (129 ≤ k
 unfolding lengthOfCode
 refusal-code k =
     if-case (λ (n : ℕ). n ≡ refusalLength → (129 ≤ k) × (k ≤ 142)) (leb 1 k && leb k 5) (λ b e. absurd (omega arith))
-    (λ b. if-case (λ (n : ℕ). n ≡ refusalLength → (129 ≤ k) × (k ≤ 142)) (isRefusalCode k) (λ d e. code-within k d) (λ d e. absurd (omega arith)))
+    (λ b. if-case (λ (n : ℕ). n ≡ refusalLength → (129 ≤ k) × (k ≤ 142)) (isRefusalCode k) (λ d e. code-within k d)
+    (λ d e. absurd (omega arith)))
 
 -- a record without a fault that is no outcome's is a refusal's
 module _ (s : List ℕ) (e : answerFault s ≡ fine) (other : pairOf s 0 ≡ outcomeLength → ⊥) where

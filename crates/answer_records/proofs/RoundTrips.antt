@@ -1,4 +1,5 @@
--- What is written is read back, and what is read is written again to the same bytes, for outcomes and for refusals. Assumes nothing.
+-- What is written is read back, and what is read is written again to the same bytes, for outcomes and for refusals.
+-- Assumes nothing.
 use Prim.Native.Nat.{ℕ, zero, suc, _+_, _-_, _/_, _%_, _^_, _≤_, _<_}
 use native.Mathlib.Omega.{arith}
 use native.Mathlib.Nat.{div-one}
@@ -110,14 +111,16 @@ module _ (n : ℕ) (told : isRefusalCode (128 + n) ≡ true) where
 -- ---- what is read is written again
 
 -- where an outcome is read there is no fault, the length is an outcome's, and it is the record's outcome; a refusal alike
-read-outcome : {C : Type 0} (f : Fault) (named : Bool) (o : Answer) (n : ℕ) (a : Answer) → unlessFault said.unreadable f (if named then said.outcome o else said.refusal n) ≡ said.outcome a →
+read-outcome : {C : Type 0} (f : Fault) (named : Bool) (o : Answer) (n : ℕ) (a : Answer) →
+    unlessFault said.unreadable f (if named then said.outcome o else said.refusal n) ≡ said.outcome a →
     (f ≡ fine → named ≡ true → o ≡ a → C) → C
 unfolding if_then_else_
 read-outcome fine true o n a e go = go refl refl cc
 read-outcome fine false o n a e go = absurd (let z : _≡_ {A = ℕ} 0 1 = cc in omega arith)
 read-outcome (fault r) named o n a e go = absurd (let z : _≡_ {A = ℕ} 0 1 = cc in omega arith)
 
-read-refusal : {C : Type 0} (f : Fault) (named : Bool) (o : Answer) (n m : ℕ) → unlessFault said.unreadable f (if named then said.outcome o else said.refusal n) ≡ said.refusal m →
+read-refusal : {C : Type 0} (f : Fault) (named : Bool) (o : Answer) (n m : ℕ) →
+    unlessFault said.unreadable f (if named then said.outcome o else said.refusal n) ≡ said.refusal m →
     (f ≡ fine → named ≡ false → n ≡ m → C) → C
 unfolding if_then_else_
 read-refusal fine true o n m e go = absurd (let z : _≡_ {A = ℕ} 0 1 = cc in omega arith)
@@ -138,7 +141,15 @@ module _ (s : List ℕ) (bytes : AllBytes s) where
       read-outcome (answerFault s) (eqb (pairOf s 0) outcomeLength) (outcomeIn s) _ a e λ f b o.
       let whole = faultless s f in
       let n : pairOf s 0 ≡ outcomeLength = eqb-true _ _ b in
-      its-bytes s outcomeLength whole n ∙ rw (← o, length-bytes outcomeLength n, word-bytes s 4 bytes, word-bytes s 8 bytes, pair-bytes s 12 bytes, word-bytes s 14 bytes, whole .version)
+      its-bytes s outcomeLength whole n ∙ rw (
+        ← o,
+        length-bytes outcomeLength n,
+        word-bytes s 4 bytes,
+        word-bytes s 8 bytes,
+        pair-bytes s 12 bytes,
+        word-bytes s 14 bytes,
+        whole .version,
+      )
 
   pub refusal-written-again : (n : ℕ) → answerIn s ≡ said.refusal n → s ≡ refusalBytes n
   unfolding answerIn refusalBytes upTo
@@ -154,14 +165,16 @@ module _ (s : List ℕ) (bytes : AllBytes s) where
 -- ---- the bytes of what was read
 
 -- the length that the record names, and that it has
-pub outcome-size : (s : List ℕ) (a : Answer) → answerIn s ≡ said.outcome a → (pairOf s 0 ≡ outcomeLength) × (length s ≡ 2 + outcomeLength)
+pub outcome-size : (s : List ℕ) (a : Answer) → answerIn s ≡ said.outcome a → (pairOf s 0 ≡ outcomeLength)
+    × (length s ≡ 2 + outcomeLength)
 unfolding answerIn
 outcome-size s a e =
     read-outcome (answerFault s) (eqb (pairOf s 0) outcomeLength) (outcomeIn s) _ a e λ f b o.
     let n : pairOf s 0 ≡ outcomeLength = eqb-true _ _ b in
     (n, faultless s f .matched ∙ ap (λ (k : ℕ). 2 + k) n)
 
-pub refusal-size : (s : List ℕ) (n : ℕ) → answerIn s ≡ said.refusal n → (pairOf s 0 ≡ refusalLength) × (length s ≡ 2 + refusalLength)
+pub refusal-size : (s : List ℕ) (n : ℕ) → answerIn s ≡ said.refusal n → (pairOf s 0 ≡ refusalLength)
+    × (length s ≡ 2 + refusalLength)
 unfolding answerIn
 refusal-size s m e =
     read-refusal (answerFault s) (eqb (pairOf s 0) outcomeLength) (outcomeIn s) _ m e λ f b o.

@@ -31,16 +31,32 @@ module _ (a : Answer) (l : List ℕ) where
   unfolding answerBytes bigEndian
   no-room = too-short (answerBytes a) l
 
-  pub stored : (named placed-x placed-y placed-line whole : List ℕ) → longestAnswer ≤ length l → named ≡ sets l 0 (pairBytes outcomeLength) → placed-x ≡ sets (set (set named 2 answerVersion) 3 (a .code)) 4 (wordBytes (a .x))
-      → placed-y ≡ sets placed-x 8 (wordBytes (a .y)) → placed-line ≡ sets placed-y 12 (pairBytes (a .failed)) → whole ≡ sets placed-line 14 (wordBytes (a .probes)) → written fine whole ≡ laid (answerBytes a) l
+  pub stored : (named placed-x placed-y placed-line whole : List ℕ) → longestAnswer ≤ length l →
+      named ≡ sets l 0 (pairBytes outcomeLength) →
+      placed-x ≡ sets (set (set named 2 answerVersion) 3 (a .code)) 4 (wordBytes (a .x))
+      → placed-y ≡ sets placed-x 8 (wordBytes (a .y)) → placed-line ≡ sets placed-y 12 (pairBytes (a .failed)) →
+      whole ≡ sets placed-line 14 (wordBytes (a .probes)) → written fine whole ≡ laid (answerBytes a) l
   unfolding answerBytes bigEndian
-  stored named placed-x placed-y placed-line whole h by-length by-x by-y by-line by-probes = rw (by-probes, by-line, by-y, by-x, by-length, pair-stored outcomeLength, word-stored (a .x), word-stored (a .y), pair-stored (a .failed), word-stored (a .probes)) (room (answerBytes a) l h)
+  stored named placed-x placed-y placed-line whole h by-length by-x by-y by-line by-probes =
+      rw (
+        by-probes,
+        by-line,
+        by-y,
+        by-x,
+        by-length,
+        pair-stored outcomeLength,
+        word-stored (a .x),
+        word-stored (a .y),
+        pair-stored (a .failed),
+        word-stored (a .probes),
+      ) (room (answerBytes a) l h)
 
 module _ (n : ℕ) (l : List ℕ) where
   pub no-room-for-refusal : length l < 4 → written (fault 10) l ≡ laid (refusalBytes n) l
   unfolding refusalBytes bigEndian
   no-room-for-refusal = too-short (refusalBytes n) l
 
-  pub stored-refusal : (named : List ℕ) (code : ℕ) → 4 ≤ length l → named ≡ sets l 0 (pairBytes refusalLength) → code ≡ (128 + n) % 256 → written fine (set (set named 2 answerVersion) 3 code) ≡ laid (refusalBytes n) l
+  pub stored-refusal : (named : List ℕ) (code : ℕ) → 4 ≤ length l → named ≡ sets l 0 (pairBytes refusalLength) →
+      code ≡ (128 + n) % 256 → written fine (set (set named 2 answerVersion) 3 code) ≡ laid (refusalBytes n) l
   unfolding refusalBytes bigEndian
   stored-refusal named code h e c = rw (e, c, pair-stored refusalLength) (room (refusalBytes n) l h)

@@ -1,4 +1,5 @@
--- The bytes of answer records, and what writing them to a lent buffer leaves (01, "Records (ours)"). Definitions only. Assumes nothing.
+-- The bytes of answer records, and what writing them to a lent buffer leaves (01, "Records (ours)"). Definitions only.
+-- Assumes nothing.
 use Prim.Native.Nat.{ℕ, _+_, _%_}
 use mathlib.Core.List.{List, [], _∷_, _++_}
 use lib.Dec.{leb}
@@ -33,9 +34,11 @@ refusedCode = 128
 
 -- "Answer: length 16, version 1, outcome, x, y, failed line (2 bytes, FFFF for none), probes (4 bytes)"
 unfoldable pub answerBytes : Answer → List ℕ
-answerBytes a = bigEndian 2 outcomeLength ++ answerVersion ∷ a .code ∷ bigEndian 4 (a .x) ++ bigEndian 4 (a .y) ++ bigEndian 2 (a .failed) ++ bigEndian 4 (a .probes)
+answerBytes a = bigEndian 2 outcomeLength ++ answerVersion ∷ a .code ∷ bigEndian 4 (a .x) ++ bigEndian 4 (a .y)
+    ++ bigEndian 2 (a .failed) ++ bigEndian 4 (a .probes)
 
--- "a refused scene as 00 02 01 and 128 + number". A code is a byte: numbers go up to 14, and one over 127 is never read as a refusal's
+-- "a refused scene as 00 02 01 and 128 + number". A code is a byte: numbers go up to 14, and one over 127 is never read
+-- as a refusal's
 unfoldable pub refusalBytes : ℕ → List ℕ
 refusalBytes n = bigEndian 2 refusalLength ++ answerVersion ∷ (refusedCode + n) % 256 ∷ []
 
@@ -50,6 +53,8 @@ written f l = record { told = f; contents = l }
 abbrev pub writtenOf : Judged → List ℕ → Written
 writtenOf r l = written (faultOf r) l
 
--- the bytes at the buffer's start, and behind them what stood there; a buffer too short for them is refused with 10 and left alone
+-- the bytes at the buffer's start, and behind them what stood there; a buffer too short for them is refused with 10 and
+-- left alone
 unfoldable pub laid : List ℕ → List ℕ → Written
-laid bytes buffer = if leb (length bytes) (length buffer) then written fine (bytes ++ drop (length bytes) buffer) else written (fault 10) buffer
+laid bytes buffer = if leb (length bytes) (length buffer) then written fine (bytes ++ drop (length bytes) buffer) else
+    written (fault 10) buffer

@@ -12,7 +12,8 @@ use Rattle.answer_records.specs.declared.Reply.{Reply}
 use Rattle.answer_records.specs.declared.Reply.the-variants as reply
 use Rattle.answer_records.specs.Answers.{outcomeLength, refusalLength, answerVersion, refusedCode}
 
--- what a record says: an outcome with its number and values, a refused scene by its number, or the number of the record's own fault
+-- what a record says: an outcome with its number and values, a refused scene by its number, or the number of the
+-- record's own fault
 pub data Said : Type 0 where
   outcome : Answer → Said
   refusal : ℕ → Said
@@ -26,15 +27,16 @@ saidOf (reply.Fault n) = unreadable n
 unfoldable pub isLength : ℕ → Bool
 isLength n = eqb n outcomeLength || eqb n refusalLength
 
--- "codes 1 to 5 and 129 to 138 only, the first with length 16, the second with length 2", and 142 as these (02, T-11); 0 is the length of no record. No other
--- place knows the codes
+-- "codes 1 to 5 and 129 to 138 only, the first with length 16, the second with length 2", and 142 as these (02, T-11);
+-- 0 is the length of no record. No other place knows the codes
 abbrev pub isRefusalCode : ℕ → Bool
 isRefusalCode code = (leb 129 code && leb code 138) || eqb code 142
 
 unfoldable pub lengthOfCode : ℕ → ℕ
 lengthOfCode code = if leb 1 code && leb code 5 then outcomeLength else (if isRefusalCode code then refusalLength else 0)
 
--- "fewer than two bytes, a length that is neither, or bytes that do not match it, 2; another version, 1; a code not of its length, 2"
+-- "fewer than two bytes, a length that is neither, or bytes that do not match it, 2; another version, 1; a code not of
+-- its length, 2"
 unfoldable pub answerFault : List ℕ → Fault
 answerFault s =
     must (leb 2 (length s)) 2
@@ -49,4 +51,5 @@ outcomeIn s = record { code = getD s 3 0; x = wordOf s 4; y = wordOf s 8; failed
 
 -- a record is an outcome's or a refusal's by its length
 unfoldable pub answerIn : List ℕ → Said
-answerIn s = unlessFault unreadable (answerFault s) (if eqb (pairOf s 0) outcomeLength then outcome (outcomeIn s) else refusal (getD s 3 0 - refusedCode))
+answerIn s = unlessFault unreadable (answerFault s) (if eqb (pairOf s 0) outcomeLength then outcome
+    (outcomeIn s) else refusal (getD s 3 0 - refusedCode))

@@ -42,7 +42,8 @@ pub enum Reply {
     Fault(u8),
 }
 
-// Writes an outcome's record to the buffer's start; bytes behind it keep their contents. A buffer of fewer than 18 bytes is refused (10) and keeps its contents.
+// Writes an outcome's record to the buffer's start; bytes behind it keep their contents. A buffer of fewer than 18
+// bytes is refused (10) and keeps its contents.
 pub fn write_answer(buffer: &mut [u8], answer: Answer) -> Judged
     ensures { λ r. ⌜ writtenOf r (now (buffer .exit)) ≡ laid (answerBytes answer) (now (buffer .entry)) ⌝ }
 {
@@ -59,8 +60,9 @@ pub fn write_answer(buffer: &mut [u8], answer: Answer) -> Judged
     Judged::Fine
 }
 
-// Writes the record of a refused scene to the buffer's start; bytes behind it keep their contents. A buffer of fewer than 4 bytes is refused (10) and keeps
-// its contents. The code is 128 + number modulo 256, and the reader takes it for the numbers 1 to 10 and 14 alone.
+// Writes the record of a refused scene to the buffer's start; bytes behind it keep their contents. A buffer of fewer
+// than 4 bytes is refused (10) and keeps its contents. The code is 128 + number modulo 256, and the reader takes it for
+// the numbers 1 to 10 and 14 alone.
 pub fn write_refusal(buffer: &mut [u8], number: u8) -> Judged
     ensures { λ r. ⌜ writtenOf r (now (buffer .exit)) ≡ laid (refusalBytes number) (now (buffer .entry)) ⌝ }
 {
@@ -73,8 +75,9 @@ pub fn write_refusal(buffer: &mut [u8], number: u8) -> Judged
     Judged::Fine
 }
 
-// What one whole record says. Fewer than two bytes, a length that is neither 16 nor 2, or bytes that do not match it, are the fault 2; another version 1;
-// a code not of its length 2. Point, failed line and probes are taken as they stand.
+// What one whole record says. Fewer than two bytes, a length that is neither 16 nor 2, or bytes that do not match it,
+// are the fault 2; another version 1; a code not of its length 2. Point, failed line and probes are taken as they
+// stand.
 pub fn read_answer(bytes: &[u8]) -> Reply
     ensures { λ r. ⌜ saidOf r ≡ answerIn (now (bytes .entry)) ⌝ }
 {

@@ -1,4 +1,5 @@
--- Choices and conditions: what both branches have, the choice has; what a true `&&` or `||` says of its sides, and they of it. Assumes nothing.
+-- Choices and conditions: what both branches have, the choice has; what a true `&&` or `||` says of its sides, and they
+-- of it. Assumes nothing.
 use mathlib.Core.Path.{_≡_, refl}
 use mathlib.Core.Logic.{_⊎_, inl, inr}
 use mathlib.Core.Bool.{Bool, true, false, false≢true, _&&_, _||_}

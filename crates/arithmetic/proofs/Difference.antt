@@ -23,7 +23,8 @@ zero-level (fin false m e) s c p h = rw (no-size m c e p (h .1), zero-mul (down 
 
 -- 0 over c is rounded to a zero
 nothing-over : (c : ℕ) → 0 < c → eq (round binary32 false 0 c) 0ᶠ ≡ true
-nothing-over c p = zero-level (round binary32 false 0 c) false c p (round-exact binary32 false 0 c 0 0 p (lit< tt) (lit< tt) (sym (zero-mul c)))
+nothing-over c p = zero-level (round binary32 false 0 c) false c p (round-exact binary32 false 0 c 0 0 p (lit< tt)
+    (lit< tt) (sym (zero-mul c)))
 
 eq-nan : eq nan 0ᶠ ≡ false
 unfolding eq

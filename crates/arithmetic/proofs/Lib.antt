@@ -1,4 +1,5 @@
--- The laws of `arithmetic`: of agreement, of signs and ends, of bit patterns, of the root, and of lists and magnitudes that all layers use.
+-- The laws of `arithmetic`: of agreement, of signs and ends, of bit patterns, of the root, and of lists and magnitudes
+-- that all layers use.
 pub mod Agree
 pub mod Signs
 pub mod Between

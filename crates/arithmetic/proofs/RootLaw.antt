@@ -1,6 +1,7 @@
--- The law of the square root. For a positive finite `f32` x, `sqrtOf x` is a positive `f32` between whose two midpoints the root of x lies (`sqrt-law`),
--- and no other `f32` is (`sqrt-unique`). That leaves no choice at a tie, since the root of an `f32` is never a midpoint (`no-tie`).
--- That `before` and `after` are the `f32` next to a positive one is `bits-order` of Patterns; the special cases are `of-nan` and what follows it in Roots. Assumes nothing.
+-- The law of the square root. For a positive finite `f32` x, `sqrtOf x` is a positive `f32` between whose two midpoints
+-- the root of x lies (`sqrt-law`), and no other `f32` is (`sqrt-unique`). That leaves no choice at a tie, since the
+-- root of an `f32` is never a midpoint (`no-tie`). That `before` and `after` are the `f32` next to a positive one is
+-- `bits-order` of Patterns; the special cases are `of-nan` and what follows it in Roots. Assumes nothing.
 use mathlib.Core.Path.{_≡_, sym, ap, _∙_}
 use mathlib.Core.Logic.{_⊎_, inl, inr}
 use Prim.Native.Nat.{ℕ, zero, suc, _+_, _-_, _*_, _/_, _%_, _^_, _<_, _≤_}
@@ -69,7 +70,8 @@ sqrt-law x f p =
     let a = rootBits-at n (count-under x f p) in
     let l : r < 2139095039 = root-range n r (count-under x f p) (a .low) in
     rw (of-positive x p) (record {
-      above-zero = positive-of-value (ofBits binary32 r) (worth r) (2 ^ 149) (bits-value r (here r l)) (worth-pos r (root-above n r (count-pos x f p) a));
+      above-zero = positive-of-value (ofBits binary32 r) (worth r) (2 ^ 149) (bits-value r (here r l))
+          (worth-pos r (root-above n r (count-pos x f p) a));
       low = rw (count-before r l, count-here r l) (a .low);
       high = rw (count-after r l, count-here r l, ← mid-next r) (le-of-lt (a .high));
     })
@@ -91,7 +93,8 @@ odd-apart o d (suc a) zero h l e =
 odd-apart o d (suc a) (suc c) h l e =
     odd-apart o d a c h l
     (eq-of-mul-eq-mul-right 2 (lit< tt) (o * 2 ^ a) (d * 2 ^ c)
-    (mul-assoc o (2 ^ a) 2 ∙ ap (λ (x : ℕ). o * x) (sym (pow-suc 2 a)) ∙ e ∙ ap (λ (x : ℕ). d * x) (pow-suc 2 c) ∙ sym (mul-assoc d (2 ^ c) 2)))
+    (mul-assoc o (2 ^ a) 2 ∙ ap (λ (x : ℕ). o * x) (sym (pow-suc 2 a)) ∙ e ∙ ap (λ (x : ℕ). d * x) (pow-suc 2 c)
+    ∙ sym (mul-assoc d (2 ^ c) 2)))
 
 -- four times d units that have doubled k times
 four-units : (d k : ℕ) → 4 * (d * 2 ^ k) * 2 ^ 149 ≡ d * 2 ^ (k + 151)
@@ -112,7 +115,8 @@ no-tie b r h e =
     let d = b - k * 8388608 in
     let o = (m + (m + 1)) * (m + (m + 1)) in
     odd-apart o d (g + g) (k + 151) (omega arith) (omega arith)
-    (ap (λ (x : ℕ). o * x) (pow-add 2 g g) ∙ sym (mul-mul-mul-comm (m + (m + 1)) (2 ^ g) (m + (m + 1)) (2 ^ g)) ∙ sym (ap (λ (x : ℕ). x * x) t) ∙ sym e ∙ four-units d k)
+    (ap (λ (x : ℕ). o * x) (pow-add 2 g g) ∙ sym (mul-mul-mul-comm (m + (m + 1)) (2 ^ g) (m + (m + 1)) (2 ^ g))
+    ∙ sym (ap (λ (x : ℕ). x * x) t) ∙ sym e ∙ four-units d k)
 
 -- ---- no other
 
@@ -125,7 +129,8 @@ leading n r p h = le-of-suc-le-suc (lt-of-not-le (λ (g : suc r ≤ 8388608). sm
     few = mul-le-mul-right (2 ^ 149) (mul-le-mul-left 4 p)
 
     small : suc r ≤ 8388608 → ⊥
-    small g = lt-irrefl (4 * 1 * 2 ^ 149) (lt-of-le-of-lt (le-trans few (le-trans h (mid-mono (r + 1) 8388608 (add-one-le g)))) (lit< tt))
+    small g = lt-irrefl (4 * 1 * 2 ^ 149)
+        (lt-of-le-of-lt (le-trans few (le-trans h (mid-mono (r + 1) 8388608 (add-one-le g)))) (lit< tt))
 
 module _ (x r : Float) (fx : T (fits binary32 x)) (px : T (positive x)) (fr : T (fits binary32 r)) (i : IsRoot x r) where
   read-back : ofBits binary32 (toBits binary32 r) ≡ r
@@ -149,15 +154,18 @@ module _ (x r : Float) (fx : T (fits binary32 x)) (px : T (positive x)) (fr : T 
   at-root : AtRoot (count x) (toBits binary32 r)
   at-root = record { low = low-is; high = strictly (eq-or-lt-of-le high-is) }
     where
-      strictly : (4 * count x * 2 ^ 149 ≡ mid (toBits binary32 r + 1) * mid (toBits binary32 r + 1)) ⊎ (4 * count x * 2 ^ 149 < mid (toBits binary32 r + 1) * mid (toBits binary32 r + 1))
+      strictly : (4 * count x * 2 ^ 149 ≡ mid (toBits binary32 r + 1) * mid (toBits binary32 r + 1))
+          ⊎ (4 * count x * 2 ^ 149 < mid (toBits binary32 r + 1) * mid (toBits binary32 r + 1))
           → 4 * count x * 2 ^ 149 < mid (toBits binary32 r + 1) * mid (toBits binary32 r + 1)
       strictly (inr l) = l
       strictly (inl e) =
-          absurd (no-tie (toBits binary32 x) (toBits binary32 r) (leading (count x) (toBits binary32 r) (count-pos x fx px) high-is)
+          absurd (no-tie (toBits binary32 x) (toBits binary32 r)
+          (leading (count x) (toBits binary32 r) (count-pos x fx px) high-is)
           (ap (λ (n : ℕ). 4 * n * 2 ^ 149) (positive-bits x fx px .2) ∙ e))
 
   pub sqrt-unique : r ≡ sqrtOf x
   sqrt-unique =
       sym read-back
-      ∙ ap (λ (b : ℕ). ofBits binary32 b) (one-root (count x) (toBits binary32 r) (rootBits (count x)) at-root (rootBits-at (count x) (count-under x fx px)))
+      ∙ ap (λ (b : ℕ). ofBits binary32 b) (one-root (count x) (toBits binary32 r) (rootBits (count x)) at-root
+      (rootBits-at (count x) (count-under x fx px)))
       ∙ sym (of-positive x px)

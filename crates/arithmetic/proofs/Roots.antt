@@ -70,4 +70,5 @@ not-nan (inf s) n h = absurd h
 not-nan (fin s m e) n h = tt
 
 pub root-not-nan : (n : ℕ) → n < 2 ^ 277 → T (not (nanBits binary32 (rootBits n)))
-root-not-nan n h = rw (nanBits-is binary32 (rootBits n)) (not-nan (ofBits binary32 (rootBits n)) (worth (rootBits n)) (bits-value (rootBits n) (root-finite n h)))
+root-not-nan n h = rw (nanBits-is binary32 (rootBits n)) (not-nan (ofBits binary32 (rootBits n)) (worth (rootBits n))
+    (bits-value (rootBits n) (root-finite n h)))

@@ -22,7 +22,13 @@ module _ (f m s r o : ℕ) (some : 0 < f + m) where
       → o + f ≤ (b + r + 1) * (b + r + 1)
   over-root b t l start end =
       le-of-mul-le-mul-left {k = f + m}
-      (omega (arith, mul-le-mul-left m start, mul-le-mul-left f end, mul-le-mul-left t l, mul-le-mul-left (f + m) (mean t (b + r + 1))))
+      (omega (
+        arith,
+        mul-le-mul-left m start,
+        mul-le-mul-left f end,
+        mul-le-mul-left t l,
+        mul-le-mul-left (f + m) (mean t (b + r + 1)),
+      ))
       some
 
 module _ (i start rise f : ℕ) (t : RowTest i start rise) (inside : f < rowWidth) where
@@ -37,12 +43,14 @@ module _ (i start rise f : ℕ) (t : RowTest i start rise) (inside : f < rowWidt
       let s : start + r - farthest ≤ start - farthest + r = omega arith in
       let l : r * (f + (rowWidth - f)) ≤ rise * f = rw whole (div-mul-le-self (rise * f) rowWidth) in
       le-trans (mul-le-mul s s)
-      (under-root f (rowWidth - f) rise r (i * rowWidth) (omega arith) (start - farthest) l (t .low-start) (rw whole (omega (arith, t .low-end))))
+      (under-root f (rowWidth - f) rise r (i * rowWidth) (omega arith) (start - farthest) l (t .low-start)
+      (rw whole (omega (arith, t .low-end))))
 
   high : i * rowWidth + f ≤ (start + r + farthest) * (start + r + farthest)
   high =
       let e : start + farthest - 1 + r + 1 ≡ start + r + farthest = omega arith in
-      let l : rise * f ≤ (r + 1) * (f + (rowWidth - f)) = rw whole (omega (arith, lt-div-mul-add {a = rise * f} {b = rowWidth} (omega arith))) in
+      let l : rise * f ≤ (r + 1) * (f + (rowWidth - f)) =
+      rw whole (omega (arith, lt-div-mul-add {a = rise * f} {b = rowWidth} (omega arith))) in
       rw (← e)
       (over-root f (rowWidth - f) rise r (i * rowWidth) (omega arith) (start + farthest - 1) (middle start rise) l (t .high-start)
       (rw whole (omega (arith, t .high-end))))

@@ -76,7 +76,8 @@ is-positive (inf s) n z h = h
 is-positive (fin true zero e) n z h = absurd (true≢false (simp zero-mul at z))
 is-positive (fin false zero e) n z h = absurd (true≢false (simp zero-mul at z))
 is-positive (fin false (suc m) e) n z h = (refl, zero-lt-suc m)
-is-positive (fin true (suc m) e) n z h = absurd (some (suc m * up e * 1) (size-pos m e) (ltb-false 0 (suc m * up e * 1 + 0 * down e) h))
+is-positive (fin true (suc m) e) n z h =
+    absurd (some (suc m * up e * 1) (size-pos m e) (ltb-false 0 (suc m * up e * 1 + 0 * down e) h))
   where
     some : (a : ℕ) → 0 < a → a + 0 * down e ≤ 0 → ⊥
     some a p k = omega arith

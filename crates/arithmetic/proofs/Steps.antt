@@ -1,5 +1,5 @@
--- What the steps inside `sqrt` rest on: Newton's step from a guess near the root, the one correction that may follow, and a doubling
--- that leaves a value as it is. Assumes nothing.
+-- What the steps inside `sqrt` rest on: Newton's step from a guess near the root, the one correction that may follow,
+-- and a doubling that leaves a value as it is. Assumes nothing.
 use mathlib.Core.Path.{_≡_, sym, ap, _∙_, subst}
 use mathlib.Core.Logic.{_⊎_, inl, inr}
 use Prim.Native.Nat.{ℕ, zero, suc, _+_, _-_, _*_, _/_, _^_, _≤_, _<_}
@@ -85,7 +85,8 @@ module _ (w g : ℕ) (least : 70368744177664 ≤ w) (most : w < 281474976710656)
 
   pub nearest-or-next : RootNearestOrNext w ((g + w / g + 1) / 2)
   nearest-or-next = record {
-    low = not-far w g (w / g) _ (div-mul-le-self w g) (mean-near g (w / g) 4097 below above) (omega (arith, guess-least)) (omega arith);
+    low = not-far w g (w / g) _ (div-mul-le-self w g) (mean-near g (w / g) 4097 below above)
+        (omega (arith, guess-least)) (omega arith);
     high = not-below w g (w / g) _ (lt-div-mul-add guess-pos) (omega arith);
   }
 

@@ -25,4 +25,5 @@ pub record RowTest (i start rise : ℕ) : Type 0 where
   pub low-start : (start - farthest) * (start - farthest) ≤ i * rowWidth
   pub low-end : (start - farthest + rise) * (start - farthest + rise) ≤ (i + 1) * rowWidth
   pub high-start : i * rowWidth + middle start rise * middle start rise ≤ 2 * (middle start rise * (start + farthest - 1))
-  pub high-end : (i + 1) * rowWidth + middle start rise * middle start rise ≤ 2 * (middle start rise * (start + farthest - 1 + rise))
+  pub high-end : (i + 1) * rowWidth + middle start rise * middle start rise
+      ≤ 2 * (middle start rise * (start + farthest - 1 + rise))

@@ -1,4 +1,5 @@
-// Arithmetic on f32 that Rattle's operators do not have (01, "Port order"). Each answers for every f32, a NaN and the infinities too.
+// Arithmetic on f32 that Rattle's operators do not have (01, "Port order"). Each answers for every f32, a NaN and the
+// infinities too.
 ghost use mathlib.Core.Path.{_≡_};
 ghost use Rattle.arithmetic.specs.Binary32.{finite};
 ghost use Rattle.arithmetic.specs.Ends.{absOf, minOf, maxOf, clampOf};
@@ -26,8 +27,8 @@ pub fn sqrt(x: f32) -> f32
     f32::from_bits(root::root_bits(b))
 }
 
-// x without its sign, a zero's and an infinity's too. A NaN stays one.
-// -x is taken before any test, and a zero is tested first: so compiled code clears the sign, and no jump hangs on what no processor can guess.
+// x without its sign, a zero's and an infinity's too. A NaN stays one. -x is taken before any test, and a zero is
+// tested first: so compiled code clears the sign, and no jump hangs on what no processor can guess.
 pub fn abs(x: f32) -> f32
     ensures { λ r. ⌜ r ≡ absOf x ⌝ }
 {

@@ -1,5 +1,6 @@
--- 01, "Bench cases": P1 to P12 as one table with one claim. antt computes each row by the definitions that the contracts of `solve_linear_program`, `sqrt` and
--- `get_lines_for_agent_to_obstacle` cite. Zeros stand as the rules give them: P6, P10 and P11 have a −0. Assumes nothing.
+-- 01, "Bench cases": P1 to P12 as one table with one claim. antt computes each row by the definitions that the
+-- contracts of `solve_linear_program`, `sqrt` and `get_lines_for_agent_to_obstacle` cite. Zeros stand as the rules give
+-- them: P6, P10 and P11 have a −0. Assumes nothing.
 use Prim.Native.Nat.{ℕ}
 use mathlib.Core.Path.{_≡_, refl}
 use mathlib.Core.Bool.{true, false}
@@ -22,8 +23,8 @@ use Rattle.edges.specs.declared.Agent.{Agent}
 use Rattle.obstacles.specs.Obstacles.{Answer, lines, refused, obstacleCall}
 use Rattle.obstacles.proofs.Computed.{computed}
 
--- a list with its rigid count, wish and limit; a number whose root is asked; an obstacle of so many vertices, with its numbers, beside an agent at rest at the
--- origin, with margin and horizon
+-- a list with its rigid count, wish and limit; a number whose root is asked; an obstacle of so many vertices, with its
+-- numbers, beside an agent at rest at the origin, with margin and horizon
 pub data Asked : Type 0 where
   list : ℕ → Vec2 → Float → List Line → Asked
   root : Float → Asked
@@ -143,7 +144,8 @@ table =
     ∷ (list 0 o (+ 2) (A ∷ B ∷ []) gives ends (stands (relaxing (vec (− 2) (+ 0)) (+ 1)) (at 1 (parallel 0)) 6))
     ∷ (list 1 o (+ 2) (A ∷ B ∷ []) gives ends (stands (relaxing (vec −√3 (+ 1)) (+ 2)) (at 1 (parallel 0)) 5))
     ∷ (list 2 o (+ 2) (A ∷ B ∷ []) gives ends (stands (rigidFailure 1 (vec (+ 0) (+ 1))) (at 1 (parallel 0)) 3))
-    -- a line that the circle leaves nothing of, though a parallel one does not either; the index in the whole list; ends that cross
+    -- a line that the circle leaves nothing of, though a parallel one does not either; the index in the whole list;
+    -- ends that cross
     ∷ (list 2 o (+ 2) (A ∷ below ∷ []) gives ends (stands (rigidFailure 1 (vec (+ 0) (+ 1))) (at 1 circle) 2))
     ∷ (list 3 o (+ 2) (lower ∷ A ∷ B ∷ []) gives ends (stands (rigidFailure 2 (vec (+ 0) (+ 1))) (at 2 (parallel 1)) 6))
     ∷ (list 2 o (+ 2) (high ∷ aside ∷ []) gives ends (stands (rigidFailure 1 (vec (+ 0) threeHalves)) (at 1 (crossing 0)) 3))

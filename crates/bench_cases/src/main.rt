@@ -1,5 +1,6 @@
-// Runs 01's bench cases, P1 to P12 and the limits of its last row, with three more causes of a failure, the probes of two relaxed lines, a horizon out of
-// range and a number left over, through the code: the cases that proofs/Table.antt claims of the definitions. A case that is wrong is told by its number.
+// Runs 01's bench cases, P1 to P12 and the limits of its last row, with three more causes of a failure, the probes of
+// two relaxed lines, a horizon out of range and a number left over, through the code: the cases that proofs/Table.antt
+// claims of the definitions. A case that is wrong is told by its number.
 use admission::Judged;
 use common::Vec2;
 use edges::Agent;
@@ -148,7 +149,8 @@ fn two_lines(t: Tally) -> Tally {
         .with(is_rigid(solved(&both, 2), 1, cause, 0.0, 1.0, 3), 9)
 }
 
-// The causes beyond P5 to P9, told as 901 to 903: the circle before a parallel line, the index in the whole list, ends that cross.
+// The causes beyond P5 to P9, told as 901 to 903: the circle before a parallel line, the index in the whole list, ends
+// that cross.
 fn causes(t: Tally) -> Tally {
     let missed = [0.0, 1.0, 1.0, 0.0, 0.0, -3.0, -1.0, 0.0];
     let three = [

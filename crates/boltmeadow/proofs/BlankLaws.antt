@@ -1,4 +1,5 @@
--- "A refusal returns its number and nothing else": beside it all else is 0, where what is told is taken from a struct of the callee's. Assumes nothing.
+-- "A refusal returns its number and nothing else": beside it all else is 0, where what is told is taken from a struct
+-- of the callee's. Assumes nothing.
 use Prim.Native.Nat.{ℕ}
 use mathlib.Core.Path.{_≡_, refl}
 use lib.ListN.{replicate}
@@ -42,7 +43,11 @@ pub no-scene : (r : ℕ) → sceneTold (numberedAs (refused r)) ≡ record {
 unfolding sceneTold cartOf blankBytes blankVertices blankNumbers blankWords
 no-scene r = refl
 
-pub no-lines : (r : ℕ) → obstacleTold (answerAs (obstacle.refused r)) ≡ record { refusal = r; count = 0; lines = replicate 256 0ᶠ }
+pub no-lines : (r : ℕ) → obstacleTold (answerAs (obstacle.refused r)) ≡ record {
+  refusal = r;
+  count = 0;
+  lines = replicate 256 0ᶠ;
+}
 unfolding blankNumbers
 no-lines r = refl
 

@@ -29,14 +29,17 @@ answer-said {a} e = answer-back a ∙ ap answerAs e
 
 -- value and contents of a lent buffer
 
-pub answer-left : {a : SceneAnswer} {l : List ℕ} {s : Solved} {r : BmAnswer} → r ≡ answerTold a → solved a l ≡ s → standing r l ≡ answerLeft s
+pub answer-left : {a : SceneAnswer} {l : List ℕ} {s : Solved} {r : BmAnswer} → r ≡ answerTold a → solved a l ≡ s →
+    standing r l ≡ answerLeft s
 answer-left {a} {l} t e = ap (λ (b : BmAnswer). standing b l) t ∙ ap answerLeft e
 
-pub index-left : {a : IndexWritten} {l : List ℕ} {s : Standing IndexWritten} {r : BmWritten} → r ≡ indexTold a → standing a l ≡ s → standing r l ≡ indexLeft s
+pub index-left : {a : IndexWritten} {l : List ℕ} {s : Standing IndexWritten} {r : BmWritten} → r ≡ indexTold a →
+    standing a l ≡ s → standing r l ≡ indexLeft s
 unfolding indexLeft
 index-left {a} {l} t e = ap (λ (b : BmWritten). standing b l) t ∙ ap indexLeft e
 
-pub written-left : (a : SceneWritten) {l : List ℕ} {w : Written} {r : BmWritten} → r ≡ writtenTold a → writtenOf a l ≡ w → standing r l ≡ writtenLeft w
+pub written-left : (a : SceneWritten) {l : List ℕ} {w : Written} {r : BmWritten} → r ≡ writtenTold a → writtenOf a l ≡ w
+    → standing r l ≡ writtenLeft w
 unfolding writtenTold writtenLeft
 written-left (scene-written.Length n) {l} t e = ap (λ (b : BmWritten). standing b l) t ∙ ap writtenLeft e
 written-left (scene-written.Refused n) {l} t e = ap (λ (b : BmWritten). standing b l) t ∙ ap writtenLeft e

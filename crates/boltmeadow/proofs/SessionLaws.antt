@@ -13,7 +13,8 @@ module _ (b : Block) {l : Left} {s : Session} {f : Fed} where
   pub batch-left : (xs : List Float) → s ≡ sessionIn b → f ≡ fedAs s xs → l ≡ leftBy f b → l ≡ leftBy (fedAs (sessionIn b) xs) b
   batch-left xs e h k = rw (← e, ← h) k
 
-  pub batch-with-left : (xs : List Float) (os : List ℕ) → s ≡ sessionIn b → f ≡ fedWith s xs os → l ≡ leftBy f b → l ≡ leftBy (fedWith (sessionIn b) xs os) b
+  pub batch-with-left : (xs : List Float) (os : List ℕ) → s ≡ sessionIn b → f ≡ fedWith s xs os → l ≡ leftBy f b →
+      l ≡ leftBy (fedWith (sessionIn b) xs os) b
   batch-with-left xs os e h k = rw (← e, ← h) k
 
   pub change-left : (is : List ℕ) (xs : List Float) (os : List ℕ) → s ≡ sessionIn b → f ≡ changedAs s is xs os → l ≡ leftBy f b →

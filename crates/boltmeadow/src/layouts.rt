@@ -10,8 +10,8 @@ ghost use Rattle.obstacles.specs.Read.{answerAs};
 ghost use Rattle.wall_check.specs.Crossings.{checkedMove};
 ghost use Rattle.boltmeadow.specs.Layouts.{agentAt, numberTold, crossing, crossingTold, obstacleTold};
 
-// The first crossed edge, by its obstacle's place and its left vertex there, and how many edges are crossed; 0 edges where the way is clear. Beside a refusal
-// all else is 0.
+// The first crossed edge, by its obstacle's place and its left vertex there, and how many edges are crossed; 0 edges
+// where the way is clear. Beside a refusal all else is 0.
 #[repr(C)]
 pub struct BmCrossing {
     pub refusal: u32,
@@ -28,7 +28,8 @@ pub struct BmObstacleLines {
     pub lines: [f32; 256],
 }
 
-// The first edge of the obstacles that a move crosses, and how many; or the number of a refusal, as `wall_check::check_move` refuses.
+// The first edge of the obstacles that a move crosses, and how many; or the number of a refusal, as
+// `wall_check::check_move` refuses.
 #[no_mangle]
 pub extern "C" fn bm_check_move(
     from_x: f32,
@@ -40,7 +41,8 @@ pub extern "C" fn bm_check_move(
     counts: &[u8],
     vertices: &[f32],
 ) -> BmCrossing
-    ensures { λ r. ⌜ r ≡ crossingTold (checkedMove (vec «from_x» «from_y») (vec «to_x» «to_y») obstacles (now (kinds .entry)) (now (counts .entry)) (now (vertices .entry))) ⌝ }
+    ensures { λ r. ⌜ r ≡ crossingTold (checkedMove (vec «from_x» «from_y») (vec «to_x» «to_y») obstacles
+        (now (kinds .entry)) (now (counts .entry)) (now (vertices .entry))) ⌝ }
 {
     let from = Vec2 {
         x: from_x,
@@ -66,7 +68,8 @@ fn crossed(refusal: u32, edges: usize, obstacle: usize, vertex: usize) -> BmCros
     }
 }
 
-// The lines that an obstacle asks a cart to keep to; or the number of a refusal, as `obstacles::get_lines_for_agent_to_obstacle` refuses.
+// The lines that an obstacle asks a cart to keep to; or the number of a refusal, as
+// `obstacles::get_lines_for_agent_to_obstacle` refuses.
 #[no_mangle]
 pub extern "C" fn bm_obstacle_lines(
     position_x: f32,
@@ -79,7 +82,9 @@ pub extern "C" fn bm_obstacle_lines(
     count: usize,
     vertices: &[f32],
 ) -> BmObstacleLines
-    ensures { λ r. ⌜ r ≡ obstacleTold (answerAs (obstacleCall (agentAt «position_x» «position_y» «velocity_x» «velocity_y») kind (now (vertices .entry)) count margin horizon)) ⌝ }
+    ensures { λ r. ⌜ r ≡ obstacleTold (answerAs
+        (obstacleCall (agentAt «position_x» «position_y» «velocity_x» «velocity_y») kind
+        (now (vertices .entry)) count margin horizon)) ⌝ }
 {
     let agent = Agent {
         position: Vec2 {

@@ -9,8 +9,9 @@ ghost use Rattle.linear_programming.specs.Admit.{listCall};
 ghost use Rattle.linear_programming.specs.Read.{answerAs};
 ghost use Rattle.boltmeadow.specs.Lists.{refusedList, standingWith, standingBy, standingTold};
 
-// How a list stands: the phase, its point and penetration (0 where it is not relaxing), the cause of the failed line (0 where none failed), its index and the
-// earlier line that the cause names, and the probes. Beside a refusal all else is 0.
+// How a list stands: the phase, its point and penetration (0 where it is not relaxing), the cause of the failed line (0
+// where none failed), its index and the earlier line that the cause names, and the probes. Beside a refusal all else is
+// 0.
 #[repr(C)]
 pub struct BmStanding {
     pub refusal: u32,

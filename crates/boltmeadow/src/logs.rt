@@ -15,8 +15,8 @@ ghost use Rattle.fallback_index.specs.Questions.{questionIn};
 ghost use Rattle.fallback_index.specs.Appends.{appendedOver};
 ghost use Rattle.boltmeadow.specs.Logs.{reply, replyTold, page, tallyTold, indexTold, indexLeft, fallbacksTold};
 
-// An answer record that was read: its code, 1 to 5 or 128 and the number that it refuses with; the bits of x and y, the failed line (FFFF for none) and the
-// probes, as they stand in the record. Beside a refusal all else is 0.
+// An answer record that was read: its code, 1 to 5 or 128 and the number that it refuses with; the bits of x and y, the
+// failed line (FFFF for none) and the probes, as they stand in the record. Beside a refusal all else is 0.
 #[repr(C)]
 pub struct BmReply {
     pub refusal: u32,
@@ -79,7 +79,8 @@ fn replied(refusal: u32, code: u32, x: u32, y: u32, failed_line: u32, probes: u3
     }
 }
 
-// The figures of a whole log; or the number of a refusal with the place of the record that is refused, as `daily_tally::tally_log` refuses.
+// The figures of a whole log; or the number of a refusal with the place of the record that is refused, as
+// `daily_tally::tally_log` refuses.
 #[no_mangle]
 pub extern "C" fn bm_tally_log(log: &[u8]) -> BmTally
     ensures { λ r. ⌜ r ≡ tallyTold (tallied (recordsIn mostRecords (now (log .entry)))) ⌝ }
@@ -109,7 +110,8 @@ fn paged(refusal: u32, place: u64, tally: DayTally) -> BmTally
     }
 }
 
-// Writes a log's index to the buffer's start; bytes behind it keep their contents. Refused, with the buffer as it was, as `index_building::build_index` refuses.
+// Writes a log's index to the buffer's start; bytes behind it keep their contents. Refused, with the buffer as it was,
+// as `index_building::build_index` refuses.
 #[no_mangle]
 pub extern "C" fn bm_build_index(log: &[u8], buffer: &mut [u8]) -> BmWritten
     ensures { λ r. ⌜ standing r (now (buffer .exit)) ≡ indexLeft (builtOver (now (log .entry)) (now (buffer .entry))) ⌝ }
@@ -118,7 +120,8 @@ pub extern "C" fn bm_build_index(log: &[u8], buffer: &mut [u8]) -> BmWritten
     indexed(built)
 }
 
-// How many answers from record a up to but not including record b were fallbacks; or the number of a refusal, as `fallback_index::count_fallbacks` refuses.
+// How many answers from record a up to but not including record b were fallbacks; or the number of a refusal, as
+// `fallback_index::count_fallbacks` refuses.
 #[no_mangle]
 pub extern "C" fn bm_count_fallbacks(log: &[u8], index: &[u8], a: usize, b: usize) -> BmFallbacks
     ensures { λ r. ⌜ r ≡ fallbacksTold (questionIn (now (log .entry)) (now (index .entry)) a b) ⌝ }
@@ -133,8 +136,8 @@ pub extern "C" fn bm_count_fallbacks(log: &[u8], index: &[u8], a: usize, b: usiz
     }
 }
 
-// Brings the index in the buffer's first `length` bytes up to date for one record more; bytes behind it keep their contents. Refused, with the buffer as it
-// was, as `fallback_index::append_record` refuses.
+// Brings the index in the buffer's first `length` bytes up to date for one record more; bytes behind it keep their
+// contents. Refused, with the buffer as it was, as `fallback_index::append_record` refuses.
 #[no_mangle]
 pub extern "C" fn bm_append_record(
     log: &[u8],
@@ -142,7 +145,8 @@ pub extern "C" fn bm_append_record(
     length: usize,
     record: &[u8],
 ) -> BmWritten
-    ensures { λ r. ⌜ standing r (now (buffer .exit)) ≡ indexLeft (appendedOver (now (log .entry)) (now (buffer .entry)) length (now («record» .entry))) ⌝ }
+    ensures { λ r. ⌜ standing r (now (buffer .exit))
+        ≡ indexLeft (appendedOver (now (log .entry)) (now (buffer .entry)) length (now («record» .entry))) ⌝ }
 {
     let appended = fallback_index::append_record(log, buffer, length, record);
     indexed(appended)

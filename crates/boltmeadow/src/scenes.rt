@@ -38,8 +38,9 @@ pub struct BmWritten {
     pub length: usize,
 }
 
-// A scene's answer: the outcome 1 to 5, the velocity, the cause of the failed line of the last pass run (0 where none failed), its index, the earlier line that
-// the cause names and the line's origin, and the probes of all passes. Beside a refusal all else is 0.
+// A scene's answer: the outcome 1 to 5, the velocity, the cause of the failed line of the last pass run (0 where none
+// failed), its index, the earlier line that the cause names and the line's origin, and the probes of all passes. Beside
+// a refusal all else is 0.
 #[repr(C)]
 pub struct BmAnswer {
     pub refusal: u32,
@@ -69,8 +70,9 @@ pub struct BmScene {
     pub numbers: [u32; 64],
 }
 
-// Answers one scene record: its 18 bytes at the answer's start, bytes behind them keep their contents, and beside them what they do not say of the failed line.
-// Refused, with the answer's bytes as they were, as `records::answer_record` refuses.
+// Answers one scene record: its 18 bytes at the answer's start, bytes behind them keep their contents, and beside them
+// what they do not say of the failed line. Refused, with the answer's bytes as they were, as `records::answer_record`
+// refuses.
 #[no_mangle]
 pub extern "C" fn bm_answer_record(scene: &[u8], answer: &mut [u8]) -> BmAnswer
     ensures { λ r. ⌜ standing r (now (answer .exit)) ≡ answerLeft (sceneAnswerTo (now (scene .entry)) (now (answer .entry))) ⌝ }
@@ -176,8 +178,8 @@ fn cart_of(scene: Scene) -> BmCart
     }
 }
 
-// Writes a scene's record, of version 1, to the buffer's start; bytes behind it keep their contents. Refused, with the buffer as it was, as
-// `scene_writer::write_scene` refuses.
+// Writes a scene's record, of version 1, to the buffer's start; bytes behind it keep their contents. Refused, with the
+// buffer as it was, as `scene_writer::write_scene` refuses.
 #[no_mangle]
 pub extern "C" fn bm_write_scene(
     cart: BmCart,
@@ -189,7 +191,9 @@ pub extern "C" fn bm_write_scene(
     lines: &[f32],
     buffer: &mut [u8],
 ) -> BmWritten
-    ensures { λ r. ⌜ standing r (now (buffer .exit)) ≡ writtenLeft (writtenScene (cartIn cart) obstacles (now (kinds .entry)) (now (counts .entry)) (now (vertices .entry)) neighbours (now (lines .entry)) (now (buffer .entry))) ⌝ }
+    ensures { λ r. ⌜ standing r (now (buffer .exit))
+        ≡ writtenLeft (writtenScene (cartIn cart) obstacles (now (kinds .entry)) (now (counts .entry))
+        (now (vertices .entry)) neighbours (now (lines .entry)) (now (buffer .entry))) ⌝ }
 {
     let whole = cart_in(cart);
     let answer = scene_writer::write_scene(
@@ -229,21 +233,23 @@ fn cart_in(cart: BmCart) -> Cart
     }
 }
 
-// Moves a record of version 1 to version 2 at the buffer's start; bytes behind it keep their contents. Refused, with the buffer as it was, as
-// `scene_moves::to_version_2` refuses.
+// Moves a record of version 1 to version 2 at the buffer's start; bytes behind it keep their contents. Refused, with
+// the buffer as it was, as `scene_moves::to_version_2` refuses.
 #[no_mangle]
 pub extern "C" fn bm_to_version_2(scene: &[u8], buffer: &mut [u8]) -> BmWritten
-    ensures { λ r. ⌜ standing r (now (buffer .exit)) ≡ writtenLeft (movedInto One Two (now (scene .entry)) (now (buffer .entry))) ⌝ }
+    ensures { λ r. ⌜ standing r (now (buffer .exit))
+        ≡ writtenLeft (movedInto One Two (now (scene .entry)) (now (buffer .entry))) ⌝ }
 {
     let moved = scene_moves::to_version_2(scene, buffer);
     written(moved)
 }
 
-// Moves a record of version 2, whose numbers are all 0, back to version 1 at the buffer's start; bytes behind it keep their contents. Refused, with the buffer
-// as it was, as `scene_moves::to_version_1` refuses.
+// Moves a record of version 2, whose numbers are all 0, back to version 1 at the buffer's start; bytes behind it keep
+// their contents. Refused, with the buffer as it was, as `scene_moves::to_version_1` refuses.
 #[no_mangle]
 pub extern "C" fn bm_to_version_1(scene: &[u8], buffer: &mut [u8]) -> BmWritten
-    ensures { λ r. ⌜ standing r (now (buffer .exit)) ≡ writtenLeft (movedInto Two One (now (scene .entry)) (now (buffer .entry))) ⌝ }
+    ensures { λ r. ⌜ standing r (now (buffer .exit))
+        ≡ writtenLeft (movedInto Two One (now (scene .entry)) (now (buffer .entry))) ⌝ }
 {
     let back = scene_moves::to_version_1(scene, buffer);
     written(back)

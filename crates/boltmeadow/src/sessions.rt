@@ -1,5 +1,5 @@
-// A session in four arrays of the caller's (crate `held_sessions`): each call tells 0 and leaves the session that it makes, or the number of its refusal and
-// leaves the arrays as they were.
+// A session in four arrays of the caller's (crate `held_sessions`): each call tells 0 and leaves the session that it
+// makes, or the number of its refusal and leaves the arrays as they were.
 use common::Vec2;
 use session::Session;
 use session::Unmet;
@@ -20,7 +20,8 @@ pub struct BmChanged {
     pub withdrawn: usize,
 }
 
-// The first line of a batch that the session's point does not strictly meet: 1 and the index that it gets, or 0 where there is none.
+// The first line of a batch that the session's point does not strictly meet: 1 and the index that it gets, or 0 where
+// there is none.
 #[repr(C)]
 pub struct BmUnmet {
     pub refusal: u32,
@@ -105,8 +106,8 @@ pub extern "C" fn bm_session_withdraw_in(
     held_sessions::leave(fed, lines, origins, numbers, words)
 }
 
-// The session without the lines at several indices, strictly ascending, and with a batch behind those that are left: whole or not at all
-// (`Session::change`).
+// The session without the lines at several indices, strictly ascending, and with a batch behind those that are left:
+// whole or not at all (`Session::change`).
 #[no_mangle]
 pub extern "C" fn bm_session_change_in(
     lines: &mut [f32; 1024],
@@ -163,7 +164,8 @@ pub extern "C" fn bm_session_first_unmet_in(
     words: &[usize; 8],
     batch: &[f32],
 ) -> BmUnmet
-    ensures { λ r. ⌜ r ≡ unmetTold (unmetAs (sessionIn (block (now (lines .entry)) (now (origins .entry)) (now (numbers .entry)) (now (words .entry))))
+    ensures { λ r. ⌜ r ≡ unmetTold (unmetAs
+        (sessionIn (block (now (lines .entry)) (now (origins .entry)) (now (numbers .entry)) (now (words .entry))))
         (now (batch .entry))) ⌝ }
 {
     let before = held_sessions::session_in(lines, origins, numbers, words);

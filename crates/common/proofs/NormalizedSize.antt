@@ -1,5 +1,6 @@
--- A vector of components up to 4, normalized, has components up to 2, as soon as its squared length is no zero (`normalize-inside`).
--- A component between 2 ^ i and 2 ^ (i + 1) makes the squared length 2 ^ 2i at least, so it is multiplied by 2 ^ -i at most; below 2 ^ -74 it is by 2 ^ 75 at most. Assumes nothing.
+-- A vector of components up to 4, normalized, has components up to 2, as soon as its squared length is no zero
+-- (`normalize-inside`). A component between 2 ^ i and 2 ^ (i + 1) makes the squared length 2 ^ 2i at least, so it is
+-- multiplied by 2 ^ -i at most; below 2 ^ -74 it is by 2 ^ 75 at most. Assumes nothing.
 use mathlib.Core.Path.{_≡_}
 use mathlib.Core.Logic.{_⊎_, inl, inr}
 use Prim.Native.Nat.{ℕ, zero, suc, _+_, _-_, _≤_}
@@ -21,7 +22,8 @@ unfolding ofBits
 one-within = within (lit≤ tt)
 
 -- 1 over a length, from its square
-pub inverse-within : {j : ℕ} {x : Float} (i l : ℕ) → Over j x → Within 276 x → (i + i ≤ j + 149) × (298 ≤ l + i) × (l ≤ 276) → Within l (1ᶠ ⊘ sqrtOf x)
+pub inverse-within : {j : ℕ} {x : Float} (i l : ℕ) → Over j x → Within 276 x → (i + i ≤ j + 149) × (298 ≤ l + i)
+    × (l ≤ 276) → Within l (1ᶠ ⊘ sqrtOf x)
 inverse-within i l h w c = div-within l one-within (over-apart (sqrt-over i h w (c .0))) (omega arith)
 
 -- ---- between two powers of two
@@ -46,7 +48,8 @@ binade {x} j (suc d) f a w = go (within-or-apart (j + d) x f) (binade j d f a)
 
 -- ---- a component over the length: at most 2, where its square reaches the length
 
-module _ (x len : Float) (w : Within 151 x) (o : Over 0 len) (u : Within 276 len) (reaches : (j : ℕ) → 75 ≤ j → Apart j x → Over (j + j - 149) len) where
+module _ (x len : Float) (w : Within 151 x) (o : Over 0 len) (u : Within 276 len) (reaches : (j : ℕ) → 75 ≤ j →
+    Apart j x → Over (j + j - 149) len) where
   component-within : Within 150 (x ⊗ (1ᶠ ⊘ sqrtOf len))
   component-within = go (within-or-apart 75 x (within-finite w))
     where
@@ -67,6 +70,10 @@ length-squared-within h = wider (omega arith) (dot-within 154 h h (omega arith))
 pub normalize-inside : {v : Vec2} → Inside 151 v → Over 0 (lengthSquaredOf v) → Inside 150 (normalizeOf v)
 unfolding normalizeOf mulOf
 normalize-inside {v} h o = record {
-  x-in = component-within (v .x) (lengthSquaredOf v) (h .x-in) o (length-squared-within h) (λ j l a. length-squared-over-x h (j + j - 149) (square-over (j + j - 149) a (within-finite (h .x-in)) (omega arith)));
-  y-in = component-within (v .y) (lengthSquaredOf v) (h .y-in) o (length-squared-within h) (λ j l a. length-squared-over-y h (j + j - 149) (square-over (j + j - 149) a (within-finite (h .y-in)) (omega arith)));
+  x-in = component-within (v .x) (lengthSquaredOf v) (h .x-in) o (length-squared-within h)
+      (λ j l a. length-squared-over-x h (j + j - 149) (square-over (j + j - 149) a (within-finite (h .x-in))
+      (omega arith)));
+  y-in = component-within (v .y) (lengthSquaredOf v) (h .y-in) o (length-squared-within h)
+      (λ j l a. length-squared-over-y h (j + j - 149) (square-over (j + j - 149) a (within-finite (h .y-in))
+      (omega arith)));
 }

@@ -1,5 +1,6 @@
--- The size of a vector is that of both its components, in smallest values (arithmetic's Magnitude/Size), and what each vector operation makes of it.
--- Each proof cites the law of the operation on numbers, for each component. Assumes nothing.
+-- The size of a vector is that of both its components, in smallest values (arithmetic's Magnitude/Size), and what each
+-- vector operation makes of it. Each proof cites the law of the operation on numbers, for each component. Assumes
+-- nothing.
 use mathlib.Core.Path.{_≡_, refl}
 use Prim.Native.Nat.{ℕ, _+_, _-_, _≤_, _<_}
 use native.Mathlib.Omega.{arith}
@@ -32,7 +33,8 @@ pub sub-inside : {j k : ℕ} {a b : Vec2} (l : ℕ) → Inside j a → Inside k 
 unfolding subOf
 sub-inside l h g c = record { x-in = sub-within l (h .x-in) (g .x-in) c; y-in = sub-within l (h .y-in) (g .y-in) c }
 
-pub mul-inside : {j k : ℕ} {a : Vec2} {t : Float} (l : ℕ) → Inside j a → Within k t → (j + k ≤ l + 149) × (l ≤ 276) → Inside l (mulOf a t)
+pub mul-inside : {j k : ℕ} {a : Vec2} {t : Float} (l : ℕ) → Inside j a → Within k t → (j + k ≤ l + 149) × (l ≤ 276) →
+    Inside l (mulOf a t)
 unfolding mulOf
 mul-inside l h g c = record { x-in = mul-within l (h .x-in) g c; y-in = mul-within l (h .y-in) g c }
 
@@ -41,13 +43,17 @@ unfolding perpOf
 perp-inside h = record { x-in = neg-within (h .y-in); y-in = h .x-in }
 
 -- two products, added or subtracted
-pub dot-within : {j k : ℕ} {a b : Vec2} (l : ℕ) → Inside j a → Inside k b → (j + k < l + 149) × (0 < l) × (l ≤ 276) → Within l (dotOf a b)
+pub dot-within : {j k : ℕ} {a b : Vec2} (l : ℕ) → Inside j a → Inside k b → (j + k < l + 149) × (0 < l) × (l ≤ 276) →
+    Within l (dotOf a b)
 unfolding dotOf
-dot-within l h g c = add-within l (mul-within (l - 1) (h .x-in) (g .x-in) (omega arith)) (mul-within (l - 1) (h .y-in) (g .y-in) (omega arith)) (omega arith)
+dot-within l h g c = add-within l (mul-within (l - 1) (h .x-in) (g .x-in) (omega arith))
+    (mul-within (l - 1) (h .y-in) (g .y-in) (omega arith)) (omega arith)
 
-pub determinant-within : {j k : ℕ} {a b : Vec2} (l : ℕ) → Inside j a → Inside k b → (j + k < l + 149) × (0 < l) × (l ≤ 276) → Within l (determinantOf a b)
+pub determinant-within : {j k : ℕ} {a b : Vec2} (l : ℕ) → Inside j a → Inside k b → (j + k < l + 149) × (0 < l)
+    × (l ≤ 276) → Within l (determinantOf a b)
 unfolding determinantOf
-determinant-within l h g c = sub-within l (mul-within (l - 1) (h .x-in) (g .y-in) (omega arith)) (mul-within (l - 1) (h .y-in) (g .x-in) (omega arith)) (omega arith)
+determinant-within l h g c = sub-within l (mul-within (l - 1) (h .x-in) (g .y-in) (omega arith))
+    (mul-within (l - 1) (h .y-in) (g .x-in) (omega arith)) (omega arith)
 
 -- ---- a squared length: written in the one way, and at least the square of either component
 

@@ -5,7 +5,8 @@ use Rattle.common.specs.declared.Times.{Times}
 use Rattle.common.specs.declared.Times.the-variants as times
 use Rattle.common.specs.Vectors.{vec, subOf, divOf, determinantOf}
 
--- by the first line's start as the second's sees it, and both deltas: "Only a determinant of exactly 0 counts as parallel" (02, T-08)
+-- by the first line's start as the second's sees it, and both deltas: "Only a determinant of exactly 0 counts as
+-- parallel" (02, T-08)
 abbrev pub timesBy : Vec2 → Vec2 → Vec2 → Times
 timesBy relative delta1 delta2 =
     if determinantOf delta2 delta1 ≈ᶠ 0ᶠ then times.Parallel

@@ -1,5 +1,6 @@
-// Vectors of two f32, their determinant, and when two lines meet (the Rust's common.rs, and of glam's Vec2 what its three files use).
-// Each operation rounds once, in glam's order, with no fused multiply. Each answers for every f32, a NaN and the infinities too.
+// Vectors of two f32, their determinant, and when two lines meet (the Rust's common.rs, and of glam's Vec2 what its
+// three files use). Each operation rounds once, in glam's order, with no fused multiply. Each answers for every f32, a
+// NaN and the infinities too.
 ghost use mathlib.Core.Path.{_≡_};
 ghost use Rattle.common.specs.Vectors.{vec, addOf, subOf, negOf, mulOf, divOf, dotOf, perpOf, lengthSquaredOf, distanceSquaredOf, normalizeOf, eqOf, determinantOf};
 ghost use Rattle.common.specs.Meetings.{timesOf};
@@ -22,8 +23,8 @@ pub enum Times {
     Parallel,
 }
 
-// The times along both lines at which they meet. They are lines, not segments: a time is any number, below 0 and above 1 too. Only a determinant of exactly 0,
-// of either sign, counts as parallel; where it is a NaN, both times are.
+// The times along both lines at which they meet. They are lines, not segments: a time is any number, below 0 and above
+// 1 too. Only a determinant of exactly 0, of either sign, counts as parallel; where it is a NaN, both times are.
 pub fn time_to_intersect_lines(
     line_1_start: Vec2,
     line_1_end: Vec2,

@@ -30,7 +30,8 @@ use Rattle.compare.specs.Turns.{keptIn, beginning, counted, Advances, Re
 
 -- ---- what is left of a side
 
-module _ (from end count : ℕ) (l out : List ℕ) (within : from ≤ end) (fits : end ≤ length l) (e : kept count out ≡ keptOver from end l) where
+module _ (from end count : ℕ) (l out : List ℕ) (within : from ≤ end) (fits : end ≤ length l) (e : kept count out
+    ≡ keptOver from end l) where
   moved : kept count out ≡ kept (end - from) (shifted from (end - from) l)
   moved = e ∙ kept-there from end l within fits
 
@@ -41,29 +42,43 @@ module _ (from end count : ℕ) (l out : List ℕ) (within : from ≤ end) (fits
   left-kept =
       let n : count ≡ end - from = ap (λ (m : Moved). m .count) moved in
       let sum : from + (end - from) ≡ end = omega arith in
-      rw (ap (λ (m : Moved). m .contents) moved, n) (take-at (take (end - from) (drop from l)) (drop (end - from) l) (end - from) there)
+      rw (ap (λ (m : Moved). m .contents) moved, n) (take-at (take (end - from) (drop from l)) (drop (end - from) l)
+      (end - from) there)
       ∙ sym (ap (λ (m : ℕ). drop from (take m l)) (sym sum) ∙ turns.part-left from (end - from) l (omega arith))
 
   left-fits : length out ≡ length l → count ≤ length out
   left-fits same = omega (arith, ap (λ (m : Moved). m .count) moved)
 
-module _ (before : Reading) (mine : ℕ) (ours : List ℕ) (other : ℕ) (theirs : List ℕ) (p : Progress) (mine-fits : mine ≤ length ours) (other-fits : other ≤ length theirs)
+module _ (before : Reading) (mine : ℕ) (ours : List ℕ) (other : ℕ) (theirs : List ℕ) (p : Progress)
+    (mine-fits : mine ≤ length ours) (other-fits : other ≤ length theirs)
     (e : p ≡ advanced (before .place) (take (mine - 0) ours) (take (other - 0) theirs)) where
   same : p ≡ advanced (before .place) (take mine ours) (take other theirs)
   same = rw (sub-zero mine, sub-zero other) at e
 
-  went-by : (input : List ℕ) → comparedOn (keptIn (counted before mine other) input ours theirs) ≡ steppedBy (leaving (keptIn (counted before mine other) input ours theirs) p) (p .found)
+  went-by : (input : List ℕ) → comparedOn (keptIn (counted before mine other) input ours theirs)
+      ≡ steppedBy (leaving (keptIn (counted before mine other) input ours theirs) p) (p .found)
   unfolding comparedOn
-  went-by input = ap (λ (q : Progress). steppedBy (leaving (keptIn (counted before mine other) input ours theirs) q) (q .found)) (sym same)
+  went-by input = ap (λ (q : Progress). steppedBy (leaving (keptIn (counted before mine other) input ours theirs) q)
+      (q .found)) (sym same)
 
   used : (p .ours ≤ mine) × (p .theirs ≤ other)
   used =
-      let w = used-within (before .place) (take mine ours) (take other theirs) in
-      (omega (arith, w .0, ap (λ (q : Progress). q .ours) same, length-take-le mine ours mine-fits), omega (arith, w .1, ap (λ (q : Progress). q .theirs) same, length-take-le other theirs other-fits))
+      let w = used-within (before .place) (take mine ours) (take other theirs) in (
+        omega (arith, w .0, ap (λ (q : Progress). q .ours) same, length-take-le mine ours mine-fits),
+        omega (arith, w .1, ap (λ (q : Progress). q .theirs) same, length-take-le other theirs other-fits),
+      )
 
   pub ended-advances : {verdict : Compared} → p .found ≡ found.Ended verdict →
       Advances before mine ours other theirs
-      (record { stream = before .stream; ours = mine; theirs = other; more = before .more; place = before .place; found = found.Ended verdict; trouble = before .trouble }) ours theirs
+      (record {
+        stream = before .stream;
+        ours = mine;
+        theirs = other;
+        more = before .more;
+        place = before .place;
+        found = found.Ended verdict;
+        trouble = before .trouble;
+      }) ours theirs
   ended-advances h = record {
     stream = refl;
     ours-fit = mine-fits;
@@ -71,29 +86,49 @@ module _ (before : Reading) (mine : ℕ) (ours : List ℕ) (other : ℕ) (theirs
     went = λ input. sym (went-by input ∙ ap (steppedBy (leaving (keptIn (counted before mine other) input ours theirs) p)) h);
   }
 
-  pub going-advances : p .found ≡ found.Going → (n m : ℕ) (o t : List ℕ) → kept n o ≡ keptOver (p .ours) mine ours → kept m t ≡ keptOver (p .theirs) other theirs →
+  pub going-advances : p .found ≡ found.Going → (n m : ℕ) (o t : List ℕ) → kept n o ≡ keptOver (p .ours) mine ours →
+      kept m t ≡ keptOver (p .theirs) other theirs →
       length o ≡ length ours → length t ≡ length theirs →
       Advances before mine ours other theirs
-      (record { stream = before .stream; ours = n; theirs = m; more = before .more; place = p .place; found = found.Going; trouble = before .trouble }) o t
+      (record {
+        stream = before .stream;
+        ours = n;
+        theirs = m;
+        more = before .more;
+        place = p .place;
+        found = found.Going;
+        trouble = before .trouble;
+      }) o t
   going-advances h n m o t a b c d = record {
     stream = refl;
     ours-fit = left-fits (p .ours) mine n ours o (used .0) mine-fits a c;
     theirs-fit = left-fits (p .theirs) other m theirs t (used .1) other-fits b d;
     went = λ input.
-        rw (left-kept (p .ours) mine n ours o (used .0) mine-fits a, left-kept (p .theirs) other m theirs t (used .1) other-fits b)
+        rw (
+          left-kept (p .ours) mine n ours o (used .0) mine-fits a,
+          left-kept (p .theirs) other m theirs t (used .1) other-fits b,
+        )
         (sym (went-by input ∙ ap (steppedBy (leaving (keptIn (counted before mine other) input ours theirs) p)) h));
   }
 
 -- ---- what was read behind what waits
 
 -- so many bytes of a buffer with a part put behind the first
-take-put : (w n : ℕ) (l part : List ℕ) → w ≤ length l → n ≤ length part → take (w + n) (putMid w (length l - w) l part) ≡ take w l ++ take n part
+take-put : (w n : ℕ) (l part : List ℕ) → w ≤ length l → n ≤ length part → take (w + n) (putMid w (length l - w) l part)
+    ≡ take w l ++ take n part
 take-put w n l part h k =
     take-add w n (putMid w (length l - w) l part)
-    ∙ rw (kept-stays w l part h, drop-at (take w l) (part ++ postOf w (length l - w) l) w (length-take-le w l h), take-append-le n part (postOf w (length l - w) l) k)
+    ∙ rw (
+      kept-stays w l part h,
+      drop-at (take w l) (part ++ postOf w (length l - w) l) w (length-take-le w l h),
+      take-append-le n part (postOf w (length l - w) l) k,
+    )
 
-module _ (before : Reading) (input ours theirs part : List ℕ) (brought : ℕ) (ready : Ready (length input) (length ours) (length theirs) before)
-    (wanted : wants (before .ours) (before .stream .more) ≡ true) (sized : length part ≡ length (midOf (before .stream .kept) (length input - before .stream .kept) input)) (few : brought ≤ length part) where
+module _ (before : Reading) (input ours theirs part : List ℕ) (brought : ℕ) (ready : Ready (length input) (length ours)
+    (length theirs) before)
+    (wanted : wants (before .ours) (before .stream .more) ≡ true) (sized : length part
+    ≡ length (midOf (before .stream .kept) (length input - before .stream .kept) input))
+    (few : brought ≤ length part) where
   -- what the input holds when something was read behind what is kept, and where our answers go
   abbrev filled : List ℕ
   filled = putMid (before .stream .kept) (length input - before .stream .kept) input part
@@ -115,20 +150,35 @@ module _ (before : Reading) (input ours theirs part : List ℕ) (brought : ℕ) 
   room : hasRoomFor (length filled) (length rest) (before .stream .kept) brought ≡ true
   unfolding hasRoomFor
   room =
-      let size : length filled ≡ length input = same-len-mid (before .stream .kept) (length input - before .stream .kept) input part sized in
+      let size : length filled ≡ length input =
+      same-len-mid (before .stream .kept) (length input - before .stream .kept) input part sized in
       let space : length rest ≡ length ours - before .ours = turns.mid-length (before .ours) ours in
-      let lies : before .stream .kept + brought ≤ length input = omega (arith, ready .few, ready .long, sized ∙ turns.mid-length (before .stream .kept) input) in
-      rw (size, space, le-leb (2 * length input + longestAnswer) (length ours - before .ours) (omega (arith, ready .room, short)), le-leb (before .stream .kept + brought) (length input) lies) refl
+      let lies : before .stream .kept + brought ≤ length input = omega (
+        arith,
+        ready .few,
+        ready .long,
+        sized
+            ∙ turns.mid-length (before .stream .kept) input,
+      ) in
+      rw (
+        size,
+        space,
+        le-leb (2 * length input + longestAnswer) (length ours - before .ours)
+            (omega (arith, ready .room, short)),
+        le-leb (before .stream .kept + brought) (length input) lies,
+      ) refl
 
   module _ (next : Stream) (held out : List ℕ) (e : lent next held out ≡ turnOver filled rest (before .stream) brought) where
     abbrev step : Turned
     step = turned (take (before .stream .kept) input) (before .stream .skip) read
 
-    parts : (take (next .put) out ≡ step .answers) × (take (next .kept) held ≡ step .kept) × (next .skip ≡ step .skip) × (next .more ≡ step .more)
+    parts : (take (next .put) out ≡ step .answers) × (take (next .kept) held ≡ step .kept) × (next .skip ≡ step .skip)
+        × (next .more ≡ step .more)
     unfolding read
     parts =
         rw (kept-stays (before .stream .kept) input part (omega (arith, ready .few, ready .long))) at
-        (turns.lent-parts (turned (take (before .stream .kept) filled) (before .stream .skip) read) filled rest held out next (e ∙ turns.stepped filled rest (before .stream) brought room))
+        (turns.lent-parts (turned (take (before .stream .kept) filled) (before .stream .skip) read) filled rest held out
+        next (e ∙ turns.stepped filled rest (before .stream) brought room))
 
     pub put-fits : next .put ≤ length out
     put-fits = turns.put-fits filled rest held out (before .stream) next brought e
@@ -137,12 +187,29 @@ module _ (before : Reading) (input ours theirs part : List ℕ) (brought : ℕ) 
     answered = putMid (before .ours) (length ours - before .ours) ours out
 
     abbrev handed : Reading
-    handed = record { stream = next; ours = before .ours; theirs = before .theirs; more = before .more; place = before .place; found = before .found; trouble = before .trouble }
+    handed = record {
+      stream = next;
+      ours = before .ours;
+      theirs = before .theirs;
+      more = before .more;
+      place = before .place;
+      found = before .found;
+      trouble = before .trouble;
+    }
 
-    kept-same : keptIn (counted handed (before .ours + next .put) (before .theirs)) held answered theirs ≡ withScenes (keptIn before input ours theirs) read
-    kept-same = rw (take-put (before .ours) (next .put) ours out (ready .ours-fit) put-fits, parts .0, parts .1, parts .2, parts .3) refl
+    kept-same : keptIn (counted handed (before .ours + next .put) (before .theirs)) held answered theirs
+        ≡ withScenes (keptIn before input ours theirs) read
+    kept-same = rw (
+      take-put (before .ours) (next .put) ours out (ready .ours-fit) put-fits,
+      parts .0,
+      parts .1,
+      parts .2,
+      parts .3,
+    ) refl
 
-    pub scenes-follow : (r : Reading) (o t : List ℕ) → Advances handed (before .ours + next .put) answered (before .theirs) theirs r o t → Follows before input ours theirs r held o t
+    pub scenes-follow : (r : Reading) (o t : List ℕ) →
+        Advances handed (before .ours + next .put) answered (before .theirs) theirs r o t →
+        Follows before input ours theirs r held o t
     scenes-follow r o t a = of-scenes more-scenes read (a .went held ∙ ap comparedOn kept-same)
 
     module _ (spare : length out ≡ length rest) where
@@ -155,13 +222,19 @@ module _ (before : Reading) (input ours theirs part : List ℕ) (brought : ℕ) 
       pub held-length : length held ≡ length filled → length held ≡ length input
       held-length x = x ∙ same-len-mid (before .stream .kept) (length input - before .stream .kept) input part sized
 
-      pub scenes-ready : (r : Reading) (o t : List ℕ) → Advances handed (before .ours + next .put) answered (before .theirs) theirs r o t →
-          length held ≡ length filled → length o ≡ length answered → length t ≡ length theirs → Ready (length held) (length o) (length t) r
+      pub scenes-ready : (r : Reading) (o t : List ℕ) →
+          Advances handed (before .ours + next .put) answered (before .theirs) theirs r o t →
+          length held ≡ length filled → length o ≡ length answered → length t ≡ length theirs →
+          Ready (length held) (length o) (length t) r
       scenes-ready r o t a x y z = record {
         long = omega (arith, ready .long, held-length x);
         room = omega (arith, ready .room, held-length x, answered-length);
         wide = omega (arith, ready .wide);
-        few = omega (arith, turns.keeps-few filled rest held out (before .stream) next brought e, ap (λ (s : Stream). s .kept) (a .stream));
+        few = omega (
+          arith,
+          turns.keeps-few filled rest held out (before .stream) next brought e,
+          ap (λ (s : Stream). s .kept) (a .stream),
+        );
         ours-fit = a .ours-fit;
         theirs-fit = a .theirs-fit;
       }
@@ -171,25 +244,45 @@ some-brought zero part h = refl
 some-brought (suc n) [] h = absurd (omega arith)
 some-brought (suc n) (b ∷ part) h = lt-ltb 0 (suc n) (omega arith)
 
-module _ (before : Reading) (input ours theirs part : List ℕ) (brought : ℕ) (ready : Ready (length input) (length ours) (length theirs) before) (few : brought ≤ length part) where
+module _ (before : Reading) (input ours theirs part : List ℕ) (brought : ℕ) (ready : Ready (length input) (length ours)
+    (length theirs) before) (few : brought ≤ length part) where
   abbrev filled-theirs : List ℕ
   filled-theirs = putMid (before .theirs) (length theirs - before .theirs) theirs part
 
   abbrev heard : Reading
-  heard = record { stream = before .stream; ours = before .ours; theirs = before .theirs; more = ltb 0 brought; place = before .place; found = before .found; trouble = before .trouble }
+  heard = record {
+    stream = before .stream;
+    ours = before .ours;
+    theirs = before .theirs;
+    more = ltb 0 brought;
+    place = before .place;
+    found = before .found;
+    trouble = before .trouble;
+  }
 
-  kept-heard : keptIn (counted heard (before .ours) (before .theirs + brought)) input ours filled-theirs ≡ withAnswers (keptIn before input ours theirs) (take brought part)
+  kept-heard : keptIn (counted heard (before .ours) (before .theirs + brought)) input ours filled-theirs
+      ≡ withAnswers (keptIn before input ours theirs) (take brought part)
   kept-heard = rw (take-put (before .theirs) brought theirs part (ready .theirs-fit) few, some-brought brought part few) refl
 
-  pub other-fits : length part ≡ length (midOf (before .theirs) (length theirs - before .theirs) theirs) → before .theirs + brought ≤ length filled-theirs
+  pub other-fits : length part ≡ length (midOf (before .theirs) (length theirs - before .theirs) theirs) →
+      before .theirs + brought ≤ length filled-theirs
   other-fits sized =
-      omega (arith, few, sized, turns.mid-length (before .theirs) theirs, same-len-mid (before .theirs) (length theirs - before .theirs) theirs part sized, ready .theirs-fit)
+      omega (
+        arith,
+        few,
+        sized,
+        turns.mid-length (before .theirs) theirs,
+        same-len-mid (before .theirs) (length theirs - before .theirs) theirs part sized,
+        ready .theirs-fit,
+      )
 
-  module _ (r : Reading) (o t : List ℕ) (a : Advances heard (before .ours) ours (before .theirs + brought) filled-theirs r o t) where
+  module _ (r : Reading) (o t : List ℕ)
+      (a : Advances heard (before .ours) ours (before .theirs + brought) filled-theirs r o t) where
     pub answers-follow : Follows before input ours theirs r input o t
     answers-follow = of-answers (take brought part) (a .went input ∙ ap comparedOn kept-heard)
 
-    pub answers-ready : length part ≡ length (midOf (before .theirs) (length theirs - before .theirs) theirs) → length o ≡ length ours → length t ≡ length filled-theirs → Ready (length input) (length o) (length t) r
+    pub answers-ready : length part ≡ length (midOf (before .theirs) (length theirs - before .theirs) theirs) →
+        length o ≡ length ours → length t ≡ length filled-theirs → Ready (length input) (length o) (length t) r
     answers-ready sized y z = record {
       long = ready .long;
       room = omega (arith, ready .room);
@@ -201,12 +294,16 @@ module _ (before : Reading) (input ours theirs part : List ℕ) (brought : ℕ) 
 
 -- ---- the end of a run
 
-module _ (before next : Reading) (input ours theirs : List ℕ) (ready : Ready (length input) (length ours) (length theirs) before) where
-  pub end-follows : (verdict : Compared) → wants (before .ours) (before .stream .more) ≡ false → wants (before .theirs) (before .more) ≡ false →
-      verdict ≡ comparedFrom (before .place) (take (before .ours - 0) ours) (take (before .theirs - 0) theirs) → next .found ≡ found.Ended verdict →
+module _ (before next : Reading) (input ours theirs : List ℕ) (ready : Ready (length input) (length ours)
+    (length theirs) before) where
+  pub end-follows : (verdict : Compared) → wants (before .ours) (before .stream .more) ≡ false →
+      wants (before .theirs) (before .more) ≡ false →
+      verdict ≡ comparedFrom (before .place) (take (before .ours - 0) ours) (take (before .theirs - 0) theirs) →
+      next .found ≡ found.Ended verdict →
       Follows before input ours theirs next input ours theirs
   end-follows verdict a b e h =
-      at-end (rw (length-take-le (before .ours) ours (ready .ours-fit)) a) (rw (length-take-le (before .theirs) theirs (ready .theirs-fit)) b)
+      at-end (rw (length-take-le (before .ours) ours (ready .ours-fit)) a)
+      (rw (length-take-le (before .theirs) theirs (ready .theirs-fit)) b)
       (h ∙ ap found.Ended (rw (sub-zero (before .ours), sub-zero (before .theirs)) at e))
 
 -- ---- buffers and what is kept as they were

@@ -45,14 +45,24 @@ beginning = record {
 
 -- so many bytes of each side
 abbrev pub counted : Reading → ℕ → ℕ → Reading
-counted r mine other = record { stream = r .stream; ours = mine; theirs = other; more = r .more; place = r .place; found = r .found; trouble = r .trouble }
+counted r mine other = record {
+  stream = r .stream;
+  ours = mine;
+  theirs = other;
+  more = r .more;
+  place = r .place;
+  found = r .found;
+  trouble = r .trouble;
+}
 
 -- both sides were compared as far as whole records reach, and what is left of each is kept
-pub record Advances (before : Reading) (mine : ℕ) (ours : List ℕ) (other : ℕ) (theirs : List ℕ) (next : Reading) (mine-then other-then : List ℕ) : Type 0 where
+pub record Advances (before : Reading) (mine : ℕ) (ours : List ℕ) (other : ℕ) (theirs : List ℕ) (next : Reading)
+    (mine-then other-then : List ℕ) : Type 0 where
   pub stream : next .stream ≡ before .stream
   pub ours-fit : next .ours ≤ length mine-then
   pub theirs-fit : next .theirs ≤ length other-then
-  pub went : (input : List ℕ) → steppedBy (keptIn next input mine-then other-then) (next .found) ≡ comparedOn (keptIn (counted before mine other) input ours theirs)
+  pub went : (input : List ℕ) → steppedBy (keptIn next input mine-then other-then) (next .found)
+      ≡ comparedOn (keptIn (counted before mine other) input ours theirs)
 
 -- buffers of which each read may fill 64 KiB and more, with room for all answers to a read behind those that wait
 pub record Ready (input ours theirs : ℕ) (r : Reading) : Type 0 where
@@ -65,15 +75,19 @@ pub record Ready (input ours theirs : ℕ) (r : Reading) : Type 0 where
 
 -- What a turn comes to: a read failed; some read brought scenes or answers, of which one that brought nothing met the end; or
 -- neither side wants more, and the verdict is told.
-pub data Follows (before : Reading) (input ours theirs : List ℕ) (next : Reading) (input-then ours-then theirs-then : List ℕ) : Type 0 where
+pub data Follows (before : Reading) (input ours theirs : List ℕ) (next : Reading)
+    (input-then ours-then theirs-then : List ℕ) : Type 0 where
   scenes-failed : next .trouble ≡ trouble.OfScenes → Follows before input ours theirs next input-then ours-then theirs-then
   answers-failed : next .trouble ≡ trouble.OfAnswers → Follows before input ours theirs next input-then ours-then theirs-then
   of-scenes : before .stream .more ≡ true → (read : List ℕ) →
-      steppedBy (keptIn next input-then ours-then theirs-then) (next .found) ≡ comparedOn (withScenes (keptIn before input ours theirs) read) →
+      steppedBy (keptIn next input-then ours-then theirs-then) (next .found)
+      ≡ comparedOn (withScenes (keptIn before input ours theirs) read) →
       Follows before input ours theirs next input-then ours-then theirs-then
   of-answers : (read : List ℕ) →
-      steppedBy (keptIn next input-then ours-then theirs-then) (next .found) ≡ comparedOn (withAnswers (keptIn before input ours theirs) read) →
+      steppedBy (keptIn next input-then ours-then theirs-then) (next .found)
+      ≡ comparedOn (withAnswers (keptIn before input ours theirs) read) →
       Follows before input ours theirs next input-then ours-then theirs-then
-  at-end : wants (length (take (before .ours) ours)) (before .stream .more) ≡ false → wants (length (take (before .theirs) theirs)) (before .more) ≡ false →
+  at-end : wants (length (take (before .ours) ours)) (before .stream .more) ≡ false →
+      wants (length (take (before .theirs) theirs)) (before .more) ≡ false →
       next .found ≡ found.Ended (comparedFrom (before .place) (take (before .ours) ours) (take (before .theirs) theirs)) →
       Follows before input ours theirs next input-then ours-then theirs-then

@@ -1,6 +1,7 @@
-// Compares a partner's answer records with ours (02, T-09): `compare SCENES ANSWERS` reads both files in turns, answers the scenes as
-// `feed` does, and writes `all agree`, `differs at N` and how, or `refused R at N`. A file that cannot be opened or read is told on
-// standard error by its name, the one sign of it that a program can give: it has no exit status.
+// Compares a partner's answer records with ours (02, T-09): `compare SCENES ANSWERS` reads both files in turns, answers
+// the scenes as `feed` does, and writes `all agree`, `differs at N` and how, or `refused R at N`. A file that cannot be
+// opened or read is told on standard error by its name, the one sign of it that a program can give: it has no exit
+// status.
 use answer_records::Answer;
 use comparison::Compared;
 use comparison::Difference;
@@ -28,8 +29,9 @@ enum Brought {
     Failed,
 }
 
-// What is kept from turn to turn: where the stream of scenes stands, how many bytes of our answers and of theirs wait at the start of
-// their buffers, whether there may be more of theirs, the next place, what was found, and whether a read has failed.
+// What is kept from turn to turn: where the stream of scenes stands, how many bytes of our answers and of theirs wait
+// at the start of their buffers, whether there may be more of theirs, the next place, what was found, and whether a
+// read has failed.
 struct Reading {
     stream: Stream,
     ours: usize,
@@ -75,7 +77,8 @@ fn compare_next(
     before: Reading,
 ) -> Reading
     requires { ⌜ (mine ≤ length (now ours)) × (other ≤ length (now theirs)) ⌝ }
-    ensures { λ r. ⌜ Advances before mine (now (ours .entry)) other (now (theirs .entry)) r (now (ours .exit)) (now (theirs .exit)) ⌝ }
+    ensures { λ r. ⌜ Advances before mine (now (ours .entry)) other (now (theirs .entry)) r (now (ours .exit))
+        (now (theirs .exit)) ⌝ }
 {
     let progress = comparison::advance(&ours[0..mine], &theirs[0..other], before.place);
     let found = progress.found;
@@ -104,8 +107,10 @@ fn scenes_turn(
     file: i32,
     before: Reading,
 ) -> Reading
-    requires { ⌜ Ready (length (now input)) (length (now ours)) (length (now theirs)) before × (wants (before .ours) (before .stream .more) ≡ true) ⌝ }
-    ensures { λ r. ⌜ Follows before (now (input .entry)) (now (ours .entry)) (now (theirs .entry)) r (now (input .exit)) (now (ours .exit)) (now (theirs .exit)) ⌝ }
+    requires { ⌜ Ready (length (now input)) (length (now ours)) (length (now theirs)) before
+        × (wants (before .ours) (before .stream .more) ≡ true) ⌝ }
+    ensures { λ r. ⌜ Follows before (now (input .entry)) (now (ours .entry)) (now (theirs .entry)) r (now (input .exit))
+        (now (ours .exit)) (now (theirs .exit)) ⌝ }
     ensures { λ r. ⌜ Ready (length (now (input .exit))) (length (now (ours .exit))) (length (now (theirs .exit))) r ⌝ }
 {
     let stream = before.stream;
@@ -141,7 +146,8 @@ fn answers_turn(
     before: Reading,
 ) -> Reading
     requires { ⌜ Ready (length (now input)) (length (now ours)) (length (now theirs)) before ⌝ }
-    ensures { λ r. ⌜ Follows before (now (input .entry)) (now (ours .entry)) (now (theirs .entry)) r (now (input .entry)) (now (ours .exit)) (now (theirs .exit)) ⌝ }
+    ensures { λ r. ⌜ Follows before (now (input .entry)) (now (ours .entry)) (now (theirs .entry)) r
+        (now (input .entry)) (now (ours .exit)) (now (theirs .exit)) ⌝ }
     ensures { λ r. ⌜ Ready (length (now (input .entry))) (length (now (ours .exit))) (length (now (theirs .exit))) r ⌝ }
 {
     let waiting = before.theirs;
@@ -166,7 +172,8 @@ fn turn(
     before: Reading,
 ) -> Reading
     requires { ⌜ Ready (length (now input)) (length (now ours)) (length (now theirs)) before ⌝ }
-    ensures { λ r. ⌜ Follows before (now (input .entry)) (now (ours .entry)) (now (theirs .entry)) r (now (input .exit)) (now (ours .exit)) (now (theirs .exit)) ⌝ }
+    ensures { λ r. ⌜ Follows before (now (input .entry)) (now (ours .entry)) (now (theirs .entry)) r (now (input .exit))
+        (now (ours .exit)) (now (theirs .exit)) ⌝ }
     ensures { λ r. ⌜ Ready (length (now (input .exit))) (length (now (ours .exit))) (length (now (theirs .exit))) r ⌝ }
 {
     let mine = before.ours;

@@ -120,7 +120,8 @@ module _ (b rest : List ℕ) (readable : Readable rest) where
   reply-readable : Readable (replyTo b ++ rest)
   reply-readable = read-readable (sceneIn b) refl
 
-refusal-readable : (n : ℕ) → said.isRefusalCode (128 + n) ≡ true → (rest : List ℕ) → Readable rest → Readable (refusalBytes n ++ rest)
+refusal-readable : (n : ℕ) → said.isRefusalCode (128 + n) ≡ true → (rest : List ℕ) → Readable rest →
+    Readable (refusalBytes n ++ rest)
 refusal-readable n coded rest h = refusal-in-front (refusalBytes n) rest h n (refusal-read-back n coded)
 
 -- the answers to a stream, with a log behind them that can be read

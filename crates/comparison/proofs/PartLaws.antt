@@ -65,7 +65,8 @@ module _ (more-ours more-theirs : List ℕ) where
     undecided-both : Carried whole turn.BothEnded
     decided : {w : Turn} → whole ≡ w → Carried whole w
 
-  carried : (o t : List ℕ) (f g : log.Found) → Known o more-ours f → Known t more-theirs g → Carried (turnOf (foundIn (o ++ more-ours)) (foundIn (t ++ more-theirs))) (turnOf f g)
+  carried : (o t : List ℕ) (f g : log.Found) → Known o more-ours f → Known t more-theirs g →
+      Carried (turnOf (foundIn (o ++ more-ours)) (foundIn (t ++ more-theirs))) (turnOf f g)
   carried o t f (log.bad n) p (known e) = decided (ap (turnOf (foundIn (o ++ more-ours))) e)
   carried o t log.ended log.ended p q = undecided-both
   carried o t (log.bad m) log.ended p q = undecided
@@ -75,18 +76,21 @@ module _ (more-ours more-theirs : List ℕ) where
   carried o t (log.entry a j) (log.entry b k) (known d) (known e) = decided {w = turnBy (matchedEntries a b) j k} (rw (d, e))
 
   -- what lies behind a place that is passed
-  behind-resumed : (o t : List ℕ) (j k : ℕ) (s : Stop) → resumed (drop j o) (drop k t) (progressOf s) ≡ resumed o t (progressOf (behind j k s))
+  behind-resumed : (o t : List ℕ) (j k : ℕ) (s : Stop) → resumed (drop j o) (drop k t) (progressOf s)
+      ≡ resumed o t (progressOf (behind j k s))
   behind-resumed o t j k s = rw (drop-drop (s .ours) j o, drop-drop (s .theirs) k t)
 
   module _ (place : ℕ) (o t : List ℕ) where
     abbrev rest : ℕ → ℕ → Compared
     rest j k = comparedFrom (nextPlace place) (drop j (o ++ more-ours)) (drop k (t ++ more-theirs))
 
-    by-turn : {w : Turn} → turnOf (foundIn (o ++ more-ours)) (foundIn (t ++ more-theirs)) ≡ w → comparedFrom place (o ++ more-ours) (t ++ more-theirs) ≡ continued place rest w
+    by-turn : {w : Turn} → turnOf (foundIn (o ++ more-ours)) (foundIn (t ++ more-theirs)) ≡ w →
+        comparedFrom place (o ++ more-ours) (t ++ more-theirs) ≡ continued place rest w
     by-turn e = compared-on place (o ++ more-ours) (t ++ more-theirs) ∙ ap (continued place rest) e
 
     one-step : (next : ℕ → ℕ → Stop) →
-        ((j k : ℕ) → comparedFrom (nextPlace place) (drop j o ++ more-ours) (drop k t ++ more-theirs) ≡ resumed (drop j o) (drop k t) (progressOf (next j k))) →
+        ((j k : ℕ) → comparedFrom (nextPlace place) (drop j o ++ more-ours) (drop k t ++ more-theirs)
+        ≡ resumed (drop j o) (drop k t) (progressOf (next j k))) →
         (w : Turn) → Carried (turnOf (foundIn (o ++ more-ours)) (foundIn (t ++ more-theirs))) w → Moves o t w →
         comparedFrom place (o ++ more-ours) (t ++ more-theirs) ≡ resumed o t (progressOf (passed place next w))
     unfolding foundBy
@@ -101,15 +105,19 @@ module _ (more-ours more-theirs : List ℕ) where
     one-step next same turn.BothEnded p m = refl
     one-step next same (turn.OneEnded d) p m = refl
 
-  walk-cut : (n place : ℕ) (o t : List ℕ) → comparedFrom place (o ++ more-ours) (t ++ more-theirs) ≡ resumed o t (progressOf (walked foundWhole n place o t))
+  walk-cut : (n place : ℕ) (o t : List ℕ) → comparedFrom place (o ++ more-ours) (t ++ more-theirs)
+      ≡ resumed o t (progressOf (walked foundWhole n place o t))
   unfolding walked foundBy
   walk-cut zero place o t = refl
   walk-cut (suc n) place o t =
       one-step place o t _ (λ j k. walk-cut n (nextPlace place) (drop j o) (drop k t)) (turnOf (foundWhole o) (foundWhole t))
-      (carried o t (foundWhole o) (foundWhole t) (whole-known o more-ours) (whole-known t more-theirs)) (moves-on foundWhole whole-sized o t)
+      (carried o t (foundWhole o) (foundWhole t) (whole-known o more-ours) (whole-known t more-theirs))
+      (moves-on foundWhole whole-sized o t)
 
-  -- Where advancing ends, that is the verdict whatever follows; where it does not, the comparison goes on behind the bytes that it used.
-  pub advance-cut : (place : ℕ) (o t : List ℕ) → comparedFrom place (o ++ more-ours) (t ++ more-theirs) ≡ resumed o t (advanced place o t)
+  -- Where advancing ends, that is the verdict whatever follows; where it does not, the comparison goes on behind the
+  -- bytes that it used.
+  pub advance-cut : (place : ℕ) (o t : List ℕ) → comparedFrom place (o ++ more-ours) (t ++ more-theirs)
+      ≡ resumed o t (advanced place o t)
   unfolding advanced firstStop
   advance-cut place o t = walk-cut (suc (length t)) place o t
 
@@ -151,17 +159,23 @@ ended-left o t place w h = record { waiting = λ e. absurd (false≢true (sym h 
 going-left : (o t : List ℕ) (place : ℕ) (w : Turn) → Waiting o t → Left o t (stoppedAt 0 0 place w)
 going-left o t place w h = record { waiting = λ e. h }
 
-behind-left : (o t : List ℕ) (j k : ℕ) (s : Stop) → Left (drop j o) (drop k t) (progressOf s) → Left o t (progressOf (behind j k s))
+behind-left : (o t : List ℕ) (j k : ℕ) (s : Stop) → Left (drop j o) (drop k t) (progressOf s) →
+    Left o t (progressOf (behind j k s))
 behind-left o t j k s h =
-    record { waiting = λ e. ⊎-elim (λ a. inl (rw (drop-drop (s .ours) j o) at a)) (λ b. inr (rw (drop-drop (s .theirs) k t) at b)) (h .waiting e) }
+    record {
+      waiting = λ e. ⊎-elim (λ a. inl (rw (drop-drop (s .ours) j o) at a))
+          (λ b. inr (rw (drop-drop (s .theirs) k t) at b)) (h .waiting e);
+    }
 
-module _ (o t : List ℕ) (place : ℕ) (next : ℕ → ℕ → Stop) (same : (j k : ℕ) → 1 ≤ k → k ≤ length t → Left (drop j o) (drop k t) (progressOf (next j k))) where
+module _ (o t : List ℕ) (place : ℕ) (next : ℕ → ℕ → Stop) (same : (j k : ℕ) → 1 ≤ k → k ≤ length t →
+    Left (drop j o) (drop k t) (progressOf (next j k))) where
   match-left : (j k : ℕ) (m : Matched) → Moves o t (turnBy m j k) → Left o t (progressOf (passed place next (turnBy m j k)))
   unfolding turnBy foundBy
   match-left j k matched.Same (moves a b c d) = behind-left o t j k (next j k) (same j k c d)
   match-left j k (matched.Apart d) m = ended-left o t place (turn.Different d) refl
 
-  turn-left : (f g : log.Found) → Seen o f → Seen t g → Moves o t (turnOf f g) → Left o t (progressOf (passed place next (turnOf f g)))
+  turn-left : (f g : log.Found) → Seen o f → Seen t g → Moves o t (turnOf f g) →
+      Left o t (progressOf (passed place next (turnOf f g)))
   unfolding foundBy
   turn-left log.ended (log.bad n) p q m = ended-left o t place (turn.Unreadable n) refl
   turn-left (log.bad i) (log.bad n) p q m = ended-left o t place (turn.Unreadable n) refl
@@ -181,7 +195,8 @@ walk-left (suc n) place o t h =
     (foundWhole o) (foundWhole t) (whole-seen o) (whole-seen t) (moves-on foundWhole whole-sized o t)
 
 -- Where more is needed, one side at least waits for more of a record, or has none.
-pub going-waits : (place : ℕ) (o t : List ℕ) → advanced place o t .found ≡ found.Going → Waiting (drop (advanced place o t .ours) o) (drop (advanced place o t .theirs) t)
+pub going-waits : (place : ℕ) (o t : List ℕ) → advanced place o t .found ≡ found.Going →
+    Waiting (drop (advanced place o t .ours) o) (drop (advanced place o t .theirs) t)
 unfolding advanced firstStop
 going-waits place o t = walk-left (suc (length t)) place o t (omega arith) .waiting
 
@@ -191,9 +206,13 @@ record Within (o t : List ℕ) (s : Stop) : Type 0 where
   pub ours-fit : s .ours ≤ length o
   pub theirs-fit : s .theirs ≤ length t
 
-passed-within : (o t : List ℕ) (place : ℕ) (next : ℕ → ℕ → Stop) → ((j k : ℕ) → Within (drop j o) (drop k t) (next j k)) → (w : Turn) → Moves o t w → Within o t (passed place next w)
+passed-within : (o t : List ℕ) (place : ℕ) (next : ℕ → ℕ → Stop) → ((j k : ℕ) → Within (drop j o) (drop k t) (next j k))
+    → (w : Turn) → Moves o t w → Within o t (passed place next w)
 passed-within o t place next same (turn.Onward j k) (moves a b c d) =
-    record { ours-fit = omega (arith, same j k .ours-fit, length-drop j o); theirs-fit = omega (arith, same j k .theirs-fit, length-drop k t) }
+    record {
+      ours-fit = omega (arith, same j k .ours-fit, length-drop j o);
+      theirs-fit = omega (arith, same j k .theirs-fit, length-drop k t);
+    }
 passed-within o t place next same (turn.Unreadable n) m = record { ours-fit = omega arith; theirs-fit = omega arith }
 passed-within o t place next same (turn.Different d) m = record { ours-fit = omega arith; theirs-fit = omega arith }
 passed-within o t place next same turn.BothEnded m = record { ours-fit = omega arith; theirs-fit = omega arith }
@@ -203,7 +222,8 @@ walk-within : (n place : ℕ) (o t : List ℕ) → Within o t (walked foundWhole
 unfolding walked
 walk-within zero place o t = record { ours-fit = omega arith; theirs-fit = omega arith }
 walk-within (suc n) place o t =
-    passed-within o t place _ (λ j k. walk-within n (nextPlace place) (drop j o) (drop k t)) (turnOf (foundWhole o) (foundWhole t)) (moves-on foundWhole whole-sized o t)
+    passed-within o t place _ (λ j k. walk-within n (nextPlace place) (drop j o) (drop k t))
+    (turnOf (foundWhole o) (foundWhole t)) (moves-on foundWhole whole-sized o t)
 
 pub used-within : (place : ℕ) (o t : List ℕ) → (advanced place o t .ours ≤ length o) × (advanced place o t .theirs ≤ length t)
 unfolding advanced firstStop

@@ -69,7 +69,8 @@ turn-moves o t (log.entry a j) (log.entry b k) (sized h i) (sized m n) = match-m
 
 -- ---- enough is enough
 
-same-passed : (place : ℕ) (o t : List ℕ) (f g : ℕ → ℕ → Stop) → ((j k : ℕ) → 1 ≤ k → k ≤ length t → f j k ≡ g j k) → (w : Turn) → Moves o t w → passed place f w ≡ passed place g w
+same-passed : (place : ℕ) (o t : List ℕ) (f g : ℕ → ℕ → Stop) → ((j k : ℕ) → 1 ≤ k → k ≤ length t → f j k ≡ g j k) →
+    (w : Turn) → Moves o t w → passed place f w ≡ passed place g w
 same-passed place o t f g same (turn.Onward j k) (moves h i m n) = ap (behind j k) (same j k m n)
 same-passed place o t f g same (turn.Unreadable n) p = refl
 same-passed place o t f g same (turn.Different d) p = refl
@@ -85,14 +86,17 @@ module _ (read : List ℕ → log.Found) (within : (s : List ℕ) → Sized s (r
   enough zero n place o t h k = absurd (omega arith)
   enough (suc m) zero place o t h k = absurd (omega arith)
   enough (suc m) (suc n) place o t h k =
-      same-passed place o t _ _ (λ i l one fits. enough m n (nextPlace place) (drop i o) (drop l t) (omega (arith, length-drop l t)) (omega (arith, length-drop l t)))
+      same-passed place o t _ _ (λ i l one fits. enough m n (nextPlace place) (drop i o) (drop l t)
+      (omega (arith, length-drop l t)) (omega (arith, length-drop l t)))
       (turnOf (read o) (read t)) (moves-on o t)
 
   -- a place, then those behind it
-  pub place-by-place : (place : ℕ) (o t : List ℕ) → firstStop read place o t ≡ passed place (λ j k. firstStop read (nextPlace place) (drop j o) (drop k t)) (turnOf (read o) (read t))
+  pub place-by-place : (place : ℕ) (o t : List ℕ) → firstStop read place o t
+      ≡ passed place (λ j k. firstStop read (nextPlace place) (drop j o) (drop k t)) (turnOf (read o) (read t))
   unfolding firstStop walked
   place-by-place place o t =
-      same-passed place o t _ _ (λ j k one fits. enough (length t) (suc (length (drop k t))) (nextPlace place) (drop j o) (drop k t) (omega (arith, length-drop k t)) (omega arith))
+      same-passed place o t _ _ (λ j k one fits. enough (length t) (suc (length (drop k t))) (nextPlace place)
+      (drop j o) (drop k t) (omega (arith, length-drop k t)) (omega arith))
       (turnOf (read o) (read t)) (moves-on o t)
 
 -- ---- what is told
@@ -104,7 +108,8 @@ continued place next (turn.Different d) = says.Differs place d
 continued place next turn.BothEnded = says.Agree
 continued place next (turn.OneEnded d) = says.Differs place d
 
-told-passed : (place : ℕ) (f : ℕ → ℕ → Stop) (w : Turn) → toldIn (passed place f w .place) (passed place f w .turn) ≡ continued place (λ j k. toldIn (f j k .place) (f j k .turn)) w
+told-passed : (place : ℕ) (f : ℕ → ℕ → Stop) (w : Turn) → toldIn (passed place f w .place) (passed place f w .turn)
+    ≡ continued place (λ j k. toldIn (f j k .place) (f j k .turn)) w
 unfolding toldIn
 told-passed place f (turn.Onward j k) = refl
 told-passed place f (turn.Unreadable n) = refl
@@ -113,7 +118,8 @@ told-passed place f turn.BothEnded = refl
 told-passed place f (turn.OneEnded d) = refl
 
 -- The comparison of two logs is told at its first place, or behind it.
-pub compared-on : (place : ℕ) (o t : List ℕ) → comparedFrom place o t ≡ continued place (λ j k. comparedFrom (nextPlace place) (drop j o) (drop k t)) (turnOf (foundIn o) (foundIn t))
+pub compared-on : (place : ℕ) (o t : List ℕ) → comparedFrom place o t
+    ≡ continued place (λ j k. comparedFrom (nextPlace place) (drop j o) (drop k t)) (turnOf (foundIn o) (foundIn t))
 unfolding comparedFrom
 compared-on place o t =
     ap (λ (s : Stop). toldIn (s .place) (s .turn)) (place-by-place foundIn found-sized place o t)
@@ -145,6 +151,7 @@ module _ (place : ℕ) (next : ℕ → ℕ → Compared) where
   theirs-ends (log.entry a j) log.ended p = refl
 
 -- Where a side has no record at a place, that place is told.
-pub last-place : (place : ℕ) (o t : List ℕ) → Ends (foundIn o) ⊎ Ends (foundIn t) → comparedFrom place o t ≡ toldIn place (turnOf (foundIn o) (foundIn t))
+pub last-place : (place : ℕ) (o t : List ℕ) → Ends (foundIn o) ⊎ Ends (foundIn t) → comparedFrom place o t
+    ≡ toldIn place (turnOf (foundIn o) (foundIn t))
 last-place place o t h =
     compared-on place o t ∙ ⊎-elim (ours-ends place _ (foundIn o) (foundIn t)) (theirs-ends place _ (foundIn o) (foundIn t)) h

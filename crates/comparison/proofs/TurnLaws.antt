@@ -94,14 +94,17 @@ module _ (o t : List ℕ) where
 
     reach-of : (w : Turn) → Moves (drop at o) (drop by t) w → Reaching o t at by (codeAt at by w)
     reach-of (turn.Onward j k) (moves a b c d) =
-        reaching {j = at + j} {k = by + k} (omega arith) (omega (arith, length-drop at o)) (omega arith) (omega (arith, length-drop by t))
+        reaching {j = at + j} {k = by + k} (omega arith) (omega (arith, length-drop at o)) (omega arith)
+        (omega (arith, length-drop by t))
     reach-of (turn.Unreadable n) m = staying refl
     reach-of (turn.Different d) m = staying refl
     reach-of turn.BothEnded m = staying refl
     reach-of (turn.OneEnded d) m = staying refl
 
     pub part-reach : {j k : ℕ} → turn.Onward j k ≡ partTurn o t at by → (by < k) × (k ≤ length t)
-    part-reach p = the-reach (rw (← (p ∙ part-turn)) at (reach-of here-turn (moves-on foundWhole whole-sized (drop at o) (drop by t))))
+    part-reach p =
+        the-reach (rw (← (p ∙ part-turn)) at (reach-of here-turn (moves-on foundWhole whole-sized (drop at o)
+        (drop by t))))
 
     abbrev progressAt : (ℕ → ℕ → Progress) → Turn → Progress
     progressAt next (turn.Onward j k) = next j k
@@ -114,7 +117,8 @@ module _ (o t : List ℕ) where
     onward j k = advancedAt j k (nextPlace place)
 
     progress-at : (w : Turn) →
-        progressOf (behind at by (passed place (λ j k. firstStop foundWhole (nextPlace place) (drop j (drop at o)) (drop k (drop by t))) w)) ≡ progressAt onward (codeAt at by w)
+        progressOf (behind at by (passed place (λ j k. firstStop foundWhole (nextPlace place) (drop j (drop at o))
+        (drop k (drop by t))) w)) ≡ progressAt onward (codeAt at by w)
     progress-at (turn.Onward j k) =
         let s = firstStop foundWhole (nextPlace place) (drop (at + j) o) (drop (by + k) t) in
         rw (drop-drop j at o, drop-drop k by t, ← add-assoc at j (s .ours), ← add-assoc by k (s .theirs))
@@ -156,7 +160,8 @@ told-at place at by (turn.OneEnded d) = refl
 module _ (o t : List ℕ) (place : ℕ) where
   ended-cut : comparedFrom place o t ≡ resumed [] [] o t (advanced place o t)
   ended-cut =
-      ap (λ (l : List ℕ). comparedFrom place l t) (sym (append-nil o)) ∙ ap (comparedFrom place _) (sym (append-nil t)) ∙ advance-cut [] [] place o t
+      ap (λ (l : List ℕ). comparedFrom place l t) (sym (append-nil o)) ∙ ap (comparedFrom place _) (sym (append-nil t))
+      ∙ advance-cut [] [] place o t
 
   module _ {p : Progress} (e : p ≡ advanced place o t) where
     pub ended-told : {verdict : Compared} → p .found ≡ found.Ended verdict → verdict ≡ comparedFrom place o t
@@ -172,4 +177,6 @@ module _ (o t : List ℕ) (place : ℕ) where
         ap (toldIn (p .place)) (turn-at (p .ours) (p .theirs) (foundIn a) (foundIn b))
         ∙ told-at (p .place) (p .ours) (p .theirs) (turnOf (foundIn a) (foundIn b))
         ∙ sym (last-place (p .place) a b (⊎-elim (λ w. inl (waits-ends a w)) (λ w. inr (waits-ends b w)) (rw (← e) at waiting)))
-        ∙ sym (ended-cut ∙ ap (resumed [] [] o t) (sym e) ∙ ap (ifGoing [] [] _) h ∙ ap (λ (l : List ℕ). comparedFrom (p .place) l (b ++ [])) (append-nil a) ∙ ap (comparedFrom (p .place) a) (append-nil b))
+        ∙ sym (ended-cut ∙ ap (resumed [] [] o t) (sym e) ∙ ap (ifGoing [] [] _) h
+        ∙ ap (λ (l : List ℕ). comparedFrom (p .place) l (b ++ [])) (append-nil a)
+        ∙ ap (comparedFrom (p .place) a) (append-nil b))

@@ -66,7 +66,9 @@ passed place next (turn.OneEnded d) = here place (turn.OneEnded d)
 -- the first place that does not agree, where `read` tells what stands at the start of bytes; at most so many places
 unfoldable pub walked : (List ℕ → log.Found) → ℕ → ℕ → List ℕ → List ℕ → Stop
 walked read zero place ours theirs = here place turn.BothEnded
-walked read (suc n) place ours theirs = passed place (λ j k. walked read n (nextPlace place) (drop j ours) (drop k theirs)) (turnOf (read ours) (read theirs))
+walked read (suc n) place ours theirs =
+    passed place (λ j k. walked read n (nextPlace place) (drop j ours) (drop k theirs))
+    (turnOf (read ours) (read theirs))
 
 -- of all places: a record of theirs has a byte at least
 unfoldable pub firstStop : (List ℕ → log.Found) → ℕ → List ℕ → List ℕ → Stop
@@ -74,7 +76,8 @@ firstStop read place ours theirs = walked read (suc (length theirs)) place ours 
 
 -- ---- whole logs
 
--- "reports the first record whose outcome, point, failed line or probe count differs, or that all agree"; no walk stops at a place that agrees
+-- "reports the first record whose outcome, point, failed line or probe count differs, or that all agree"; no walk stops
+-- at a place that agrees
 unfoldable pub toldIn : ℕ → Turn → Compared
 toldIn place (turn.Onward j k) = says.Agree
 toldIn place (turn.Unreadable n) = says.Unreadable n place

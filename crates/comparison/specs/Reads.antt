@@ -1,4 +1,5 @@
--- Two files compared read by read: what is kept between two reads, and where a read leads (02, T-09). Definitions only. Assumes nothing.
+-- Two files compared read by read: what is kept between two reads, and where a read leads (02, T-09). Definitions only.
+-- Assumes nothing.
 use Prim.Native.Nat.{ℕ}
 use mathlib.Core.Path.{_≡_}
 use mathlib.Core.Bool.{Bool, true, false, _&&_}
@@ -13,8 +14,8 @@ use Rattle.comparison.specs.declared.Found.the-variants as found
 use Rattle.comparison.specs.declared.Progress.{Progress}
 use Rattle.comparison.specs.Comparing.{comparedFrom, advanced}
 
--- what is kept between two reads: bytes of the scenes, as `records` keeps them, and whether there may be more of them; our answers
--- and theirs that are not compared yet, and whether there may be more of theirs; the next place
+-- what is kept between two reads: bytes of the scenes, as `records` keeps them, and whether there may be more of them;
+-- our answers and theirs that are not compared yet, and whether there may be more of theirs; the next place
 pub record Kept : Type 0 where
   pub scenes : List ℕ
   pub skip : ℕ
@@ -89,13 +90,18 @@ wants waiting more = ltb waiting longestAnswer && more
 -- A run over what is left of both files, however it is cut into reads, and the verdict that it tells: reads of either file in any
 -- order, of which one that brings nothing has met that file's end; and the end of the run, where neither side wants more.
 pub data Runs : Kept → List ℕ → List ℕ → Compared → Type 0 where
-  scenes-told : {k : Kept} {read rest scenes answers : List ℕ} {verdict : Compared} → k .moreScenes ≡ true → scenes ≡ read ++ rest → (read ≡ [] → rest ≡ []) →
+  scenes-told : {k : Kept} {read rest scenes answers : List ℕ} {verdict : Compared} → k .moreScenes ≡ true →
+      scenes ≡ read ++ rest → (read ≡ [] → rest ≡ []) →
       comparedOn (withScenes k read) ≡ told verdict → Runs k scenes answers verdict
-  scenes-on : {k next : Kept} {read rest scenes answers : List ℕ} {verdict : Compared} → k .moreScenes ≡ true → scenes ≡ read ++ rest → (read ≡ [] → rest ≡ []) →
+  scenes-on : {k next : Kept} {read rest scenes answers : List ℕ} {verdict : Compared} → k .moreScenes ≡ true →
+      scenes ≡ read ++ rest → (read ≡ [] → rest ≡ []) →
       comparedOn (withScenes k read) ≡ goesOn next → Runs next rest answers verdict → Runs k scenes answers verdict
-  answers-told : {k : Kept} {read rest scenes answers : List ℕ} {verdict : Compared} → answers ≡ read ++ rest → (read ≡ [] → rest ≡ []) →
+  answers-told : {k : Kept} {read rest scenes answers : List ℕ} {verdict : Compared} → answers ≡ read ++ rest →
+      (read ≡ [] → rest ≡ []) →
       comparedOn (withAnswers k read) ≡ told verdict → Runs k scenes answers verdict
-  answers-on : {k next : Kept} {read rest scenes answers : List ℕ} {verdict : Compared} → answers ≡ read ++ rest → (read ≡ [] → rest ≡ []) →
+  answers-on : {k next : Kept} {read rest scenes answers : List ℕ} {verdict : Compared} → answers ≡ read ++ rest →
+      (read ≡ [] → rest ≡ []) →
       comparedOn (withAnswers k read) ≡ goesOn next → Runs next scenes rest verdict → Runs k scenes answers verdict
-  enough : {k : Kept} {scenes answers : List ℕ} → wants (length (k .ours)) (k .moreScenes) ≡ false → wants (length (k .theirs)) (k .moreAnswers) ≡ false →
+  enough : {k : Kept} {scenes answers : List ℕ} → wants (length (k .ours)) (k .moreScenes) ≡ false →
+      wants (length (k .theirs)) (k .moreAnswers) ≡ false →
       Runs k scenes answers (comparedFrom (k .place) (k .ours) (k .theirs))

@@ -21,8 +21,8 @@ pub enum Difference {
     NoneOfTheirs,
 }
 
-// What a comparison tells: all places agree; the first place that differs, and how; or the number of an unreadable answer's fault,
-// and its place. Places are counted from 0.
+// What a comparison tells: all places agree; the first place that differs, and how; or the number of an unreadable
+// answer's fault, and its place. Places are counted from 0.
 pub enum Compared {
     Agree,
     Differs(u64, Difference),
@@ -92,9 +92,9 @@ pub fn advance(ours: &[u8], theirs: &[u8], place: u64) -> Progress
     }
 }
 
-// Compares what is left of both logs where both have ended, the first record of each at the place; of the whole logs and from place
-// 0, all of it. A missing, a surplus and a differing record is told by its place; an unreadable answer of theirs by its fault (1 or
-// 2) and its place, before a difference at the same place.
+// Compares what is left of both logs where both have ended, the first record of each at the place; of the whole logs
+// and from place 0, all of it. A missing, a surplus and a differing record is told by its place; an unreadable answer
+// of theirs by its fault (1 or 2) and its place, before a difference at the same place.
 pub fn finish(ours: &[u8], theirs: &[u8], place: u64) -> Compared
     ensures { λ r. ⌜ r ≡ comparedFrom place (now (ours .entry)) (now (theirs .entry)) ⌝ }
 {

@@ -62,8 +62,7 @@ module _ (to : Version) (s out : List ℕ) (p : Place) (room : Room s out p) whe
         room = record {
           inside = omega (arith, room .inside);
           fits = rw size h;
-          wide =
-              rw size (omega (arith, room .wide, room .fits));
+          wide = rw size (omega (arith, room .wide, room .fits));
         };
         sized = size;
         behind = put-behind (p .put) t out h;

@@ -181,8 +181,7 @@ told to input output before read =
     if-all Told (hasRoom (length input) (length output) (before .kept) read)
     (record {
       fits = rw length-append (omega arith);
-      short =
-          kept-short to (take (before .kept) input) (before .place) (take read (drop (before .kept) input));
+      short = kept-short to (take (before .kept) input) (before .place) (take read (drop (before .kept) input));
     })
     (record { fits = omega arith; short = omega arith })
 

@@ -31,8 +31,7 @@ goingOn s w =
       bytes = w .bytes;
       kept = if isOpen (w .stage) then drop (w .used) s else [];
       place = w .place;
-      stage =
-          w .stage;
+      stage = w .stage;
     }
 
 -- what a read brings goes behind what was kept; one that brings nothing has met the stream's end

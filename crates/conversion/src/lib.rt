@@ -73,7 +73,8 @@ pub fn start() -> Stream
 // kept. A read that brought nothing has met the end: bytes that were kept are a record cut short (2). Where the input
 // does not hold so many bytes, or the output has not two for each of the input's, nothing is done.
 pub fn turn(input: &mut [u8], output: &mut [u8], before: Stream, read: usize, to: Version) -> Stream
-    ensures { λ r. ⌜ lent r (now (input .exit)) (now (output .exit)) ≡ turnOver to (now (input .entry)) (now (output .entry)) before read ⌝ }
+    ensures { λ r. ⌜ lent r (now (input .exit)) (now (output .exit))
+        ≡ turnOver to (now (input .entry)) (now (output .entry)) before read ⌝ }
 {
     let kept = before.kept;
     let place = before.place;

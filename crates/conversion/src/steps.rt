@@ -15,7 +15,8 @@ ghost use Rattle.conversion.specs.Steps.{steppedOf, stepOver};
 
 // Moves the record at a place behind those that stand. There are two bytes of room for each that is left.
 pub(crate) fn step(input: &[u8], output: &mut [u8], at: Place, to: Version) -> Step
-    requires { ⌜ (at .used ≤ length (now input)) × (at .put ≤ length (now output)) × (2 * (length (now input) - at .used) ≤ length (now output) - at .put) ⌝ }
+    requires { ⌜ (at .used ≤ length (now input)) × (at .put ≤ length (now output))
+        × (2 * (length (now input) - at .used) ≤ length (now output) - at .put) ⌝ }
     ensures { λ r. ⌜ steppedOf r (now (output .exit)) ≡ stepOver to (now (input .entry)) (now (output .entry)) at ⌝ }
 {
     let used = at.used;

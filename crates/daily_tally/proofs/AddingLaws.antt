@@ -40,7 +40,8 @@ sized-fold t s (e ∷ l) = sized-fold (added t e) (sized-added t e s) l
 
 -- ---- a figure that each record raises by a number of its own
 
-fold-figure : (figure : DayTally → ℕ) (number : Entry → ℕ) → ((t : DayTally) (e : Entry) → Sized t → figure (added t e) ≡ figure t + number e) →
+fold-figure : (figure : DayTally → ℕ) (number : Entry → ℕ) →
+    ((t : DayTally) (e : Entry) → Sized t → figure (added t e) ≡ figure t + number e) →
     (t : DayTally) → Sized t → (l : List Entry) → figure (foldl added t l) ≡ figure t + sumOf number l
 unfolding sumOf
 fold-figure figure number step t s [] = sym (add-zero (figure t))
@@ -53,7 +54,8 @@ fold-figure figure number step t s (e ∷ l) =
 one-more-as : (l : List ℕ) (k c : ℕ) → c < length l → (b : Bool) → eqb k c ≡ b → getD (oneMore plain l k) c 0 ≡ getD l c 0 + one b
 unfolding one if_then_else_
 one-more-as l k c h true e = rw (eqb-true k c e) (getD-set-same l c (getD l c 0 + 1) 0 h)
-one-more-as l k c h false e = getD-set-other l k c (getD l k 0 + 1) 0 (λ p. false≢true (sym e ∙ eq-eqb k c (sym p))) ∙ sym (add-zero (getD l c 0))
+one-more-as l k c h false e =
+    getD-set-other l k c (getD l k 0 + 1) 0 (λ p. false≢true (sym e ∙ eq-eqb k c (sym p))) ∙ sym (add-zero (getD l c 0))
 
 one-more : (l : List ℕ) (k c : ℕ) → c < length l → getD (oneMore plain l k) c 0 ≡ getD l c 0 + one (eqb k c)
 one-more l k c h = one-more-as l k c h (eqb k c) refl
@@ -83,7 +85,8 @@ nothing-sized = record { six = length-below 6 _; sixteen = length-below 16 _ }
 pub record Counts (array : DayTally → List ℕ) (is : ℕ → Entry → Bool) (n : ℕ) : Type 0 where
   pub at-first : array (tallyOf []) ≡ below n (λ c. countOf (is c) [])
   pub sized : (t : DayTally) → Sized t → length (array t) ≡ n
-  pub step : (c : ℕ) → c < n → (t : DayTally) (e : Entry) → Sized t → getD (array (added t e)) c 0 ≡ getD (array t) c 0 + one (is c e)
+  pub step : (c : ℕ) → c < n → (t : DayTally) (e : Entry) → Sized t → getD (array (added t e)) c 0
+      ≡ getD (array t) c 0 + one (is c e)
 
 module _ {array : DayTally → List ℕ} {is : ℕ → Entry → Bool} {n : ℕ} (k : Counts array is n) where
   none-counted : (c : ℕ) → c < n → getD (array (tallyOf [])) c 0 ≡ 0
@@ -99,13 +102,15 @@ module _ {array : DayTally → List ℕ} {is : ℕ → Entry → Bool} {n : ℕ}
   all-counted : (l : List Entry) → array (foldl added (tallyOf []) l) ≡ below n (λ c. countOf (is c) l)
   all-counted l =
       let size = k .sized (foldl added (tallyOf []) l) (sized-fold (tallyOf []) nothing-sized l) in
-      ext-getD 0 _ _ (size ∙ sym (length-below n _)) (λ c h. let low : c < n = omega (arith, size) in counted c low l ∙ sym (below-at n (λ c. countOf (is c) l) c low))
+      ext-getD 0 _ _ (size ∙ sym (length-below n _)) (λ c h. let low : c < n = omega (arith, size) in counted c low l
+      ∙ sym (below-at n (λ c. countOf (is c) l) c low))
 
 outcomes-count : Counts (λ t. t .outcomes) isOutcome 6
 unfolding tallyOf withOutcome withRefusal one if_then_else_
 outcomes-count = record { at-first = refl; sized = λ t s. s .six; step = step }
   where
-    step : (c : ℕ) → c < 6 → (t : DayTally) (e : Entry) → Sized t → getD (added t e .outcomes) c 0 ≡ getD (t .outcomes) c 0 + one (isOutcome c e)
+    step : (c : ℕ) → c < 6 → (t : DayTally) (e : Entry) → Sized t → getD (added t e .outcomes) c 0
+        ≡ getD (t .outcomes) c 0 + one (isOutcome c e)
     step c h t (outcome a) s = one-more (t .outcomes) (a .code) c (omega (arith, s .six))
     step c h t (refusal n) s = sym (add-zero (getD (t .outcomes) c 0))
 
@@ -113,7 +118,8 @@ refusals-count : Counts (λ t. t .refusals) isRefusal 16
 unfolding tallyOf withOutcome withRefusal one if_then_else_
 refusals-count = record { at-first = refl; sized = λ t s. s .sixteen; step = step }
   where
-    step : (c : ℕ) → c < 16 → (t : DayTally) (e : Entry) → Sized t → getD (added t e .refusals) c 0 ≡ getD (t .refusals) c 0 + one (isRefusal c e)
+    step : (c : ℕ) → c < 16 → (t : DayTally) (e : Entry) → Sized t → getD (added t e .refusals) c 0
+        ≡ getD (t .refusals) c 0 + one (isRefusal c e)
     step c h t (outcome a) s = sym (add-zero (getD (t .refusals) c 0))
     step c h t (refusal n) s = one-more (t .refusals) n c (omega (arith, s .sixteen))
 
@@ -132,8 +138,10 @@ failed-step t (refusal n) s = sym (add-zero (t .failed))
 max-assoc : (a b c : ℕ) → max (max a b) c ≡ max a (max b c)
 max-assoc a b c =
     le-antisymm
-    (max-le (max-le (le-max-left a (max b c)) (le-trans (le-max-left b c) (le-max-right a (max b c)))) (le-trans (le-max-right b c) (le-max-right a (max b c))))
-    (max-le (le-trans (le-max-left a b) (le-max-left (max a b) c)) (max-le (le-trans (le-max-right a b) (le-max-left (max a b) c)) (le-max-right (max a b) c)))
+    (max-le (max-le (le-max-left a (max b c)) (le-trans (le-max-left b c) (le-max-right a (max b c))))
+    (le-trans (le-max-right b c) (le-max-right a (max b c))))
+    (max-le (le-trans (le-max-left a b) (le-max-left (max a b) c))
+    (max-le (le-trans (le-max-right a b) (le-max-left (max a b) c)) (le-max-right (max a b) c)))
 
 largest-step : (t : DayTally) (e : Entry) → added t e .largest ≡ max (t .largest) (probesOf e)
 unfolding withOutcome withRefusal
@@ -144,7 +152,8 @@ largest-fold : (t : DayTally) (l : List Entry) → foldl added t l .largest ≡ 
 unfolding largestOf
 largest-fold t [] = sym (max-zero (t .largest))
 largest-fold t (e ∷ l) =
-    largest-fold (added t e) l ∙ ap (λ (x : ℕ). max x (largestOf probesOf l)) (largest-step t e) ∙ max-assoc (t .largest) (probesOf e) (largestOf probesOf l)
+    largest-fold (added t e) l ∙ ap (λ (x : ℕ). max x (largestOf probesOf l)) (largest-step t e)
+    ∙ max-assoc (t .largest) (probesOf e) (largestOf probesOf l)
 
 -- ---- all of them
 
@@ -159,7 +168,8 @@ module _ (l : List Entry) where
 
   failed-fold : foldl added (tallyOf []) l .failed ≡ countOf namesFailed l
   unfolding tallyOf countOf sumOf
-  failed-fold = fold-figure (λ t. t .failed) (λ e. one (namesFailed e)) failed-step (tallyOf []) nothing-sized l ∙ zero-add (sumOf (λ e. one (namesFailed e)) l)
+  failed-fold = fold-figure (λ t. t .failed) (λ e. one (namesFailed e)) failed-step (tallyOf []) nothing-sized l
+      ∙ zero-add (sumOf (λ e. one (namesFailed e)) l)
 
   pub tally-fold : foldl added (tallyOf []) l ≡ tallyOf l
   unfolding tallyOf
@@ -200,8 +210,18 @@ module _ (place : ℕ) (t : DayTally) (kept : Kept place t) where
   kept-added e h =
       record {
         arrays = sized-added t e (kept .arrays);
-        outcomes-most = λ c k. omega (arith, outcomes-count .step c k t e (kept .arrays), one-most (isOutcome c e), kept .outcomes-most c k);
-        refusals-most = λ c k. omega (arith, refusals-count .step c k t e (kept .arrays), one-most (isRefusal c e), kept .refusals-most c k);
+        outcomes-most = λ c k. omega (
+          arith,
+          outcomes-count .step c k t e (kept .arrays),
+          one-most (isOutcome c e),
+          kept .outcomes-most c k,
+        );
+        refusals-most = λ c k. omega (
+          arith,
+          refusals-count .step c k t e (kept .arrays),
+          one-most (isRefusal c e),
+          kept .refusals-most c k,
+        );
         probes-most = omega (arith, probes-step t e (kept .arrays), kept .probes-most);
         failed-most = omega (arith, failed-step t e (kept .arrays), one-most (namesFailed e), kept .failed-most);
       }
@@ -214,7 +234,8 @@ module _ (place : ℕ) (t : DayTally) (kept : Kept place t) where
     unwrapped-outcome a k small =
         let counted : getD (t .outcomes) (a .code) 0 + 1 < 2 ^ 64 = omega (arith, kept .outcomes-most (a .code) k) in
         let summed : t .probes + a .probes < 2 ^ 64 = omega (arith, kept .probes-most) in
-        let named : t .failed + one (not (eqb (a .failed) noFailedLine)) < 2 ^ 64 = omega (arith, kept .failed-most, one-most (not (eqb (a .failed) noFailedLine))) in
+        let named : t .failed + one (not (eqb (a .failed) noFailedLine)) < 2 ^ 64 =
+        omega (arith, kept .failed-most, one-most (not (eqb (a .failed) noFailedLine))) in
         rw (mod-eq-of-lt counted, mod-eq-of-lt summed, mod-eq-of-lt named)
 
     pub unwrapped-refusal : (n : ℕ) → n < 16 → withRefusal sum64 t n ≡ withRefusal plain t n

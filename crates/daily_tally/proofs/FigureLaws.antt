@@ -66,7 +66,8 @@ none-larger number l = up number l (largestOf number l) (omega arith)
   where
     up : (number : Entry → ℕ) (l : List Entry) (top : ℕ) → largestOf number l ≤ top → All (λ e. number e ≤ top) l
     up number [] top h = none
-    up number (e ∷ l) top h = more (le-trans (le-max-left (number e) (largestOf number l)) h) (up number l top (le-trans (le-max-right (number e) (largestOf number l)) h))
+    up number (e ∷ l) top h = more (le-trans (le-max-left (number e) (largestOf number l)) h)
+        (up number l top (le-trans (le-max-right (number e) (largestOf number l)) h))
 
 pub largest-least : (number : Entry → ℕ) (l : List Entry) (top : ℕ) → All (λ e. number e ≤ top) l → largestOf number l ≤ top
 unfolding largestOf
@@ -75,5 +76,6 @@ largest-least number (e ∷ l) top (more h hs) = max-le h (largest-least number 
 
 -- ---- any two outcomes agree
 
-pub tallies-agree : (most : ℕ) (log : List ℕ) {first second : Tallied} → first ≡ tallied (recordsIn most log) → second ≡ tallied (recordsIn most log) → first ≡ second
+pub tallies-agree : (most : ℕ) (log : List ℕ) {first second : Tallied} → first ≡ tallied (recordsIn most log) →
+    second ≡ tallied (recordsIn most log) → first ≡ second
 tallies-agree most log p q = agree p q

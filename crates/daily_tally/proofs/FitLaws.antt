@@ -37,7 +37,8 @@ all-refused (e ∷ l) n place = rw (all-refused l n place)
 
 good-closing : (most n place : ℕ) (w : Wholes) → GoodWholes most w → GoodRecords most (closing n place w)
 good-closing most n place (reached l used) (good-reached h gs) =
-    if-all (λ (end : Records). GoodRecords most (aheadAll l end)) (ltb used n) (rw (all-refused l 2 (place + length l)) good-refused) (rw (all-whole l) (good-whole h gs))
+    if-all (λ (end : Records). GoodRecords most (aheadAll l end)) (ltb used n)
+    (rw (all-refused l 2 (place + length l)) good-refused) (rw (all-whole l) (good-whole h gs))
 good-closing most n place (stopped m p) good-stopped = good-refused
 
 -- so many at most, and each of them good
@@ -53,7 +54,8 @@ module _ (most : ℕ) (log : List ℕ) (bytes : AllBytes log) {l : List Entry} (
   unfolding recordsIn
   fits-within =
       let w = wholesFrom most 0 log in
-      fits-of (rw (sym (closed most 0 log) ∙ e) at (good-closing most (length log) 0 w (good-wholes most 0 log (bytes-small most 0 log bytes))))
+      fits-of (rw (sym (closed most 0 log)
+      ∙ e) at (good-closing most (length log) 0 w (good-wholes most 0 log (bytes-small most 0 log bytes))))
 
 -- ---- their sum
 
@@ -63,7 +65,8 @@ sum-most [] none = omega arith
 sum-most (e ∷ l) (more g gs) = omega (arith, good-small e g, sum-most l gs)
 
 -- at most 2^32 - 1 records of at most 2^32 - 1 probes: their sum is below 2^64
-pub tally-fits : (log : List ℕ) → AllBytes log → {l : List Entry} → recordsIn mostRecords log ≡ whole l → tallyOf l .probes < 2 ^ 64
+pub tally-fits : (log : List ℕ) → AllBytes log → {l : List Entry} → recordsIn mostRecords log ≡ whole l →
+    tallyOf l .probes < 2 ^ 64
 unfolding tallyOf
 tally-fits log bytes {l} e = let f = fits-within mostRecords log bytes e in omega (arith, f .few, sum-most l (f .all-good))
 
@@ -77,15 +80,19 @@ none-pass test fails (e ∷ l) (more g gs) = rw (fails e g, zero-add) (none-pass
 module _ (most : ℕ) (log : List ℕ) (bytes : AllBytes log) {l : List Entry} (e : recordsIn most log ≡ whole l) where
   -- a code that is no outcome's, and a number that is no refusal's
   pub no-such-outcome : (code : ℕ) → code < 6 → (lengthOfCode code ≡ outcomeLength → ⊥) → getD (tallyOf l .outcomes) code 0 ≡ 0
-  no-such-outcome code h other = outcomes-are l code h ∙ none-pass (isOutcome code) unlike l (fits-within most log bytes e .all-good)
+  no-such-outcome code h other = outcomes-are l code h
+      ∙ none-pass (isOutcome code) unlike l (fits-within most log bytes e .all-good)
     where
       unlike : (x : Entry) → Good x → isOutcome code x ≡ false
       unlike (outcome a) (good-outcome p q) = ne-eqb (a .code) code (λ same. other (sym (ap lengthOfCode same) ∙ p))
       unlike (refusal n) g = refl
 
-  pub no-such-refusal : (number : ℕ) → number < 16 → (lengthOfCode (128 + number) ≡ refusalLength → ⊥) → getD (tallyOf l .refusals) number 0 ≡ 0
-  no-such-refusal number h other = refusals-are l number h ∙ none-pass (isRefusal number) unlike l (fits-within most log bytes e .all-good)
+  pub no-such-refusal : (number : ℕ) → number < 16 → (lengthOfCode (128 + number) ≡ refusalLength → ⊥) →
+      getD (tallyOf l .refusals) number 0 ≡ 0
+  no-such-refusal number h other = refusals-are l number h
+      ∙ none-pass (isRefusal number) unlike l (fits-within most log bytes e .all-good)
     where
       unlike : (x : Entry) → Good x → isRefusal number x ≡ false
       unlike (outcome a) g = refl
-      unlike (refusal n) (good-refusal p) = ne-eqb n number (λ same. other (sym (ap (λ (k : ℕ). lengthOfCode (128 + k)) same) ∙ p))
+      unlike (refusal n) (good-refusal p) =
+          ne-eqb n number (λ same. other (sym (ap (λ (k : ℕ). lengthOfCode (128 + k)) same) ∙ p))

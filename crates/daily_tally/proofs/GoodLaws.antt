@@ -56,29 +56,38 @@ pub data GoodWholes (left : ℕ) : Wholes → Type 0 where
   good-reached : {l : List Entry} {used : ℕ} → length l ≤ left → All Good l → GoodWholes left (reached l used)
   good-stopped : {n place : ℕ} → GoodWholes left (stopped n place)
 
-good-ahead : (left : ℕ) (e : Entry) (size : ℕ) (w : Wholes) → (probesOf e < 2 ^ 32 → Good e) → (largestIn w < 2 ^ 32 → GoodWholes left w) → largestIn (aheadWhole e size w) < 2 ^ 32 → GoodWholes (suc left) (aheadWhole e size w)
+good-ahead : (left : ℕ) (e : Entry) (size : ℕ) (w : Wholes) → (probesOf e < 2 ^ 32 → Good e) →
+    (largestIn w < 2 ^ 32 → GoodWholes left w) → largestIn (aheadWhole e size w) < 2 ^ 32 →
+    GoodWholes (suc left) (aheadWhole e size w)
 unfolding largestOf
 good-ahead left e size (reached l used) here there h =
     let small : probesOf e < 2 ^ 32 = omega (arith, le-max-left (probesOf e) (largestOf probesOf l)) in
     let others : largestOf probesOf l < 2 ^ 32 = omega (arith, le-max-right (probesOf e) (largestOf probesOf l)) in
     with-it (there others) (here small)
   where
-    with-it : {left : ℕ} {e : Entry} {l : List Entry} {used more : ℕ} → GoodWholes left (reached l used) → Good e → GoodWholes (suc left) (reached (e ∷ l) more)
+    with-it : {left : ℕ} {e : Entry} {l : List Entry} {used more : ℕ} → GoodWholes left (reached l used) → Good e →
+        GoodWholes (suc left) (reached (e ∷ l) more)
     with-it {e = e} {l = l} (good-reached k gs) g = good-reached {l = e ∷ l} (omega arith) (more g gs)
 good-ahead left e size (stopped n p) here there h = good-stopped
 
-good-onward : (left place : ℕ) (rest : ℕ → Wholes) → ((size : ℕ) → largestIn (rest size) < 2 ^ 32 → GoodWholes left (rest size)) → (f : Found) → Named f → largestIn (onwardWhole place rest f) < 2 ^ 32 → GoodWholes (suc left) (onwardWhole place rest f)
+good-onward : (left place : ℕ) (rest : ℕ → Wholes) → ((size : ℕ) → largestIn (rest size) < 2 ^ 32 →
+    GoodWholes left (rest size)) → (f : Found) → Named f → largestIn (onwardWhole place rest f) < 2 ^ 32 →
+    GoodWholes (suc left) (onwardWhole place rest f)
 good-onward left place rest there ended named-end h = good-reached {l = []} (omega arith) none
 good-onward left place rest there (bad n) named-bad h = good-stopped
-good-onward left place rest there (entry (outcome a) size) (named-outcome e) h = good-ahead left (outcome a) size (rest size) (λ p. good-outcome e p) (there size) h
-good-onward left place rest there (entry (refusal n) size) (named-refusal e) h = good-ahead left (refusal n) size (rest size) (λ p. good-refusal e) (there size) h
+good-onward left place rest there (entry (outcome a) size) (named-outcome e) h =
+    good-ahead left (outcome a) size (rest size) (λ p. good-outcome e p) (there size) h
+good-onward left place rest there (entry (refusal n) size) (named-refusal e) h =
+    good-ahead left (refusal n) size (rest size) (λ p. good-refusal e) (there size) h
 
-pub good-wholes : (left place : ℕ) (s : List ℕ) → largestIn (wholesFrom left place s) < 2 ^ 32 → GoodWholes left (wholesFrom left place s)
+pub good-wholes : (left place : ℕ) (s : List ℕ) → largestIn (wholesFrom left place s) < 2 ^ 32 →
+    GoodWholes left (wholesFrom left place s)
 unfolding wholesFrom foundWhole
 good-wholes zero place [] h = good-reached {l = []} (omega arith) none
 good-wholes zero place (x ∷ s) h = good-stopped
 good-wholes (suc left) place s h =
-    good-onward left place _ (λ size. good-wholes left (place + 1) (drop size s)) (foundWhole s) (if-all Named (waits s) named-end (named s)) h
+    good-onward left place _ (λ size. good-wholes left (place + 1) (drop size s)) (foundWhole s)
+    (if-all Named (waits s) named-end (named s)) h
 
 -- ---- a part of bytes
 
@@ -100,10 +109,13 @@ word-small : (s : List ℕ) (at : ℕ) → AllBytes s → wordOf s at < 2 ^ 32
 unfolding wordOf
 word-small s at h = omega (arith, h at, h (at + 1), h (at + 2), h (at + 3))
 
-reply-small : (size : ℕ) (s : List ℕ) (f : Fault) → AllBytes s → probesFound (foundAs size (unlessFault said.unreadable f (if eqb (pairOf s 0) outcomeLength then said.outcome (outcomeIn s) else said.refusal (getD s 3 0 - refusedCode)))) < 2 ^ 32
+reply-small : (size : ℕ) (s : List ℕ) (f : Fault) → AllBytes s →
+    probesFound (foundAs size (unlessFault said.unreadable f (if eqb (pairOf s 0) outcomeLength then said.outcome
+    (outcomeIn s) else said.refusal (getD s 3 0 - refusedCode)))) < 2 ^ 32
 unfolding outcomeIn
 reply-small size s (fault n) h = omega arith
-reply-small size s fine h = if-all (λ (r : Said). probesFound (foundAs size r) < 2 ^ 32) (eqb (pairOf s 0) outcomeLength) (word-small s 14 h) (omega arith)
+reply-small size s fine h = if-all (λ (r : Said). probesFound (foundAs size r) < 2 ^ 32)
+    (eqb (pairOf s 0) outcomeLength) (word-small s 14 h) (omega arith)
 
 found-small : (s : List ℕ) → AllBytes s → probesFound (foundIn s) < 2 ^ 32
 unfolding foundIn answerIn
@@ -112,7 +124,8 @@ found-small (x ∷ s) h =
     let part = take (sizeIn (x ∷ s)) (x ∷ s) in
     reply-small (sizeIn (x ∷ s)) part (answerFault part) (take-bytes (sizeIn (x ∷ s)) (x ∷ s) h)
 
-onward-small : (place : ℕ) (rest : ℕ → Wholes) → ((size : ℕ) → largestIn (rest size) < 2 ^ 32) → (f : Found) → probesFound f < 2 ^ 32 → largestIn (onwardWhole place rest f) < 2 ^ 32
+onward-small : (place : ℕ) (rest : ℕ → Wholes) → ((size : ℕ) → largestIn (rest size) < 2 ^ 32) → (f : Found) →
+    probesFound f < 2 ^ 32 → largestIn (onwardWhole place rest f) < 2 ^ 32
 unfolding largestOf
 onward-small place rest there ended h = omega arith
 onward-small place rest there (bad n) h = omega arith

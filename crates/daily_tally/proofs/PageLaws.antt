@@ -46,24 +46,33 @@ on-ahead-all t (e ∷ l) w = on-ahead t e (aheadAll l w) ∙ on-ahead-all (added
 
 -- ---- nothing wraps
 
-unwrapped : (place : ℕ) (t : DayTally) → Kept place t → place < 4294967295 → (e : Entry) → Good e → withEntry sum64 t e ≡ added t e
-unwrapped place t kept h (outcome a) (good-outcome e k) = unwrapped-outcome place t kept h a (omega (arith, outcome-code (a .code) e .1)) k
-unwrapped place t kept h (refusal n) (good-refusal e) = unwrapped-refusal place t kept h n (omega (arith, refusal-code (128 + n) e .1))
+unwrapped : (place : ℕ) (t : DayTally) → Kept place t → place < 4294967295 → (e : Entry) → Good e → withEntry sum64 t e
+    ≡ added t e
+unwrapped place t kept h (outcome a) (good-outcome e k) =
+    unwrapped-outcome place t kept h a (omega (arith, outcome-code (a .code) e .1)) k
+unwrapped place t kept h (refusal n) (good-refusal e) =
+    unwrapped-refusal place t kept h n (omega (arith, refusal-code (128 + n) e .1))
 
 record Folded (place : ℕ) (t : DayTally) (l : List Entry) : Type 0 where
   same : foldl (withEntry sum64) t l ≡ foldl added t l
   kept : Kept (place + length l) (foldl added t l)
 
-folded : (place : ℕ) (t : DayTally) → Kept place t → (l : List Entry) → All Good l → place + length l ≤ 4294967295 → Folded place t l
+folded : (place : ℕ) (t : DayTally) → Kept place t → (l : List Entry) → All Good l → place + length l ≤ 4294967295 →
+    Folded place t l
 folded place t kept [] none h = record { same = refl; kept = rw (add-zero place) kept }
 folded place t kept (e ∷ l) (more g gs) h =
     let rest = folded (place + 1) (added t e) (kept-added place t kept e (good-small e g)) l gs (omega arith) in
     let next : place + suc (length l) ≡ place + 1 + length l = omega arith in
-    record { same = ap (λ (x : DayTally). foldl (withEntry sum64) x l) (unwrapped place t kept (omega arith) e g) ∙ rest .same; kept = rw next (rest .kept) }
+    record {
+      same = ap (λ (x : DayTally). foldl (withEntry sum64) x l) (unwrapped place t kept (omega arith) e g)
+          ∙ rest .same;
+      kept = rw next (rest .kept);
+    }
 
 -- ---- the log's end
 
-end-as : (b : Bool) (place : ℕ) (t : DayTally) → endedAs walked.Whole b place t ≡ onTop t (if b then refusedAt 2 place else whole [])
+end-as : (b : Bool) (place : ℕ) (t : DayTally) → endedAs walked.Whole b place t
+    ≡ onTop t (if b then refusedAt 2 place else whole [])
 unfolding if_then_else_
 end-as true place t = refl
 end-as false place t = refl
@@ -79,13 +88,16 @@ module _ (most : ℕ) (limit : most ≤ mostRecords) (place : ℕ) (t : DayTally
       ∙ sym (on-ahead-all t l (if ltb used n then refusedAt 2 (place + length l) else whole []))
   finish-as n (stopped m p) good-stopped = refl
 
-  finish-told : (s : List ℕ) → largestIn (wholesFrom (most - place) place s) < 2 ^ 32 → finished most s place t ≡ onTop t (recordsFrom (most - place) place s)
+  finish-told : (s : List ℕ) → largestIn (wholesFrom (most - place) place s) < 2 ^ 32 → finished most s place t
+      ≡ onTop t (recordsFrom (most - place) place s)
   unfolding finished advanced
   finish-told s small =
-      finish-as (length s) (wholesFrom (most - place) place s) (good-wholes (most - place) place s small) ∙ sym (ap (onTop t) (closed (most - place) place s))
+      finish-as (length s) (wholesFrom (most - place) place s) (good-wholes (most - place) place s small)
+      ∙ sym (ap (onTop t) (closed (most - place) place s))
 
 -- a log lent whole
-pub whole-told : (most : ℕ) → most ≤ mostRecords → (s : List ℕ) → largestIn (wholesFrom (most - 0) 0 s) < 2 ^ 32 → finished most s 0 (tallyOf []) ≡ tallied (recordsIn most s)
+pub whole-told : (most : ℕ) → most ≤ mostRecords → (s : List ℕ) → largestIn (wholesFrom (most - 0) 0 s) < 2 ^ 32 →
+    finished most s 0 (tallyOf []) ≡ tallied (recordsIn most s)
 unfolding recordsIn
 whole-told most limit s small =
     finish-told most limit 0 (tallyOf []) kept-nothing (omega arith) s small
@@ -101,7 +113,8 @@ abbrev pub paged : ℕ → List ℕ → ℕ → DayTally → List (List ℕ) →
 paged most left place t [] = finished most left place t
 paged most left place t (r ∷ reads) =
     pageAs (advanced most (left ++ r) place t .walked)
-    (paged most (drop (advanced most (left ++ r) place t .used) (left ++ r)) (advanced most (left ++ r) place t .place) (advanced most (left ++ r) place t .tally) reads)
+    (paged most (drop (advanced most (left ++ r) place t .used) (left ++ r)) (advanced most (left ++ r) place t .place)
+    (advanced most (left ++ r) place t .tally) reads)
 
 abbrev pub together : List (List ℕ) → List ℕ
 together [] = []
@@ -110,11 +123,14 @@ together (r ∷ reads) = r ++ together reads
 module _ (most : ℕ) (limit : most ≤ mostRecords) where
   -- what the reads behind a part tell, on top of any tally that records gave
   abbrev Tell : List (List ℕ) → Type 0
-  Tell reads = (left : List ℕ) (place : ℕ) (t : DayTally) → Kept place t → place ≤ most → AllBytes left → paged most left place t reads ≡ onTop t (recordsFrom (most - place) place (left ++ together reads))
+  Tell reads = (left : List ℕ) (place : ℕ) (t : DayTally) → Kept place t → place ≤ most → AllBytes left →
+      paged most left place t reads ≡ onTop t (recordsFrom (most - place) place (left ++ together reads))
 
-  module _ (place : ℕ) (t : DayTally) (kept : Kept place t) (h : place ≤ most) (s : List ℕ) (bytes : AllBytes s) (reads : List (List ℕ)) (rest : Tell reads) where
+  module _ (place : ℕ) (t : DayTally) (kept : Kept place t) (h : place ≤ most) (s : List ℕ) (bytes : AllBytes s)
+      (reads : List (List ℕ)) (rest : Tell reads) where
     page-as : (w : Wholes) → GoodWholes (most - place) w →
-        pageAs (progress 0 place t w .walked) (paged most (drop (progress 0 place t w .used) s) (progress 0 place t w .place) (progress 0 place t w .tally) reads) ≡
+        pageAs (progress 0 place t w .walked) (paged most (drop (progress 0 place t w .used) s)
+        (progress 0 place t w .place) (progress 0 place t w .tally) reads) ≡
         onTop t (joinedTo (most - place) place s (together reads) w)
     unfolding going stoppedAt
     page-as (reached l used) (good-reached k gs) =
@@ -136,13 +152,16 @@ module _ (most : ℕ) (limit : most ≤ mostRecords) where
       let s = left ++ r in
       let both = append-bytes left r bytes b in
       let w = wholesFrom (most - place) place s in
-      page-as place t kept h s both reads (page-told reads bs) w (good-wholes (most - place) place s (bytes-small (most - place) place s both))
+      page-as place t kept h s both reads (page-told reads bs) w
+      (good-wholes (most - place) place s (bytes-small (most - place) place s both))
       ∙ sym (ap (onTop t) (cut-anywhere (most - place) place s (together reads)))
       ∙ ap (λ (x : List ℕ). onTop t (recordsFrom (most - place) place x)) (append-assoc left r (together reads))
 
   -- from no records on: whatever the reads, the page is the tally of the whole log
-  pub any-reads : (reads : List (List ℕ)) → All AllBytes reads → paged most [] 0 (tallyOf []) reads ≡ tallied (recordsIn most (together reads))
+  pub any-reads : (reads : List (List ℕ)) → All AllBytes reads → paged most [] 0 (tallyOf []) reads
+      ≡ tallied (recordsIn most (together reads))
   unfolding recordsIn
   any-reads reads bytes =
       page-told reads bytes [] 0 (tallyOf []) kept-nothing (omega arith) (λ i. omega arith)
-      ∙ ap (λ (n : ℕ). onTop (tallyOf []) (recordsFrom n 0 (together reads))) (sub-zero most) ∙ sym (on-nothing (recordsFrom most 0 (together reads)))
+      ∙ ap (λ (n : ℕ). onTop (tallyOf []) (recordsFrom n 0 (together reads))) (sub-zero most)
+      ∙ sym (on-nothing (recordsFrom most 0 (together reads)))

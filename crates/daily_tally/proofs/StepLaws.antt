@@ -32,7 +32,8 @@ use Rattle.daily_tally.specs.Steps.{wholeWithin, probesAt, stepBy, stepp
 data Within (left : ℕ) (s : List ℕ) (at : ℕ) : Logged → Type 0 where
   none : Within left s at logged.End
   faulty : {n : ℕ} → Within left s at (logged.Fault n)
-  answered : {a : Answer} {behind : ℕ} → 0 < left → at < behind → behind ≤ length s → a .code < 6 → Within left s at (logged.Outcome a behind)
+  answered : {a : Answer} {behind : ℕ} → 0 < left → at < behind → behind ≤ length s → a .code < 6 →
+      Within left s at (logged.Outcome a behind)
   declined : {n behind : ℕ} → 0 < left → at < behind → behind ≤ length s → n < 16 → Within left s at (logged.Refusal n behind)
 
 code-of : {left : ℕ} {s : List ℕ} {at : ℕ} {a : Answer} {behind : ℕ} → Within left s at (logged.Outcome a behind) → a .code < 6
@@ -45,8 +46,10 @@ module _ (left : ℕ) (s : List ℕ) (at : ℕ) where
   within-stands : 0 < left → (w : Logged) → Stands s at w → Within left s at w
   within-stands h (logged.End) no-record = none
   within-stands h (logged.Fault n) bad-record = faulty
-  within-stands h (logged.Outcome a behind) (an-outcome p q e) = answered {a = a} h p q (omega (arith, outcome-code (a .code) e .1))
-  within-stands h (logged.Refusal n behind) (a-refusal p q e) = declined {n = n} h p q (omega (arith, refusal-code (128 + n) e .1))
+  within-stands h (logged.Outcome a behind) (an-outcome p q e) =
+      answered {a = a} h p q (omega (arith, outcome-code (a .code) e .1))
+  within-stands h (logged.Refusal n behind) (a-refusal p q e) =
+      declined {n = n} h p q (omega (arith, refusal-code (128 + n) e .1))
 
   within : Within left s at (wholeWithin left s at)
   unfolding wholeWithin
@@ -63,15 +66,19 @@ module _ (left : ℕ) (s : List ℕ) (at : ℕ) where
 -- ---- the records from a byte on, by the one that stands there
 
 module _ (place : ℕ) (s : List ℕ) (at : ℕ) where
-  at-limit : (more : ℕ → Wholes) (b : Bool) → ltb at (length s) ≡ b → wholesFrom 0 place (drop at s) ≡ onwardAt at place more (if b then logged.Fault 4 else logged.End)
+  at-limit : (more : ℕ → Wholes) (b : Bool) → ltb at (length s) ≡ b → wholesFrom 0 place (drop at s)
+      ≡ onwardAt at place more (if b then logged.Fault 4 else logged.End)
   unfolding if_then_else_
   at-limit more true e = one-too-many place s at (ltb-true at (length s) e)
   at-limit more false e = just-enough place s at (ltb-false at (length s) e)
 
-  next-within : (left : ℕ) → wholesFrom left place (drop at s) ≡ onwardAt at place (λ behind. wholesFrom (left - 1) (place + 1) (drop behind s)) (wholeWithin left s at)
+  next-within : (left : ℕ) → wholesFrom left place (drop at s)
+      ≡ onwardAt at place (λ behind. wholesFrom (left - 1) (place + 1) (drop behind s)) (wholeWithin left s at)
   unfolding wholeWithin if_then_else_
   next-within zero = at-limit _ (ltb at (length s)) refl
-  next-within (suc left) = let less : suc left - 1 ≡ left = omega arith in rw (lt-ltb 0 (suc left) (omega arith), less) (next-whole place s at left)
+  next-within (suc left) =
+      let less : suc left - 1 ≡ left = omega arith in
+      rw (lt-ltb 0 (suc left) (omega arith), less) (next-whole place s at left)
 
 -- ---- what a step met
 
@@ -94,7 +101,8 @@ pub record Moved (left place : ℕ) (s : List ℕ) (at : ℕ) (t : DayTally) (r 
   pub here : Entry
   pub counted : r .tally ≡ withEntry sum64 t here
   pub small : probesOf here < 2 ^ 32
-  pub walks : wholesFrom left place (drop at s) ≡ aheadWhole here (r .behind - at) (wholesFrom (left - 1) (place + 1) (drop (r .behind) s))
+  pub walks : wholesFrom left place (drop at s)
+      ≡ aheadWhole here (r .behind - at) (wholesFrom (left - 1) (place + 1) (drop (r .behind) s))
 
 pub step-by : (left : ℕ) (s : List ℕ) (at : ℕ) (t : DayTally) {w : Logged} → w ≡ wholeWithin left s at → probesAt w < 2 ^ 32 →
     (stepBy at t w ≡ stepped left s at t) × (probesAt (wholeWithin left s at) < 2 ^ 32)
@@ -114,7 +122,8 @@ module _ (left place : ℕ) (s : List ℕ) (at : ℕ) (t : DayTally) where
   by-met (logged.Outcome a behind) = refl
   by-met (logged.Refusal n behind) = refl
 
-  moved-as : (w : Logged) → Within left s at w → probesAt w < 2 ^ 32 → here ≡ onwardAt at place rest w → isRecord (stepBy at t w .met) ≡ true → Moved left place s at t (stepBy at t w)
+  moved-as : (w : Logged) → Within left s at w → probesAt w < 2 ^ 32 → here ≡ onwardAt at place rest w →
+      isRecord (stepBy at t w .met) ≡ true → Moved left place s at t (stepBy at t w)
   moved-as (logged.End) none f e h = absurd (false≢true h)
   moved-as (logged.Fault n) faulty f e h = absurd (false≢true h)
   moved-as (logged.Outcome a behind) (answered l p q c) f e h =
@@ -138,11 +147,13 @@ module _ (left place : ℕ) (s : List ℕ) (at : ℕ) (t : DayTally) where
     pub met-record : r .met ≡ met.Record → probesAt (wholeWithin left s at) < 2 ^ 32 → Moved left place s at t r
     unfolding stepped
     met-record e f =
-        rw p (moved-as (wholeWithin left s at) (within left s at) f (next-within place s at left) (ap (λ (x : Step). isRecord (x .met)) (sym p) ∙ ap isRecord e))
+        rw p (moved-as (wholeWithin left s at) (within left s at) f (next-within place s at left)
+        (ap (λ (x : Step). isRecord (x .met)) (sym p) ∙ ap isRecord e))
 
 -- ---- one record more
 
-progress-ahead : (at place : ℕ) (t : DayTally) (e : Entry) (size : ℕ) (w : Wholes) → progress at place t (aheadWhole e size w) ≡ progress (at + size) (place + 1) (withEntry sum64 t e) w
+progress-ahead : (at place : ℕ) (t : DayTally) (e : Entry) (size : ℕ) (w : Wholes) →
+    progress at place t (aheadWhole e size w) ≡ progress (at + size) (place + 1) (withEntry sum64 t e) w
 progress-ahead at place t e size (reached l used) =
     let behind : at + (size + used) ≡ at + size + used = omega arith in
     let next : place + suc (length l) ≡ place + 1 + length l = omega arith in
@@ -156,7 +167,8 @@ progress-none at place t =
     let next : place + 0 ≡ place = omega arith in
     ap (λ (n : ℕ). going n (place + 0) t) used ∙ ap (λ (n : ℕ). going at n t) next
 
-pub largest-ahead : (e : Entry) (size : ℕ) (w : Wholes) → probesOf e < 2 ^ 32 → largestIn w < 2 ^ 32 → largestIn (aheadWhole e size w) < 2 ^ 32
+pub largest-ahead : (e : Entry) (size : ℕ) (w : Wholes) → probesOf e < 2 ^ 32 → largestIn w < 2 ^ 32 →
+    largestIn (aheadWhole e size w) < 2 ^ 32
 unfolding largestOf
 largest-ahead e size (reached l used) h k =
     let one : probesOf e ≤ 4294967295 = omega arith in
@@ -168,7 +180,8 @@ module _ (most place : ℕ) (s : List ℕ) (at : ℕ) (t : DayTally) (r : Step) 
   less : most - place - 1 ≡ most - (place + 1)
   less = omega arith
 
-  pub goes-on : progress at place t (wholesFrom (most - place) place (drop at s)) ≡ progress (r .behind) (place + 1) (r .tally) (wholesFrom (most - (place + 1)) (place + 1) (drop (r .behind) s))
+  pub goes-on : progress at place t (wholesFrom (most - place) place (drop at s))
+      ≡ progress (r .behind) (place + 1) (r .tally) (wholesFrom (most - (place + 1)) (place + 1) (drop (r .behind) s))
   goes-on =
       let behind : at + (r .behind - at) ≡ r .behind = omega (arith, m .onward) in
       let rest = wholesFrom (most - place - 1) (place + 1) (drop (r .behind) s) in
@@ -177,7 +190,8 @@ module _ (most place : ℕ) (s : List ℕ) (at : ℕ) (t : DayTally) (r : Step) 
       ∙ ap (λ (x : DayTally). progress (r .behind) (place + 1) x rest) (sym (m .counted))
       ∙ ap (λ (n : ℕ). progress (r .behind) (place + 1) (r .tally) (wholesFrom n (place + 1) (drop (r .behind) s))) less
 
-  pub stays-small : largestIn (wholesFrom (most - (place + 1)) (place + 1) (drop (r .behind) s)) < 2 ^ 32 → largestIn (wholesFrom (most - place) place (drop at s)) < 2 ^ 32
+  pub stays-small : largestIn (wholesFrom (most - (place + 1)) (place + 1) (drop (r .behind) s)) < 2 ^ 32 →
+      largestIn (wholesFrom (most - place) place (drop at s)) < 2 ^ 32
   stays-small h =
       let rest = wholesFrom (most - place - 1) (place + 1) (drop (r .behind) s) in
       rw (m .walks) (largest-ahead (m .here) (r .behind - at) rest (m .small) (rw less h))

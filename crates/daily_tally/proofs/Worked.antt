@@ -38,21 +38,23 @@ unfolding figures
 two-records = refl
 
 -- a line that failed is counted whatever the outcome
-answer-with-line : tallied (recordsIn mostRecords (0 ∷ 16 ∷ 1 ∷ 1 ∷ 0 ∷ 0 ∷ 0 ∷ 0 ∷ 0 ∷ 0 ∷ 0 ∷ 0 ∷ 0 ∷ 3 ∷ 0 ∷ 0 ∷ 0 ∷ 9 ∷ [])) ≡ record {
-  walked = walked.Whole;
-  tally = record {
-    outcomes = 0 ∷ 1 ∷ 0 ∷ 0 ∷ 0 ∷ 0 ∷ [];
-    refusals = 0 ∷ 0 ∷ 0 ∷ 0 ∷ 0 ∷ 0 ∷ 0 ∷ 0 ∷ 0 ∷ 0 ∷ 0 ∷ 0 ∷ 0 ∷ 0 ∷ 0 ∷ 0 ∷ [];
-    probes = 9;
-    largest = 9;
-    failed = 1;
-  };
-}
+answer-with-line : tallied (recordsIn mostRecords (0 ∷ 16 ∷ 1 ∷ 1 ∷ 0 ∷ 0 ∷ 0 ∷ 0 ∷ 0 ∷ 0 ∷ 0 ∷ 0 ∷ 0 ∷ 3 ∷ 0 ∷ 0 ∷ 0
+    ∷ 9 ∷ [])) ≡ record {
+      walked = walked.Whole;
+      tally = record {
+        outcomes = 0 ∷ 1 ∷ 0 ∷ 0 ∷ 0 ∷ 0 ∷ [];
+        refusals = 0 ∷ 0 ∷ 0 ∷ 0 ∷ 0 ∷ 0 ∷ 0 ∷ 0 ∷ 0 ∷ 0 ∷ 0 ∷ 0 ∷ 0 ∷ 0 ∷ 0 ∷ 0 ∷ [];
+        probes = 9;
+        largest = 9;
+        failed = 1;
+      };
+    }
 unfolding figures
 answer-with-line = refl
 
 -- no figure is told beside a refusal, and its place is the record's; at the limit 1 the second record is refused with 4
-bad-second : tallied (recordsIn mostRecords (anAnswer ++ (0 ∷ 2 ∷ 2 ∷ 129 ∷ []))) ≡ record { walked = walked.Refused 1 1; tally = tallyOf [] }
+bad-second : tallied (recordsIn mostRecords (anAnswer ++ (0 ∷ 2 ∷ 2 ∷ 129 ∷ [])))
+    ≡ record { walked = walked.Refused 1 1; tally = tallyOf [] }
 unfolding figures
 bad-second = refl
 

@@ -49,7 +49,8 @@ unfoldable pub below : ℕ → (ℕ → ℕ) → List ℕ
 below zero figure = []
 below (suc n) figure = figure 0 ∷ below n (λ k. figure (suc k))
 
--- "how many answers of each outcome, how many refusals of each number, the sum and the largest of the probes, and how many answers name a failed line"
+-- "how many answers of each outcome, how many refusals of each number, the sum and the largest of the probes, and how
+-- many answers name a failed line"
 unfoldable pub tallyOf : List Entry → DayTally
 tallyOf l = record {
   outcomes = below 6 (λ code. countOf (isOutcome code) l);

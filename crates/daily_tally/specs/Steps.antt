@@ -1,4 +1,5 @@
--- The tally of a log that comes in parts: a step over a part with the tally so far, and the log's end (02, T-02). Definitions only. Assumes nothing.
+-- The tally of a log that comes in parts: a step over a part with the tally so far, and the log's end (02, T-02).
+-- Definitions only. Assumes nothing.
 use Prim.Native.Nat.{ℕ, _+_, _-_}
 use mathlib.Core.Bool.{Bool, true, false}
 use mathlib.Core.List.{List, [], foldl}

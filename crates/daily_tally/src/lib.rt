@@ -94,7 +94,8 @@ struct Step {
 
 // `advance` of a log that may have so many records. Its probes being of 32 bits, no total from an empty tally on wraps.
 fn advance_within(part: &[u8], place: u64, tally: DayTally, most: u64) -> Progress
-    ensures { λ r. ⌜ (r ≡ advanced most (now (part .entry)) place tally) × (largestIn (wholesFrom (most - place) place (now (part .entry))) < 2 ^ 32) ⌝ }
+    ensures { λ r. ⌜ (r ≡ advanced most (now (part .entry)) place tally)
+        × (largestIn (wholesFrom (most - place) place (now (part .entry))) < 2 ^ 32) ⌝ }
 {
     let none = nothing();
     let mut sum = tally;
@@ -121,7 +122,8 @@ fn advance_within(part: &[u8], place: u64, tally: DayTally, most: u64) -> Progre
 
 // `finish` of a log that may have so many records.
 fn finish_within(rest: &[u8], place: u64, tally: DayTally, most: u64) -> Tallied
-    ensures { λ r. ⌜ (r ≡ finished most (now (rest .entry)) place tally) × (largestIn (wholesFrom (most - place) place (now (rest .entry))) < 2 ^ 32) ⌝ }
+    ensures { λ r. ⌜ (r ≡ finished most (now (rest .entry)) place tally)
+        × (largestIn (wholesFrom (most - place) place (now (rest .entry))) < 2 ^ 32) ⌝ }
 {
     let none = nothing();
     let progress = advance_within(rest, place, tally, most);
@@ -148,7 +150,8 @@ fn left(place: u64, most: u64) -> u64
 
 // The record at a byte of a part, counted, where so many more may begin.
 fn count_at(part: &[u8], at: usize, tally: DayTally, left: u64) -> Step
-    ensures { λ r. ⌜ (r ≡ stepped left (now (part .entry)) at tally) × (probesAt (wholeWithin left (now (part .entry)) at) < 2 ^ 32) ⌝ }
+    ensures { λ r. ⌜ (r ≡ stepped left (now (part .entry)) at tally)
+        × (probesAt (wholeWithin left (now (part .entry)) at) < 2 ^ 32) ⌝ }
 {
     match whole_within(part, at, left) {
         Logged::End => Step {

@@ -1,5 +1,5 @@
-// Runs obstacles with doubled vertices, and some without (02, T-11), through every call that takes an obstacle, lent or in a record: all must tell the same
-// number, 0 where none is told.
+// Runs obstacles with doubled vertices, and some without (02, T-11), through every call that takes an obstacle, lent or
+// in a record: all must tell the same number, 0 where none is told.
 use admission::Judged;
 use verdict::Tally;
 

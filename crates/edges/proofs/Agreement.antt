@@ -10,5 +10,6 @@ edge-line-back : (a : EdgeLineCode) → edgeLineAs (edgeLineOf a) ≡ a
 edge-line-back (edge-line.Made l) = refl
 edge-line-back edge-line.Nothing = refl
 
-pub edge-lines-agree : {one other : EdgeLineCode} {promised : EdgeLine} → edgeLineOf one ≡ promised → edgeLineOf other ≡ promised → one ≡ other
+pub edge-lines-agree : {one other : EdgeLineCode} {promised : EdgeLine} → edgeLineOf one ≡ promised →
+    edgeLineOf other ≡ promised → one ≡ other
 edge-lines-agree = agree-read edgeLineOf edgeLineAs edge-line-back

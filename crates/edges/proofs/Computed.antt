@@ -1,4 +1,5 @@
--- What computing an edge's line opens, and the constants: antt computes that each bit pattern is the number that 01 or the Rust gives. Assumes nothing.
+-- What computing an edge's line opens, and the constants: antt computes that each bit pattern is the number that 01 or
+-- the Rust gives. Assumes nothing.
 use mathlib.Core.Path.{_≡_, refl}
 use mathlib.Core.Bool.{false}
 use mathlib.Core.List.{[], _∷_}
@@ -15,7 +16,8 @@ use Rattle.edges.specs.EdgeLines.{isDegenerate, lineForShadows, alone, l
 unfoldable pub computed : Unit {0}
 unfolding numbers negOf divOf distanceSquaredOf eqOf isDeep covers isEdgeCovered
     shapeOf inUnit reaches cornerLine nextHandles rightCornerLine tangent extended sideDirection isBeyond shadowBeside
-    tCutoff cutoffOf vertexLine areBelow projectsLeft projectsRight missesCutoff distanceUnless cutoffLine besideShadow shadowLine atMostBoth nearestLine chooseLine
+    tCutoff cutoffOf vertexLine areBelow projectsLeft projectsRight missesCutoff distanceUnless cutoffLine besideShadow
+    shadowLine atMostBoth nearestLine chooseLine
     isDegenerate lineForShadows alone lineOfVertex lineOfEdge linePast lineInFront lineForEdge
 computed = tt
 

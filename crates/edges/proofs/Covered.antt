@@ -12,14 +12,17 @@ use Rattle.lines.specs.declared.Line.{Line}
 use Rattle.edges.specs.Cover.{covers, isEdgeCovered}
 
 module _ (left right : Vec2) (horizon margin : Float) (ls : List Line) (i : ℕ) where
-  look : (d : Line) → i < length ls → isEdgeCovered left right horizon margin (drop i ls) ≡ (covers left right horizon margin (getD ls i d) || isEdgeCovered left right horizon margin (drop (i + 1) ls))
+  look : (d : Line) → i < length ls → isEdgeCovered left right horizon margin (drop i ls)
+      ≡ (covers left right horizon margin (getD ls i d) || isEdgeCovered left right horizon margin (drop (i + 1) ls))
   unfolding isEdgeCovered
   look d h = rw (drop-cons ls i d h, add-one)
 
-  pub covered-at : (d : Line) → i < length ls → true ≡ covers left right horizon margin (getD ls i d) → isEdgeCovered left right horizon margin (drop i ls) ≡ true
+  pub covered-at : (d : Line) → i < length ls → true ≡ covers left right horizon margin (getD ls i d) →
+      isEdgeCovered left right horizon margin (drop i ls) ≡ true
   covered-at d h e = look d h ∙ rw (← e)
 
-  pub covered-on : (d : Line) → i < length ls → false ≡ covers left right horizon margin (getD ls i d) → isEdgeCovered left right horizon margin (drop i ls) ≡ isEdgeCovered left right horizon margin (drop (i + 1) ls)
+  pub covered-on : (d : Line) → i < length ls → false ≡ covers left right horizon margin (getD ls i d) →
+      isEdgeCovered left right horizon margin (drop i ls) ≡ isEdgeCovered left right horizon margin (drop (i + 1) ls)
   covered-on d h e = look d h ∙ rw (← e)
 
   pub covered-done : length ls ≤ i → isEdgeCovered left right horizon margin (drop i ls) ≡ false

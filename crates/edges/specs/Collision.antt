@@ -1,4 +1,5 @@
--- An agent that collides with an edge: what is worked out of the edge once, and the lines of the corners. Definitions only. Assumes nothing.
+-- An agent that collides with an edge: what is worked out of the edge once, and the lines of the corners. Definitions
+-- only. Assumes nothing.
 use mathlib.Core.Bool.{Bool, false, _&&_}
 use lib.Ieee.{Float}
 use Rattle.arithmetic.specs.Binary32.{_⊗_, _⊘_, _≤ᶠ_, _<ᶠ_, 0ᶠ, 1ᶠ, if_then_else_}

@@ -13,7 +13,8 @@ coverEpsilon = bits 0x3727_C5AC
 
 -- a vertex is "deep" enough in the invalid half of a line
 unfoldable pub isDeep : Vec2 → Float → Float → Line → Bool
-isDeep vertex horizon margin l = margin ⊘ horizon ⊖ coverEpsilon ≤ᶠ determinantOf (subOf (divOf vertex horizon) (l .point)) (l .direction)
+isDeep vertex horizon margin l =
+    margin ⊘ horizon ⊖ coverEpsilon ≤ᶠ determinantOf (subOf (divOf vertex horizon) (l .point)) (l .direction)
 
 unfoldable pub covers : Vec2 → Vec2 → Float → Float → Line → Bool
 covers left right horizon margin l = isDeep left horizon margin l && isDeep right horizon margin l
@@ -21,4 +22,5 @@ covers left right horizon margin l = isDeep left horizon margin l && isDeep righ
 -- "The cover test sees only lines of the same obstacle made earlier": those of the list
 unfoldable pub isEdgeCovered : Vec2 → Vec2 → Float → Float → List Line → Bool
 isEdgeCovered left right horizon margin [] = false
-isEdgeCovered left right horizon margin (l ∷ ls) = covers left right horizon margin l || isEdgeCovered left right horizon margin ls
+isEdgeCovered left right horizon margin (l ∷ ls) =
+    covers left right horizon margin l || isEdgeCovered left right horizon margin ls

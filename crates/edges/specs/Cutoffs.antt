@@ -1,4 +1,5 @@
--- The edge in velocity space, cut off at the horizon, and the line where the velocity projects to it or to its shadows. Definitions only. Assumes nothing.
+-- The edge in velocity space, cut off at the horizon, and the line where the velocity projects to it or to its shadows.
+-- Definitions only. Assumes nothing.
 use mathlib.Core.Bool.{Bool, false, not, _&&_, _||_}
 use lib.Ieee.{Float, inf}
 use Rattle.arithmetic.specs.Binary32.{_⊘_, _≤ᶠ_, _<ᶠ_, 0ᶠ, 1ᶠ, halfᶠ, if_then_else_}
@@ -46,9 +47,11 @@ vertexLine velocity cutoff reach =
 unfoldable pub areBelow : Float → Float → Bool
 areBelow t shadow = t <ᶠ 0ᶠ && shadow <ᶠ 0ᶠ
 
--- "If the velocity is to the left of the edge, and does not project to the left shadow", or the edge is degenerate and it projects to neither
+-- "If the velocity is to the left of the edge, and does not project to the left shadow", or the edge is degenerate and
+-- it projects to neither
 unfoldable pub projectsLeft : Cutoff → Bool
-projectsLeft k = areBelow (k .«t_cutoff_edge») (k .«t_left_shadow») || (k .«is_degenerate_edge» && areBelow (k .«t_left_shadow») (k .«t_right_shadow»))
+projectsLeft k = areBelow (k .«t_cutoff_edge») (k .«t_left_shadow») ||
+    (k .«is_degenerate_edge» && areBelow (k .«t_left_shadow») (k .«t_right_shadow»))
 
 unfoldable pub projectsRight : Float → Float → Bool
 projectsRight t shadow = 1ᶠ <ᶠ t && shadow <ᶠ 0ᶠ
@@ -59,7 +62,8 @@ missesCutoff k = not (inUnit (k .«t_cutoff_edge»)) || k .«is_degenerate_edge�
 
 -- infinity, or the squared distance of the velocity from start + t * direction
 unfoldable pub distanceUnless : Bool → Vec2 → Vec2 → Float → Vec2 → Float
-distanceUnless missed velocity start t direction = if missed then infinity else lengthSquaredOf (subOf velocity (addOf start (mulOf direction t)))
+distanceUnless missed velocity start t direction =
+    if missed then infinity else lengthSquaredOf (subOf velocity (addOf start (mulOf direction t)))
 
 -- the three lines of the last choice
 unfoldable pub cutoffLine : Cutoff → Float → EdgeLine
@@ -72,7 +76,8 @@ besideShadow onLeft cutoff d reach = line (addOf cutoff (mulOf (perpOf d) reach)
 besideShadow onRight cutoff d reach = line (subOf cutoff (mulOf (perpOf d) reach)) (negOf d)
 
 unfoldable pub shadowLine : Side → Vec2 → Shadow → Float → EdgeLine
-shadowLine side cutoff shadow reach = if shadow .covered then nothing else made (besideShadow side cutoff (shadow .direction) reach)
+shadowLine side cutoff shadow reach =
+    if shadow .covered then nothing else made (besideShadow side cutoff (shadow .direction) reach)
 
 unfoldable pub atMostBoth : Float → Float → Float → Bool
 atMostBoth a b c = a ≤ᶠ b && a ≤ᶠ c
@@ -82,7 +87,8 @@ unfoldable pub nearestLine : Vec2 → Cutoff → Shadow → Shadow → Float →
 nearestLine velocity k left right reach =
     let toCutoff = distanceUnless (missesCutoff k) velocity (k .«left_cutoff») (k .«t_cutoff_edge») (k .«cutoff_vector») in
     let toLeft = distanceUnless (k .«t_left_shadow» <ᶠ 0ᶠ) velocity (k .«left_cutoff») (k .«t_left_shadow») (left .direction) in
-    let toRight = distanceUnless (k .«t_right_shadow» <ᶠ 0ᶠ) velocity (k .«right_cutoff») (k .«t_right_shadow») (right .direction) in
+    let toRight = distanceUnless (k .«t_right_shadow» <ᶠ 0ᶠ) velocity (k .«right_cutoff») (k .«t_right_shadow»)
+    (right .direction) in
     if atMostBoth toCutoff toLeft toRight then cutoffLine k reach
     else if toLeft ≤ᶠ toRight then shadowLine onLeft (k .«left_cutoff») left reach
     else shadowLine onRight (k .«right_cutoff») right reach

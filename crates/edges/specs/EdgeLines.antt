@@ -1,4 +1,5 @@
--- The line of one edge: `get_line_for_agent_to_edge`, branch by branch. A comparison with a NaN is false. Definitions only. Assumes nothing.
+-- The line of one edge: `get_line_for_agent_to_edge`, branch by branch. A comparison with a NaN is false. Definitions
+-- only. Assumes nothing.
 use mathlib.Core.Bool.{Bool}
 use mathlib.Core.List.{List}
 use lib.Ieee.{Float}
@@ -30,25 +31,30 @@ lineForShadows agent e degenerate leftDirection rightDirection margin horizon =
     right
     (margin ⊘ horizon)
 
--- "The right vertex is covered by the shadow of the left": right_right_vertex = Some(right_vertex.point), right_vertex = left_vertex; or the other way round
+-- "The right vertex is covered by the shadow of the left": right_right_vertex = Some(right_vertex.point), right_vertex
+-- = left_vertex; or the other way round
 unfoldable pub alone : Side → Edge → Edge
 alone onLeft e = record { left = e .left; right = e .left; leftLeft = e .leftLeft; rightRight = at (e .right .point) }
 alone onRight e = record { left = e .right; right = e .right; leftLeft = at (e .left .point); rightRight = e .rightRight }
 
--- the shadow is only defined by the vertex on one side; nothing where that is not convex. Degenerate is decided after the exchange: the edge is, then
+-- the shadow is only defined by the vertex on one side; nothing where that is not convex. Degenerate is decided after
+-- the exchange: the edge is, then
 unfoldable pub lineOfVertex : Agent → Side → Edge → Vec2 → Float → Float → Float → EdgeLine
 lineOfVertex agent side e relative dist margin horizon =
     let v = alone side e in
     if v .left .convex
-    then lineForShadows agent v (isDegenerate v) (tangent onLeft relative dist margin) (tangent onRight relative dist margin) margin horizon
+    then lineForShadows agent v (isDegenerate v) (tangent onLeft relative dist margin)
+    (tangent onRight relative dist margin) margin horizon
     else nothing
 
--- both vertices define the shadow: "The left of the shadow is defined by the left vertex", "The same reasoning as the left shadow applies for the right shadow"
+-- both vertices define the shadow: "The left of the shadow is defined by the left vertex", "The same reasoning as the
+-- left shadow applies for the right shadow"
 unfoldable pub lineOfEdge : Agent → Edge → EdgeShape → Float → Float → EdgeLine
 lineOfEdge agent e s margin horizon =
     lineForShadows agent e (isDegenerate e)
     (sideDirection onLeft (e .left .convex) (s .«relative_left_vertex») (s .«dist_left_squared») margin (s .«edge_unit_vector»))
-    (sideDirection onRight (e .right .convex) (s .«relative_right_vertex») (s .«dist_right_squared») margin (s .«edge_unit_vector»))
+    (sideDirection onRight (e .right .convex) (s .«relative_right_vertex») (s .«dist_right_squared») margin
+    (s .«edge_unit_vector»))
     margin
     horizon
 
@@ -61,7 +67,8 @@ linePast agent e s margin horizon =
     then lineOfVertex agent onRight e (s .«relative_right_vertex») (s .«dist_right_squared») margin horizon
     else lineOfEdge agent e s margin horizon
 
--- "If the distance to the edge is less than the radius, the agent is colliding with the edge": the left vertex, the right one, the edge between them
+-- "If the distance to the edge is less than the radius, the agent is colliding with the edge": the left vertex, the
+-- right one, the edge between them
 unfoldable pub lineInFront : Agent → Edge → EdgeShape → Float → Float → EdgeLine
 lineInFront agent e s margin horizon =
     if reaches (s .«edge_t» <ᶠ 0ᶠ) (s .«dist_left_squared») (s .«squared_radius»)

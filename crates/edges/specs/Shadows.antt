@@ -9,10 +9,13 @@ use Rattle.edges.specs.declared.EdgeVertex.{EdgeVertex}
 use Rattle.edges.specs.declared.Shadow.{Shadow}
 use Rattle.edges.specs.Edges.{OuterVertex, none, at, Side, onLeft, onRight}
 
--- the tangent to the circle of the margin around a vertex, "tangent_triangle_leg" long: added on the left side, subtracted on the right
+-- the tangent to the circle of the margin around a vertex, "tangent_triangle_leg" long: added on the left side,
+-- subtracted on the right
 unfoldable pub tangent : Side → Vec2 → Float → Float → Vec2
-tangent onLeft relative dist margin = divOf (addOf (mulOf relative (sqrtOf (dist ⊖ margin ⊗ margin))) (mulOf (perpOf relative) margin)) dist
-tangent onRight relative dist margin = divOf (subOf (mulOf relative (sqrtOf (dist ⊖ margin ⊗ margin))) (mulOf (perpOf relative) margin)) dist
+tangent onLeft relative dist margin =
+    divOf (addOf (mulOf relative (sqrtOf (dist ⊖ margin ⊗ margin))) (mulOf (perpOf relative) margin)) dist
+tangent onRight relative dist margin =
+    divOf (subOf (mulOf relative (sqrtOf (dist ⊖ margin ⊗ margin))) (mulOf (perpOf relative) margin)) dist
 
 -- the edge extended to a side
 unfoldable pub extended : Side → Vec2 → Vec2
@@ -23,7 +26,8 @@ extended onRight unit = unit
 unfoldable pub sideDirection : Side → Bool → Vec2 → Float → Float → Vec2 → Vec2
 sideDirection side convex relative dist margin unit = if convex then tangent side relative dist margin else extended side unit
 
--- determinant(left_shadow_direction, left_edge_direction) >= 0.0, determinant(right_shadow_direction, right_edge_direction) <= 0.0
+-- determinant(left_shadow_direction, left_edge_direction) >= 0.0, determinant(right_shadow_direction,
+-- right_edge_direction) <= 0.0
 unfoldable pub isBeyond : Side → Vec2 → Vec2 → Bool
 isBeyond onLeft direction outer = 0ᶠ ≤ᶠ determinantOf direction outer
 isBeyond onRight direction outer = determinantOf direction outer ≤ᶠ 0ᶠ

@@ -49,7 +49,8 @@ pub(crate) fn reaches(there: bool, distance_squared: f32, squared_radius: f32) -
     there && distance_squared <= squared_radius
 }
 
-// The line of a collision with an edge's vertex: across the way to a convex one, else along the edge, so that no edge is left by going deeper into the other.
+// The line of a collision with an edge's vertex: across the way to a convex one, else along the edge, so that no edge
+// is left by going deeper into the other.
 pub(crate) fn corner_line(convex: bool, relative_vertex: Vec2, edge_unit_vector: Vec2) -> Line
     ensures { λ r. ⌜ r ≡ cornerLine convex «relative_vertex» «edge_unit_vector» ⌝ }
 {

@@ -1,4 +1,5 @@
-// The cover test: an edge that lies deep enough in the invalid half of a line made earlier cannot be collided with, and needs no line of its own.
+// The cover test: an edge that lies deep enough in the invalid half of a line made earlier cannot be collided with, and
+// needs no line of its own.
 use crate::Edge;
 use common::Vec2;
 use lines::Line;

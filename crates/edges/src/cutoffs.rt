@@ -71,7 +71,8 @@ fn are_below(t: f32, t_shadow: f32) -> bool
     t < 0.0 && t_shadow < 0.0
 }
 
-// The velocity is left of the edge and does not project to the left shadow; or the edge is degenerate and it projects to neither shadow.
+// The velocity is left of the edge and does not project to the left shadow; or the edge is degenerate and it projects
+// to neither shadow.
 fn projects_to_left(cutoff: Cutoff) -> bool
     ensures { λ r. ⌜ r ≡ projectsLeft cutoff ⌝ }
 {

@@ -1,4 +1,5 @@
-// The line of an edge that the agent is in front of: the collisions first, then what of the edge and its shadow the velocity is nearest to.
+// The line of an edge that the agent is in front of: the collisions first, then what of the edge and its shadow the
+// velocity is nearest to.
 use crate::Agent;
 use crate::Edge;
 use crate::EdgeLine;
@@ -31,7 +32,8 @@ fn line_for_shadows(
     margin: f32,
     horizon: f32,
 ) -> EdgeLine
-    ensures { λ r. ⌜ edgeLineOf r ≡ lineForShadows agent (edgeOf edge) «is_degenerate_edge» «left_shadow_direction» «right_shadow_direction» margin horizon ⌝ }
+    ensures { λ r. ⌜ edgeLineOf r ≡ lineForShadows agent (edgeOf edge) «is_degenerate_edge» «left_shadow_direction»
+        «right_shadow_direction» margin horizon ⌝ }
 {
     let left_vertex = edge.left_vertex;
     let right_vertex = edge.right_vertex;
@@ -92,7 +94,8 @@ fn line_of_vertex(
     margin: f32,
     horizon: f32,
 ) -> EdgeLine
-    ensures { λ r. ⌜ edgeLineOf r ≡ lineOfVertex agent (sideOf side) (edgeOf edge) «relative_vertex» «dist_squared» margin horizon ⌝ }
+    ensures { λ r. ⌜ edgeLineOf r ≡ lineOfVertex agent (sideOf side) (edgeOf edge) «relative_vertex» «dist_squared»
+        margin horizon ⌝ }
 {
     let vertex = alone(side, edge);
     if vertex.left_vertex.convex {
@@ -161,7 +164,8 @@ fn line_past(agent: Agent, edge: Edge, shape: EdgeShape, margin: f32, horizon: f
     line_of_edge(agent, edge, shape, margin, horizon)
 }
 
-// The agent is in front of the edge, and no line covers it: first the collisions with the left vertex, the right one, and the edge between them.
+// The agent is in front of the edge, and no line covers it: first the collisions with the left vertex, the right one,
+// and the edge between them.
 pub(crate) fn line_in_front(
     agent: Agent,
     edge: Edge,

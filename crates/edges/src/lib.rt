@@ -1,4 +1,5 @@
-// The line that one edge of an obstacle asks an agent to keep to (the Rust's obstacles.rs, `get_line_for_agent_to_edge` and what it calls).
+// The line that one edge of an obstacle asks an agent to keep to (the Rust's obstacles.rs, `get_line_for_agent_to_edge`
+// and what it calls).
 use common::Vec2;
 use lines::Line;
 ghost use mathlib.Core.Path.{_≡_};
@@ -90,8 +91,9 @@ pub(crate) struct Cutoff {
     pub(crate) t_right_shadow: f32,
 }
 
-// The line that one edge asks an agent to keep to, beside the lines that the same obstacle's earlier edges made, lent as numbers, four a line. None where the
-// agent is behind the edge, where one of those lines covers it, or where another edge's line does the work. Nothing is judged: a NaN compares false.
+// The line that one edge asks an agent to keep to, beside the lines that the same obstacle's earlier edges made, lent
+// as numbers, four a line. None where the agent is behind the edge, where one of those lines covers it, or where
+// another edge's line does the work. Nothing is judged: a NaN compares false.
 pub fn get_line_for_agent_to_edge(
     agent: Agent,
     edge: Edge,

@@ -26,7 +26,8 @@ pub(crate) fn tangent_direction(
     }
 }
 
-// The direction of a side of the shadow: its vertex's tangent, or where that is concave the edge itself, so that both its edges extend the shadow alike.
+// The direction of a side of the shadow: its vertex's tangent, or where that is concave the edge itself, so that both
+// its edges extend the shadow alike.
 pub(crate) fn shadow_direction(
     side: Side,
     convex: bool,

@@ -1,6 +1,6 @@
-// Runs cases of `index_building` and `fallback_index`: standard input holds logs, indexes and what is asked of them, command behind
-// command; standard output what each call answered, and the bytes that it left. oracle/indexes makes the cases and says what must
-// come out. A command is a byte, three numbers of four bytes, and the bytes that it brings.
+// Runs cases of `index_building` and `fallback_index`: standard input holds logs, indexes and what is asked of them,
+// command behind command; standard output what each call answered, and the bytes that it left. oracle/indexes makes the
+// cases and says what must come out. A command is a byte, three numbers of four bytes, and the bytes that it brings.
 use fallback_index::Fallbacks;
 use fallback_index::Update;
 use index_building::Extent;
@@ -94,7 +94,8 @@ fn bring(buffer: &mut [u8], at: usize, count: usize) -> bool {
     io::read_full(STDIN_FILENO, &mut buffer[at..end]) == count
 }
 
-// 1: bytes of the log from a place on, which end it. 2: the same for the index. 6: their lengths. 7, 8: bytes in the middle of them.
+// 1: bytes of the log from a place on, which end it. 2: the same for the index. 6: their lengths. 7, 8: bytes in the
+// middle of them.
 fn hold(came: bool, log: usize, index: usize) -> Held {
     if came {
         return Held {

@@ -1,5 +1,5 @@
--- Small logs and their indexes, computed: questions and appends of the readings' examples, each refusal and its order, the limit 4
--- at a small one (02, T-10). Assumes nothing.
+-- Small logs and their indexes, computed: questions and appends of the readings' examples, each refusal and its order,
+-- the limit 4 at a small one (02, T-10). Assumes nothing.
 use mathlib.Core.Path.{_≡_, refl}
 use mathlib.Core.List.{List, [], _∷_, _++_}
 use lib.ListN.{take, replicate}
@@ -14,7 +14,8 @@ use Rattle.fallback_index.specs.Appends.{newEntryFits, grownFault, grown
 
 -- what computing needs
 unfoldable computed : Unit {0}
-unfolding building walked headFault rangeFault placesFault before questionOf headIn entryIn stretchIn questionIn newEntryFits grownFault grown updated updateOf updateIn appendedUpTo appendedOver
+unfolding building walked headFault rangeFault placesFault before questionOf headIn entryIn stretchIn questionIn
+    newEntryFits grownFault grown updated updateOf updateIn appendedUpTo appendedOver
 computed = tt
 
 -- ---- questions
@@ -77,35 +78,45 @@ unfolding computed
 past-end = refl
 
 -- an offset at the end is no fault, but no record stands there
-at-end : questionIn short (0 ∷ 0 ∷ 0 ∷ 17 ∷ 1 ∷ 0 ∷ 0 ∷ 0 ∷ 22 ∷ 0 ∷ 0 ∷ 0 ∷ 2 ∷ 0 ∷ 0 ∷ 0 ∷ 22 ∷ 0 ∷ 0 ∷ 0 ∷ 0 ∷ []) 0 0 ≡ answer.Count 0
+at-end : questionIn short (0 ∷ 0 ∷ 0 ∷ 17 ∷ 1 ∷ 0 ∷ 0 ∷ 0 ∷ 22 ∷ 0 ∷ 0 ∷ 0 ∷ 2 ∷ 0 ∷ 0 ∷ 0 ∷ 22 ∷ 0 ∷ 0 ∷ 0 ∷ 0
+    ∷ []) 0 0 ≡ answer.Count 0
 unfolding computed
 at-end = refl
 
-none-at-end : questionIn short (0 ∷ 0 ∷ 0 ∷ 17 ∷ 1 ∷ 0 ∷ 0 ∷ 0 ∷ 22 ∷ 0 ∷ 0 ∷ 0 ∷ 2 ∷ 0 ∷ 0 ∷ 0 ∷ 22 ∷ 0 ∷ 0 ∷ 0 ∷ 0 ∷ []) 1 1 ≡ answer.Refused 2
+none-at-end : questionIn short (0 ∷ 0 ∷ 0 ∷ 17 ∷ 1 ∷ 0 ∷ 0 ∷ 0 ∷ 22 ∷ 0 ∷ 0 ∷ 0 ∷ 2 ∷ 0 ∷ 0 ∷ 0 ∷ 22 ∷ 0 ∷ 0 ∷ 0 ∷ 0
+    ∷ []) 1 1 ≡ answer.Refused 2
 unfolding computed
 none-at-end = refl
 
-beyond : questionIn short (0 ∷ 0 ∷ 0 ∷ 17 ∷ 1 ∷ 0 ∷ 0 ∷ 0 ∷ 22 ∷ 0 ∷ 0 ∷ 0 ∷ 2 ∷ 0 ∷ 0 ∷ 0 ∷ 23 ∷ 0 ∷ 0 ∷ 0 ∷ 0 ∷ []) 0 0 ≡ answer.Refused 2
+beyond : questionIn short (0 ∷ 0 ∷ 0 ∷ 17 ∷ 1 ∷ 0 ∷ 0 ∷ 0 ∷ 22 ∷ 0 ∷ 0 ∷ 0 ∷ 2 ∷ 0 ∷ 0 ∷ 0 ∷ 23 ∷ 0 ∷ 0 ∷ 0 ∷ 0
+    ∷ []) 0 0 ≡ answer.Refused 2
 unfolding computed
 beyond = refl
 
 -- fewer before b than before a
-fewer : questionIn long (0 ∷ 0 ∷ 0 ∷ 25 ∷ 1 ∷ 0 ∷ 0 ∷ 1 ∷ 0 ∷ 0 ∷ 0 ∷ 0 ∷ 64 ∷ 0 ∷ 0 ∷ 0 ∷ 0 ∷ 0 ∷ 0 ∷ 0 ∷ 1 ∷ 0 ∷ 0 ∷ 1 ∷ 0 ∷ 0 ∷ 0 ∷ 0 ∷ 0 ∷ []) 0 64 ≡ answer.Refused 2
+fewer : questionIn long (0 ∷ 0 ∷ 0 ∷ 25 ∷ 1 ∷ 0 ∷ 0 ∷ 1 ∷ 0 ∷ 0 ∷ 0 ∷ 0 ∷ 64 ∷ 0 ∷ 0 ∷ 0 ∷ 0 ∷ 0 ∷ 0 ∷ 0 ∷ 1 ∷ 0 ∷ 0 ∷ 1
+    ∷ 0 ∷ 0 ∷ 0 ∷ 0 ∷ 0 ∷ []) 0 64 ≡ answer.Refused 2
 unfolding computed
 fewer = refl
 
 -- ---- appends
 
-first-appended : appendedOver [] (emptyIndex ++ (9 ∷ [])) 21 refusedScene ≡ standing (index.Length 21) (0 ∷ 0 ∷ 0 ∷ 17 ∷ 1 ∷ 0 ∷ 0 ∷ 0 ∷ 4 ∷ 0 ∷ 0 ∷ 0 ∷ 1 ∷ 0 ∷ 0 ∷ 0 ∷ 0 ∷ 0 ∷ 0 ∷ 0 ∷ 0 ∷ 9 ∷ [])
+first-appended : appendedOver [] (emptyIndex ++ (9 ∷ [])) 21 refusedScene
+    ≡ standing (index.Length 21) (0 ∷ 0 ∷ 0 ∷ 17 ∷ 1 ∷ 0 ∷ 0 ∷ 0 ∷ 4 ∷ 0 ∷ 0 ∷ 0 ∷ 1 ∷ 0 ∷ 0 ∷ 0 ∷ 0 ∷ 0 ∷ 0 ∷ 0 ∷ 0 ∷ 9
+    ∷ [])
 unfolding computed
 first-appended = refl
 
 -- the 64th record
-entry-added : appendedOver (take 252 long) ((0 ∷ 0 ∷ 0 ∷ 17 ∷ 1 ∷ 0 ∷ 0 ∷ 0 ∷ 252 ∷ 0 ∷ 0 ∷ 0 ∷ 63 ∷ 0 ∷ 0 ∷ 0 ∷ 0 ∷ 0 ∷ 0 ∷ 0 ∷ 0 ∷ []) ++ replicate 9 9) 21 refusedScene ≡ standing (index.Length 29) (longIndex ++ (9 ∷ []))
+entry-added : appendedOver (take 252 long) ((0 ∷ 0 ∷ 0 ∷ 17 ∷ 1 ∷ 0 ∷ 0 ∷ 0 ∷ 252 ∷ 0 ∷ 0 ∷ 0 ∷ 63 ∷ 0 ∷ 0 ∷ 0 ∷ 0 ∷ 0
+    ∷ 0 ∷ 0 ∷ 0 ∷ []) ++ replicate 9 9) 21 refusedScene ≡ standing (index.Length 29) (longIndex ++ (9 ∷ []))
 unfolding computed
 entry-added = refl
 
-entry-no-room : appendedOver (take 252 long) ((0 ∷ 0 ∷ 0 ∷ 17 ∷ 1 ∷ 0 ∷ 0 ∷ 0 ∷ 252 ∷ 0 ∷ 0 ∷ 0 ∷ 63 ∷ 0 ∷ 0 ∷ 0 ∷ 0 ∷ 0 ∷ 0 ∷ 0 ∷ 0 ∷ []) ++ replicate 7 9) 21 refusedScene ≡ standing (index.Refused 10) ((0 ∷ 0 ∷ 0 ∷ 17 ∷ 1 ∷ 0 ∷ 0 ∷ 0 ∷ 252 ∷ 0 ∷ 0 ∷ 0 ∷ 63 ∷ 0 ∷ 0 ∷ 0 ∷ 0 ∷ 0 ∷ 0 ∷ 0 ∷ 0 ∷ []) ++ replicate 7 9)
+entry-no-room : appendedOver (take 252 long) ((0 ∷ 0 ∷ 0 ∷ 17 ∷ 1 ∷ 0 ∷ 0 ∷ 0 ∷ 252 ∷ 0 ∷ 0 ∷ 0 ∷ 63 ∷ 0 ∷ 0 ∷ 0 ∷ 0 ∷ 0
+    ∷ 0 ∷ 0 ∷ 0 ∷ []) ++ replicate 7 9) 21 refusedScene
+    ≡ standing (index.Refused 10) ((0 ∷ 0 ∷ 0 ∷ 17 ∷ 1 ∷ 0 ∷ 0 ∷ 0 ∷ 252 ∷ 0 ∷ 0 ∷ 0 ∷ 63 ∷ 0 ∷ 0 ∷ 0 ∷ 0 ∷ 0 ∷ 0 ∷ 0
+    ∷ 0 ∷ []) ++ replicate 7 9)
 unfolding computed
 entry-no-room = refl
 

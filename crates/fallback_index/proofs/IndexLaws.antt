@@ -75,7 +75,12 @@ module _ (l : List Entry) where
   entry-at (suc k) j (suc n) h =
       let on : 8 * suc k ≡ 8 + 8 * k = omega arith in
       let next : suc j + k ≡ j + suc k = omega arith in
-      rw (on, ← drop-drop (8 * k) 8 (entryOf l j ++ entries l (suc j) n), drop-at (entryOf l j) (entries l (suc j) n) 8 (one-length l j)) (entry-at k (suc j) n (omega arith) ∙ ap (entryOf l) next)
+      rw (
+        on,
+        ← drop-drop (8 * k) 8 (entryOf l j ++ entries l (suc j) n),
+        drop-at (entryOf l j) (entries l (suc j) n) 8
+            (one-length l j),
+      ) (entry-at k (suc j) n (omega arith) ∙ ap (entryOf l) next)
 
   module _ (logLength : ℕ) where
     pub head-there : headIn (indexOf logLength l) ≡ head logLength (length l)
@@ -87,4 +92,5 @@ module _ (l : List Entry) where
     entry-there a h =
         let all = entries l 0 (entriesFor (length l)) in
         let first = head logLength (length l) in
-        rw (← drop-drop (8 * (a / 64)) 13 (first ++ all), drop-at first all 13 (head-length logLength (length l))) (entry-at (a / 64) 0 (entriesFor (length l)) (omega arith) ∙ ap (entryOf l) (zero-add (a / 64)))
+        rw (← drop-drop (8 * (a / 64)) 13 (first ++ all), drop-at first all 13 (head-length logLength (length l)))
+        (entry-at (a / 64) 0 (entriesFor (length l)) (omega arith) ∙ ap (entryOf l) (zero-add (a / 64)))

@@ -19,7 +19,12 @@ module _ (rs : List Entry) (r : Entry) where
       indexOf after (rs ++ (r ∷ [])) ≡ updated after (length rs + 1) (fallbacks (rs ++ (r ∷ []))) (indexOf before rs)
   unfolding indexOf updated
   index-more before after e =
-      rw (one-more rs r, entries-more rs r, ← e, drop-at (head before (length rs)) (entries rs 0 (entriesFor (length rs))) 13 (head-length before (length rs)))
+      rw (
+        one-more rs r,
+        entries-more rs r,
+        ← e,
+        drop-at (head before (length rs)) (entries rs 0 (entriesFor (length rs))) 13 (head-length before (length rs)),
+      )
 
   pub fallbacks-more : fallbacks (rs ++ (r ∷ [])) ≡ fallbacks rs + fallback r
   unfolding fallbacks

@@ -52,22 +52,26 @@ cut {s} {p} {k} {x} {y} c = go (decLe p (length s)) (decLe (x + k) (length s))
     go (yes h) (no g) =
         let e : x ≡ p = c .starts ∙ sym (up-there (length s) p h) in
         let f : y ≡ length s = c .ends ∙ sym (up-past (length s) (x + k) (omega arith)) in
-        take-all (y - x) (drop x s) (omega (arith, length-drop x s)) ∙ sym (take-all k (drop x s) (omega (arith, length-drop x s))) ∙ ap (λ (n : ℕ). take k (drop n s)) e
+        take-all (y - x) (drop x s) (omega (arith, length-drop x s))
+        ∙ sym (take-all k (drop x s) (omega (arith, length-drop x s))) ∙ ap (λ (n : ℕ). take k (drop n s)) e
     go (no h) d =
         let e : x ≡ length s = c .starts ∙ sym (up-past (length s) p (omega arith)) in
         let some : length s ≤ x = omega arith in
         let more : length s ≤ p = omega arith in
-        take-all (y - x) (drop x s) (omega (arith, length-drop x s)) ∙ drop-of-length-le s some ∙ sym (drop-of-length-le s more) ∙ sym (take-all k (drop p s) (omega (arith, length-drop p s)))
+        take-all (y - x) (drop x s) (omega (arith, length-drop x s)) ∙ drop-of-length-le s some
+        ∙ sym (drop-of-length-le s more) ∙ sym (take-all k (drop p s) (omega (arith, length-drop p s)))
 
 pub cut-head : (s : List ℕ) (k x : ℕ) → x ≡ upTo (length s) k → take (x - 0) (drop 0 s) ≡ take k s
-cut-head s k x e = cut {s = s} {p = 0} {k = k} {x = 0} {y = x} (record { starts = up-there (length s) 0 (omega arith); ends = e ∙ ap (upTo (length s)) (sym (zero-add k)) })
+cut-head s k x e = cut {s = s} {p = 0} {k = k} {x = 0} {y =
+    x} (record { starts = up-there (length s) 0 (omega arith); ends = e ∙ ap (upTo (length s)) (sym (zero-add k)) })
 
 module _ (log index : List ℕ) (head : ℕ) (of-head : head ≡ upTo (length index) 13) where
   head-cut : take (head - 0) (drop 0 index) ≡ headIn index
   unfolding headIn
   head-cut = cut-head index 13 head of-head
 
-  module _ (a at to from past : ℕ) (e : Cut index (entryPlace a) 8 at to) (t : Cut log (wordOf (take (to - at) (drop at index)) 0) (18 * (a % 64)) from past) where
+  module _ (a at to from past : ℕ) (e : Cut index (entryPlace a) 8 at to)
+      (t : Cut log (wordOf (take (to - at) (drop at index)) 0) (18 * (a % 64)) from past) where
     entry-cut : take (to - at) (drop at index) ≡ entryIn index a
     unfolding entryIn
     entry-cut = cut e
@@ -79,15 +83,25 @@ module _ (log index : List ℕ) (head : ℕ) (of-head : head ≡ upTo (length in
   pub question-cut : (a b : ℕ) {atA toA fromA pastA atB toB fromB pastB : ℕ} →
       Cut index (entryPlace a) 8 atA toA → Cut log (wordOf (take (toA - atA) (drop atA index)) 0) (18 * (a % 64)) fromA pastA →
       Cut index (entryPlace b) 8 atB toB → Cut log (wordOf (take (toB - atB) (drop atB index)) 0) (18 * (b % 64)) fromB pastB →
-      questionOf (length log) (length index) (take (head - 0) (drop 0 index)) (take (toA - atA) (drop atA index)) (take (toB - atB) (drop atB index))
+      questionOf (length log) (length index) (take (head - 0) (drop 0 index)) (take (toA - atA) (drop atA index))
+      (take (toB - atB) (drop atB index))
       (take (pastA - fromA) (drop fromA log)) (take (pastB - fromB) (drop fromB log)) a b ≡ questionIn log index a b
   unfolding questionIn
   question-cut a b {atA} {toA} {fromA} {pastA} {atB} {toB} {fromB} {pastB} ea ta eb tb =
-      rw (head-cut, stretch-cut a atA toA fromA pastA ea ta, stretch-cut b atB toB fromB pastB eb tb, entry-cut a atA toA fromA pastA ea ta, entry-cut b atB toB fromB pastB eb tb)
+      rw (
+        head-cut,
+        stretch-cut a atA toA fromA pastA ea ta,
+        stretch-cut b atB toB fromB pastB eb tb,
+        entry-cut a atA toA fromA pastA ea ta,
+        entry-cut b atB toB fromB pastB eb tb,
+      )
 
-  pub update-cut : (most : ℕ) (new : List ℕ) (count : ℕ) {first at to from past : ℕ} → count ≡ wordOf (take (head - 0) (drop 0 index)) 9 →
-      first ≡ upTo (length index) (head + 8) → Cut index (entryPlace count) 8 at to → Cut log (wordOf (take (to - at) (drop at index)) 0) (18 * (count % 64)) from past →
-      updateOf most (length log) (length index) (take (head - 0) (drop 0 index)) (take (first - head) (drop head index)) (take (to - at) (drop at index)) (take (past - from) (drop from log)) new
+  pub update-cut : (most : ℕ) (new : List ℕ) (count : ℕ) {first at to from past : ℕ} →
+      count ≡ wordOf (take (head - 0) (drop 0 index)) 9 →
+      first ≡ upTo (length index) (head + 8) → Cut index (entryPlace count) 8 at to →
+      Cut log (wordOf (take (to - at) (drop at index)) 0) (18 * (count % 64)) from past →
+      updateOf most (length log) (length index) (take (head - 0) (drop 0 index)) (take (first - head) (drop head index))
+      (take (to - at) (drop at index)) (take (past - from) (drop from log)) new
       ≡ updateIn most log index new
   unfolding updateIn entryIn
   update-cut most new count {first} {at} {to} {from} {past} named f e t =
@@ -95,16 +109,21 @@ module _ (log index : List ℕ) (head : ℕ) (of-head : head ≡ upTo (length in
       let zero-entry : take (first - head) (drop head index) ≡ entryIn index 0 = first-cut first f in
       rw (head-cut, zero-entry, stretch-cut count at to from past e t, entry-cut count at to from past e t, c)
     where
-      first-cut : (first : ℕ) → first ≡ upTo (length index) (head + 8) → take (first - head) (drop head index) ≡ take 8 (drop 13 index)
+      first-cut : (first : ℕ) → first ≡ upTo (length index) (head + 8) → take (first - head) (drop head index)
+          ≡ take 8 (drop 13 index)
       first-cut first f = cut {s = index} {p = 13} {k = 8} {x = head} {y = first} (record { starts = of-head; ends = f })
 
 -- ---- the question of the parts, in the code's steps
 
-module _ (total n : ℕ) (h entryA entryB stretchA stretchB : List ℕ) (a b x y : ℕ) (of-a : x ≡ wordOf entryA 0) (of-b : y ≡ wordOf entryB 0) where
-  pub parts-refused : (r : ℕ) → fault r ≡ (headFault n h ⊳ placesFault total (namedLog h) (namedCount h) x y a b) → answer.Refused r ≡ questionOf total n h entryA entryB stretchA stretchB a b
+module _ (total n : ℕ) (h entryA entryB stretchA stretchB : List ℕ) (a b x y : ℕ) (of-a : x ≡ wordOf entryA 0) (of-b : y
+    ≡ wordOf entryB 0) where
+  pub parts-refused : (r : ℕ) → fault r ≡ (headFault n h ⊳ placesFault total (namedLog h) (namedCount h) x y a b) →
+      answer.Refused r ≡ questionOf total n h entryA entryB stretchA stretchB a b
   unfolding questionOf
   parts-refused r e = rw (← of-a, ← of-b, ← e)
 
-  pub parts-counted : fine ≡ (headFault n h ⊳ placesFault total (namedLog h) (namedCount h) x y a b) → {p q : Met} → p ≡ before (a % 64) entryA stretchA → q ≡ before (b % 64) entryB stretchB → between p q ≡ questionOf total n h entryA entryB stretchA stretchB a b
+  pub parts-counted : fine ≡ (headFault n h ⊳ placesFault total (namedLog h) (namedCount h) x y a b) → {p q : Met} →
+      p ≡ before (a % 64) entryA stretchA → q ≡ before (b % 64) entryB stretchB →
+      between p q ≡ questionOf total n h entryA entryB stretchA stretchB a b
   unfolding questionOf
   parts-counted e f g = rw (← of-a, ← of-b, ← e, f, g)

@@ -30,7 +30,8 @@ from log index a = drop (offsetIn (entryIn index a)) log
 abbrev pub walkedBytes : List ℕ → List ℕ → ℕ → ℕ
 walkedBytes log index a = reach (a % 64) (from log index a)
 
--- "the two lengths, the index's fields before the entries, the last entries at or before a and b and the .. records from there to a and to b"
+-- "the two lengths, the index's fields before the entries, the last entries at or before a and b and the .. records
+-- from there to a and to b"
 pub record SameRests (log index log′ index′ : List ℕ) (a b : ℕ) : Type 0 where
   pub logs : length log ≡ length log′
   pub indexes : length index ≡ length index′
@@ -41,18 +42,24 @@ pub record SameRests (log index log′ index′ : List ℕ) (a b : ℕ) : Type 0
   pub walk-b : take (walkedBytes log index b) (from log index b) ≡ take (walkedBytes log index b) (from log′ index b)
 
 -- the bytes handed over are enough for the walk
-pub before-in : (log entry : List ℕ) (a : ℕ) → before (a % 64) entry (stretchIn log entry a) ≡ more (beforeIn entry) (walked (a % 64) (drop (offsetIn entry) log))
+pub before-in : (log entry : List ℕ) (a : ℕ) → before (a % 64) entry (stretchIn log entry a)
+    ≡ more (beforeIn entry) (walked (a % 64) (drop (offsetIn entry) log))
 unfolding before stretchIn
 before-in log entry a = ap (more (beforeIn entry)) (stretch-walked (a % 64) (drop (offsetIn entry) log))
 
-walk-rests : (log log′ : List ℕ) (offset n : ℕ) → length log ≡ length log′ → take (reach n (drop offset log)) (drop offset log) ≡ take (reach n (drop offset log)) (drop offset log′) →
+walk-rests : (log log′ : List ℕ) (offset n : ℕ) → length log ≡ length log′ →
+    take (reach n (drop offset log)) (drop offset log) ≡ take (reach n (drop offset log)) (drop offset log′) →
     walked n (drop offset log) ≡ walked n (drop offset log′)
 walk-rests log log′ offset n l w =
     let k = reach n (drop offset log) in
-    walked-alike n k (drop offset log) (drop offset log′) (record { bytes = w; ends = λ h. omega (arith, length-drop offset log, length-drop offset log′) }) (omega arith)
+    walked-alike n k (drop offset log) (drop offset log′) (record {
+      bytes = w;
+      ends = λ h. omega (arith, length-drop offset log, length-drop offset log′);
+    }) (omega arith)
 
 -- "no other byte changes it"
-pub rests : (log index log′ index′ : List ℕ) (a b : ℕ) → SameRests log index log′ index′ a b → questionIn log index a b ≡ questionIn log′ index′ a b
+pub rests : (log index log′ index′ : List ℕ) (a b : ℕ) → SameRests log index log′ index′ a b → questionIn log index a b
+    ≡ questionIn log′ index′ a b
 unfolding questionIn questionOf headIn
 rests log index log′ index′ a b same =
     rw (
@@ -95,20 +102,25 @@ module _ (log : List ℕ) (rs : List Entry) (t : Splits log rs) (fits : length l
     before-there = ap beforeIn (entry-there rs (length log) a h) ∙ before-read _ _ (fallbacks-fit (64 * (a / 64)))
 
     -- entry and walk together give the fallbacks before a
-    pub found-before : before (a % 64) (entryIn (builtFrom log rs) a) (stretchIn log (entryIn (builtFrom log rs) a) a) ≡ met.Count (fallbacks (take a rs))
+    pub found-before : before (a % 64) (entryIn (builtFrom log rs) a) (stretchIn log (entryIn (builtFrom log rs) a) a)
+        ≡ met.Count (fallbacks (take a rs))
     found-before =
         let q = 64 * (a / 64) in
         let n = a % 64 in
         let whole : q + n ≡ a = omega arith in
         let left : n ≤ length (drop q rs) = rw length-drop (omega arith) in
-        let sum : fallbacks (take q rs) + fallbacks (take n (drop q rs)) ≡ fallbacks (take a rs) = sym (fallbacks-on q n rs) ∙ ap (λ (k : ℕ). fallbacks (take k rs)) whole in
-        before-in log (entryIn (builtFrom log rs) a) a ∙ rw (before-there, offset-there, walked-whole n (splits-behind q t (omega arith)) left, sum)
+        let sum : fallbacks (take q rs) + fallbacks (take n (drop q rs)) ≡ fallbacks (take a rs) =
+        sym (fallbacks-on q n rs) ∙ ap (λ (k : ℕ). fallbacks (take k rs)) whole in
+        before-in log (entryIn (builtFrom log rs) a) a
+        ∙ rw (before-there, offset-there, walked-whole n (splits-behind q t (omega arith)) left, sum)
 
   head-is-fine : headFault (length (builtFrom log rs)) (headIn (builtFrom log rs)) ≡ fine
   head-is-fine = rw (index-length rs (length log), head-there rs (length log)) (head-fine (length log) (length rs) count-fits)
 
   module _ (a b : ℕ) (ordered : a ≤ b) (h : b ≤ length rs) where
-    places-fine : placesFault (length log) (namedLog (headIn (builtFrom log rs))) (namedCount (headIn (builtFrom log rs))) (offsetIn (entryIn (builtFrom log rs) a)) (offsetIn (entryIn (builtFrom log rs) b)) a b ≡ fine
+    places-fine : placesFault (length log) (namedLog (headIn (builtFrom log rs)))
+        (namedCount (headIn (builtFrom log rs))) (offsetIn (entryIn (builtFrom log rs) a))
+        (offsetIn (entryIn (builtFrom log rs) b)) a b ≡ fine
     unfolding placesFault rangeFault
     places-fine =
         let first = head (length log) (length rs) in

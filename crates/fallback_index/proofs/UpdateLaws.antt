@@ -34,7 +34,8 @@ use Rattle.index_building.proofs.StoredLaws.{new-length}
 
 -- ---- what a question that was answered says of the head
 
-unless-counted : {C : Type 0} (f : Fault) (q : Fallbacks) (m : ℕ) → answer.Count m ≡ unlessFault answer.Refused f q → (f ≡ fine → C) → C
+unless-counted : {C : Type 0} (f : Fault) (q : Fallbacks) (m : ℕ) → answer.Count m ≡ unlessFault answer.Refused f q →
+    (f ≡ fine → C) → C
 unless-counted fine q m e go = go refl
 unless-counted (fault r) q m e go = absurd (let z : _≡_ {A = ℕ} 0 1 = cc in omega arith)
 
@@ -50,9 +51,11 @@ named-total n h e =
 
 named-log : (total named count x y a b : ℕ) → placesFault total named count x y a b ≡ fine → total ≡ named
 unfolding placesFault
-named-log total named count x y a b e = eqb-true total named (must-fine (eqb total named) 12 (⊳-fine (must (eqb total named) 12) e .0))
+named-log total named count x y a b e =
+    eqb-true total named (must-fine (eqb total named) 12 (⊳-fine (must (eqb total named) 12) e .0))
 
-pub answered-head : (total n : ℕ) (h x y s t : List ℕ) (a b m : ℕ) → answer.Count m ≡ questionOf total n h x y s t a b → (n ≡ indexLength (namedCount h)) × (total ≡ namedLog h)
+pub answered-head : (total n : ℕ) (h x y s t : List ℕ) (a b m : ℕ) → answer.Count m ≡ questionOf total n h x y s t a b →
+    (n ≡ indexLength (namedCount h)) × (total ≡ namedLog h)
 unfolding questionOf
 answered-head total n h x y s t a b m e =
     unless-counted (headFault n h ⊳ placesFault total (namedLog h) (namedCount h) (wordOf x 0) (wordOf y 0) a b) _ m e λ f.
@@ -62,19 +65,28 @@ answered-head total n h x y s t a b m e =
 -- ---- an append's numbers
 
 module _ (most total n : ℕ) (h first last stretch new : List ℕ) (count : ℕ) (named : count ≡ namedCount h) where
-  pub update-refused : (r : ℕ) → answer.Refused r ≡ questionOf total n h first last [] stretch 0 count → update.Refused r ≡ updateOf most total n h first last stretch new
+  pub update-refused : (r : ℕ) → answer.Refused r ≡ questionOf total n h first last [] stretch 0 count →
+      update.Refused r ≡ updateOf most total n h first last stretch new
   unfolding updateOf
   update-refused r e = rw (← rw named at e)
 
   module _ (m : ℕ) (e : answer.Count m ≡ questionOf total n h first last [] stretch 0 count) where
-    pub update-bad : (r : ℕ) → met.Fault r ≡ before (count % 64) last stretch → update.Refused r ≡ updateOf most total n h first last stretch new
+    pub update-bad : (r : ℕ) → met.Fault r ≡ before (count % 64) last stretch →
+        update.Refused r ≡ updateOf most total n h first last stretch new
     unfolding updateOf
     update-bad r f = rw (← rw named at e, ← rw named at f)
 
     pub update-grown : (log k : ℕ) → log ≡ namedLog h → met.Count k ≡ before (count % 64) last stretch →
         grownBy most (log + length new) count k (answerIn new) ≡ updateOf most total n h first last stretch new
     unfolding updateOf
-    update-grown log k p f = rw (p, named, ← answered-head total n h first last [] stretch 0 (namedCount h) m (rw named at e) .1, ← rw named at e, ← rw named at f)
+    update-grown log k p f = rw (
+      p,
+      named,
+      ← answered-head total n h first last [] stretch 0 (namedCount h) m
+          (rw named at e) .1,
+      ← rw named at e,
+      ← rw named at f,
+    )
 
 -- what numbers that are told say: they fit, and the index was one of a record less
 pub record Fits (n total count fell : ℕ) : Type 0 where
@@ -82,11 +94,13 @@ pub record Fits (n total count fell : ℕ) : Type 0 where
   pub records : count ≤ greatest
   pub old : n ≡ entryPlace (count + 63)
 
-grown-fits : (n c total count fell t k f : ℕ) → n ≡ indexLength c → count ≡ c + 1 → update.Numbers t k f ≡ grown greatest total count fell → Fits n t k f
+grown-fits : (n c total count fell t k f : ℕ) → n ≡ indexLength c → count ≡ c + 1 → update.Numbers t k f
+    ≡ grown greatest total count fell → Fits n t k f
 unfolding grown grownFault
 grown-fits n c total count fell t k f old one e = go (grownFault greatest total count fell) refl e
   where
-    go : (g : Fault) → grownFault greatest total count fell ≡ g → update.Numbers t k f ≡ unlessFault update.Refused g (update.Numbers total count fell) → Fits n t k f
+    go : (g : Fault) → grownFault greatest total count fell ≡ g → update.Numbers t k f
+        ≡ unlessFault update.Refused g (update.Numbers total count fell) → Fits n t k f
     go (fault r) p e = absurd (let z : _≡_ {A = ℕ} 0 1 = cc in omega arith)
     go fine p e =
         let a : t ≡ total = cc in
@@ -100,32 +114,40 @@ grown-fits n c total count fell t k f old one e = go (grownFault greatest total 
           old = omega arith;
         })
 
-by-reply : (n c total m t k f : ℕ) (q : Said) → n ≡ indexLength c → update.Numbers t k f ≡ grownBy greatest total c m q → Fits n t k f
+by-reply : (n c total m t k f : ℕ) (q : Said) → n ≡ indexLength c → update.Numbers t k f ≡ grownBy greatest total c m q
+    → Fits n t k f
 by-reply n c total m t k f (said.outcome a) old e = grown-fits n c total (c + 1) (m + fallback (outcome a)) t k f old refl e
 by-reply n c total m t k f (said.refusal r) old e = grown-fits n c total (c + 1) (m + fallback (refusal r)) t k f old refl e
 by-reply n c total m t k f (said.unreadable r) old e = absurd (let z : _≡_ {A = ℕ} 0 1 = cc in omega arith)
 
 module _ (total n : ℕ) (h first last stretch new : List ℕ) (t k f : ℕ) where
-  by-before : (m : Met) → n ≡ indexLength (namedCount h) → update.Numbers t k f ≡ unlessBad (λ x. grownBy greatest (total + length new) (namedCount h) x (answerIn new)) m → Fits n t k f
+  by-before : (m : Met) → n ≡ indexLength (namedCount h) → update.Numbers t k f
+      ≡ unlessBad (λ x. grownBy greatest (total + length new) (namedCount h) x (answerIn new)) m → Fits n t k f
   by-before (met.Fault r) old e = absurd (let z : _≡_ {A = ℕ} 0 1 = cc in omega arith)
   by-before (met.Count m) old e = by-reply n (namedCount h) (total + length new) m t k f (answerIn new) old e
 
   by-question : (q : Fallbacks) → q ≡ questionOf total n h first last [] stretch 0 (namedCount h) →
-      update.Numbers t k f ≡ unlessBad (λ x. grownBy greatest (total + length new) (namedCount h) x (answerIn new)) (asked q (before (namedCount h % 64) last stretch)) → Fits n t k f
+      update.Numbers t k f ≡ unlessBad (λ x. grownBy greatest (total + length new) (namedCount h) x (answerIn new))
+      (asked q (before (namedCount h % 64) last stretch)) → Fits n t k f
   by-question (answer.Refused r) p e = absurd (let z : _≡_ {A = ℕ} 0 1 = cc in omega arith)
-  by-question (answer.Count m) p e = by-before (before (namedCount h % 64) last stretch) (answered-head total n h first last [] stretch 0 (namedCount h) m p .0) e
+  by-question (answer.Count m) p e = by-before (before (namedCount h % 64) last stretch)
+      (answered-head total n h first last [] stretch 0 (namedCount h) m p .0) e
 
   pub update-fits : update.Numbers t k f ≡ updateOf greatest total n h first last stretch new → Fits n t k f
   unfolding updateOf
   update-fits e = by-question (questionOf total n h first last [] stretch 0 (namedCount h)) refl e
 
-pub numbers-fit : (log old new : List ℕ) (t k f : ℕ) → update.Numbers t k f ≡ updateIn greatest log old new → Fits (length old) t k f
+pub numbers-fit : (log old new : List ℕ) (t k f : ℕ) → update.Numbers t k f ≡ updateIn greatest log old new →
+    Fits (length old) t k f
 unfolding updateIn
-numbers-fit log old new t k f e = update-fits (length log) (length old) (headIn old) (entryIn old 0) (entryIn old (namedCount (headIn old))) (stretchIn log (entryIn old (namedCount (headIn old))) (namedCount (headIn old))) new t k f e
+numbers-fit log old new t k f e = update-fits (length log) (length old) (headIn old) (entryIn old 0)
+    (entryIn old (namedCount (headIn old))) (stretchIn log (entryIn old (namedCount (headIn old)))
+    (namedCount (headIn old))) new t k f e
 
 -- ---- the stores
 
-module _ (l : List ℕ) (n total count fell : ℕ) (room : n ≤ length l) (old : n ≡ entryPlace (count + 63)) (fits : indexLength count ≤ length l) where
+module _ (l : List ℕ) (n total count fell : ℕ) (room : n ≤ length l) (old : n ≡ entryPlace (count + 63))
+    (fits : indexLength count ≤ length l) where
   abbrev kept : List ℕ
   kept = head total count ++ drop 13 (take n l)
 
@@ -136,7 +158,8 @@ module _ (l : List ℕ) (n total count fell : ℕ) (room : n ≤ length l) (old 
   kept-length = length-append (head total count) (drop 13 (take n l)) ∙ omega (arith, head-length total count, old-length)
 
   behind-head : drop 13 l ≡ drop 13 (take n l) ++ drop n l
-  behind-head = ap (drop 13) (sym (take-append-drop n l)) ∙ drop-append-le 13 (take n l) (drop n l) (omega (arith, length-take-le n l room))
+  behind-head = ap (drop 13) (sym (take-append-drop n l))
+      ∙ drop-append-le 13 (take n l) (drop n l) (omega (arith, length-take-le n l room))
 
   head-stored : sets l 0 (head total count) ≡ laidOver kept l
   unfolding laidOver
@@ -146,21 +169,33 @@ module _ (l : List ℕ) (n total count fell : ℕ) (room : n ≤ length l) (old 
       ∙ sym (append-assoc (head total count) (drop 13 (take n l)) (drop n l))
       ∙ ap (λ (k : ℕ). kept ++ drop k l) (sym kept-length)
 
-  pub update-stored : sets (sets l 0 (head total count)) (entryPlace (count + 63)) (newEntry count total fell) ≡ laidOver (updated total count fell (take n l)) l
+  pub update-stored : sets (sets l 0 (head total count)) (entryPlace (count + 63)) (newEntry count total fell)
+      ≡ laidOver (updated total count fell (take n l)) l
   unfolding updated
   update-stored =
       rw head-stored
-      (laid-sets kept l (omega (arith, kept-length)) (newEntry count total fell) (entryPlace (count + 63)) (omega (arith, kept-length)) (omega (arith, kept-length, new-length count total fell))
+      (laid-sets kept l (omega (arith, kept-length)) (newEntry count total fell) (entryPlace (count + 63))
+      (omega (arith, kept-length)) (omega (arith, kept-length, new-length count total fell))
       ∙ ap (λ (x : List ℕ). laidOver x l) (append-assoc (head total count) (drop 13 (take n l)) (newEntry count total fell)))
 
-pub append-stored : (l : List ℕ) (n total count fell : ℕ) → n ≤ length l → Fits n total count fell → storedOver l total count fell ≡ updatedOver l n (update.Numbers total count fell)
+pub append-stored : (l : List ℕ) (n total count fell : ℕ) → n ≤ length l → Fits n total count fell →
+    storedOver l total count fell ≡ updatedOver l n (update.Numbers total count fell)
 unfolding storedOver storeFault
 append-stored l n total count fell room f = go (decLe (indexLength count) (length l))
   where
     go : Dec (indexLength count ≤ length l) → storedOver l total count fell ≡ updatedOver l n (update.Numbers total count fell)
     go (yes p) =
-        rw (le-leb total greatest (f .log), le-leb count greatest (f .records), le-leb (indexLength count) (length l) p, update-stored l n total count fell room (f .old) p)
-    go (no p) = rw (le-leb total greatest (f .log), le-leb count greatest (f .records), lt-leb (indexLength count) (length l) (omega arith))
+        rw (
+          le-leb total greatest (f .log),
+          le-leb count greatest (f .records),
+          le-leb (indexLength count) (length l) p,
+          update-stored l n total count fell room (f .old) p,
+        )
+    go (no p) = rw (
+      le-leb total greatest (f .log),
+      le-leb count greatest (f .records),
+      lt-leb (indexLength count) (length l) (omega arith),
+    )
 
 -- ---- an append's answers
 
@@ -170,7 +205,8 @@ module _ (log l new : List ℕ) (n : ℕ) where
   append-long h = rw (lt-leb n (length l) h)
 
   module _ (room : n ≤ length l) where
-    pub append-refused : (r : ℕ) → update.Refused r ≡ updateIn greatest log (take (n - 0) (drop 0 l)) new → standing (index.Refused r) l ≡ appendedOver log l n new
+    pub append-refused : (r : ℕ) → update.Refused r ≡ updateIn greatest log (take (n - 0) (drop 0 l)) new →
+        standing (index.Refused r) l ≡ appendedOver log l n new
     unfolding appendedOver appendedUpTo
     append-refused r e = rw (le-leb n (length l) room, ← rw sub-zero at e)
 

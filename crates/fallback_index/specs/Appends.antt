@@ -39,8 +39,10 @@ grown most logLength count fallbacksBefore =
 
 -- the record "as 01's answer reader reads one", behind `count` records with so many fallbacks
 abbrev pub grownBy : ℕ → ℕ → ℕ → ℕ → Said → Update
-grownBy most logLength count fallbacksBefore (said.outcome a) = grown most logLength (count + 1) (fallbacksBefore + fallback (outcome a))
-grownBy most logLength count fallbacksBefore (said.refusal n) = grown most logLength (count + 1) (fallbacksBefore + fallback (refusal n))
+grownBy most logLength count fallbacksBefore (said.outcome a) =
+    grown most logLength (count + 1) (fallbacksBefore + fallback (outcome a))
+grownBy most logLength count fallbacksBefore (said.refusal n) =
+    grown most logLength (count + 1) (fallbacksBefore + fallback (refusal n))
 grownBy most logLength count fallbacksBefore (said.unreadable r) = update.Refused r
 
 -- what the question refuses; else the fallbacks found before the log's end
@@ -57,7 +59,8 @@ unlessBad go (met.Count n) = go n
 unfoldable pub updateOf : ℕ → ℕ → ℕ → List ℕ → List ℕ → List ℕ → List ℕ → List ℕ → Update
 updateOf most logLength length′ head first last stretch new =
     unlessBad (λ n. grownBy most (logLength + length new) (namedCount head) n (answerIn new))
-    (asked (questionOf logLength length′ head first last [] stretch 0 (namedCount head)) (before (namedCount head % apart) last stretch))
+    (asked (questionOf logLength length′ head first last [] stretch 0 (namedCount head))
+    (before (namedCount head % apart) last stretch))
 
 -- ---- the parts of a whole log and index
 
@@ -71,7 +74,8 @@ updateIn most log index new =
 
 -- the index for one record more, by the old one's entries
 unfoldable pub updated : ℕ → ℕ → ℕ → List ℕ → List ℕ
-updated logLength count fallbacksBefore old = head logLength count ++ (drop headBytes old ++ newEntry count logLength fallbacksBefore)
+updated logLength count fallbacksBefore old =
+    head logLength count ++ (drop headBytes old ++ newEntry count logLength fallbacksBefore)
 
 abbrev pub updatedOver : List ℕ → ℕ → Update → Standing IndexWritten
 updatedOver buffer n (update.Refused r) = refusedOver buffer r
@@ -82,7 +86,8 @@ updatedOver buffer n (update.Numbers logLength count fallbacksBefore) =
 -- the greatest number that an index may hold is an argument
 unfoldable pub appendedUpTo : ℕ → List ℕ → List ℕ → ℕ → List ℕ → Standing IndexWritten
 appendedUpTo most log buffer n new =
-    unlessFault (refusedOver buffer) (must (leb n (length buffer)) 2) (updatedOver buffer n (updateIn most log (take n buffer) new))
+    unlessFault (refusedOver buffer) (must (leb n (length buffer)) 2)
+    (updatedOver buffer n (updateIn most log (take n buffer) new))
 
 unfoldable pub appendedOver : List ℕ → List ℕ → ℕ → List ℕ → Standing IndexWritten
 appendedOver log buffer n new = appendedUpTo greatest log buffer n new

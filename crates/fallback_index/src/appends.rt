@@ -45,7 +45,8 @@ pub(crate) fn grown_by(
     requires { ⌜ «log_length» ≤ greatest ⌝ }
     requires { ⌜ count ≤ greatest ⌝ }
     requires { ⌜ before ≤ greatest + 63 ⌝ }
-    ensures { λ r. ⌜ r ≡ grownBy most («log_length» + length (now («record» .entry))) count before (answerIn (now («record» .entry))) ⌝ }
+    ensures { λ r. ⌜ r ≡ grownBy most («log_length» + length (now («record» .entry))) count before
+        (answerIn (now («record» .entry))) ⌝ }
 {
     let total = (log_length + record.len()) as u64;
     let raised = (count + 1) as u64;

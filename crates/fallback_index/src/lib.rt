@@ -1,4 +1,5 @@
-// Fallbacks between two ticks (02, T-10): questions that a log's index answers from two short stretches of the log, and an append.
+// Fallbacks between two ticks (02, T-10): questions that a log's index answers from two short stretches of the log, and
+// an append.
 ghost use mathlib.Core.Path.{_≡_};
 ghost use Rattle.index_building.specs.Indexes.{greatest, standing};
 ghost use Rattle.fallback_index.specs.Questions.{stretchBytes, questionOf, questionIn};
@@ -17,16 +18,18 @@ pub enum Fallbacks {
     Refused(u8),
 }
 
-// What an append changes: the log's length, the record count and the fallbacks, all with the new record; or the number of a refusal.
+// What an append changes: the log's length, the record count and the fallbacks, all with the new record; or the number
+// of a refusal.
 pub enum Update {
     Numbers(u64, u64, u64),
     Refused(u8),
 }
 
-// How many answers from record a up to but not including record b were outcomes 3, 4 or 5, by the log's index. Refused, in this
-// order: an index whose length does not match its bytes (2), its version (1), missing fields or an entry number that does not go with
-// the record count (2); a log of another length than the index names (12); a > b, or b over the record count (13); an entry used that
-// points beyond the log (2); a bad record on the walk to a, then on that to b (1 or 2); fewer fallbacks before b than before a (2).
+// How many answers from record a up to but not including record b were outcomes 3, 4 or 5, by the log's index. Refused,
+// in this order: an index whose length does not match its bytes (2), its version (1), missing fields or an entry number
+// that does not go with the record count (2); a log of another length than the index names (12); a > b, or b over the
+// record count (13); an entry used that points beyond the log (2); a bad record on the walk to a, then on that to b (1
+// or 2); fewer fallbacks before b than before a (2).
 pub fn count_fallbacks(log: &[u8], index: &[u8], a: usize, b: usize) -> Fallbacks
     ensures { λ r. ⌜ r ≡ questionIn (now (log .entry)) (now (index .entry)) a b ⌝ }
 {
@@ -59,8 +62,9 @@ pub fn most_bytes(a: usize) -> usize
     Answer::BYTES * (a % IndexWritten::APART)
 }
 
-// `count_fallbacks` by what it rests on: the lengths of log and index, the index's first 13 bytes, its entries at or before a and b
-// (8 bytes from 13 + 8 * (a / 64) on), and the log from where each entry points, `most_bytes` or what there is.
+// `count_fallbacks` by what it rests on: the lengths of log and index, the index's first 13 bytes, its entries at or
+// before a and b (8 bytes from 13 + 8 * (a / 64) on), and the log from where each entry points, `most_bytes` or what
+// there is.
 pub fn count_by_parts(
     log_length: usize,
     index_length: usize,
@@ -72,7 +76,8 @@ pub fn count_by_parts(
     a: usize,
     b: usize,
 ) -> Fallbacks
-    ensures { λ r. ⌜ r ≡ questionOf «log_length» «index_length» (now (head .entry)) (now («entry_a» .entry)) (now («entry_b» .entry)) (now («stretch_a» .entry)) (now («stretch_b» .entry)) a b ⌝ }
+    ensures { λ r. ⌜ r ≡ questionOf «log_length» «index_length» (now (head .entry)) (now («entry_a» .entry))
+        (now («entry_b» .entry)) (now («stretch_a» .entry)) (now («stretch_b» .entry)) a b ⌝ }
 {
     let judged = questions::judge(
         log_length,
@@ -91,12 +96,14 @@ pub fn count_by_parts(
     questions::count_between(first, second)
 }
 
-// Brings the index of a log, the buffer's first `length` bytes, up to date for one record more, which the caller puts behind the log;
-// bytes behind the index keep their contents. It returns the index's new length. Refused, with the buffer as it was: a length over
-// the buffer's (2); a question's refusals for 0 and the record count; bytes that are not one answer record (1 or 2); a number of the
-// index over 4,294,967,295 (4); a buffer shorter than the new index (10).
+// Brings the index of a log, the buffer's first `length` bytes, up to date for one record more, which the caller puts
+// behind the log; bytes behind the index keep their contents. It returns the index's new length. Refused, with the
+// buffer as it was: a length over the buffer's (2); a question's refusals for 0 and the record count; bytes that are
+// not one answer record (1 or 2); a number of the index over 4,294,967,295 (4); a buffer shorter than the new index
+// (10).
 pub fn append_record(log: &[u8], buffer: &mut [u8], length: usize, record: &[u8]) -> IndexWritten
-    ensures { λ r. ⌜ standing r (now (buffer .exit)) ≡ appendedOver (now (log .entry)) (now (buffer .entry)) length (now («record» .entry)) ⌝ }
+    ensures { λ r. ⌜ standing r (now (buffer .exit)) ≡ appendedOver (now (log .entry)) (now (buffer .entry)) length
+        (now («record» .entry)) ⌝ }
 {
     if length > buffer.len() {
         return IndexWritten::Refused(2);
@@ -110,8 +117,9 @@ pub fn append_record(log: &[u8], buffer: &mut [u8], length: usize, record: &[u8]
     }
 }
 
-// An append's numbers by what it rests on: the lengths of log and index, the index's first 13 bytes, its first entry and the one at
-// or before the record count, the log from where that one points, 18 * (count % 64) bytes or what there is, and the new record.
+// An append's numbers by what it rests on: the lengths of log and index, the index's first 13 bytes, its first entry
+// and the one at or before the record count, the log from where that one points, 18 * (count % 64) bytes or what there
+// is, and the new record.
 pub fn update_by_parts(
     log_length: usize,
     index_length: usize,
@@ -121,7 +129,8 @@ pub fn update_by_parts(
     stretch: &[u8],
     record: &[u8],
 ) -> Update
-    ensures { λ r. ⌜ r ≡ updateOf greatest «log_length» «index_length» (now (head .entry)) (now (first .entry)) (now (last .entry)) (now (stretch .entry)) (now («record» .entry)) ⌝ }
+    ensures { λ r. ⌜ r ≡ updateOf greatest «log_length» «index_length» (now (head .entry)) (now (first .entry))
+        (now (last .entry)) (now (stretch .entry)) (now («record» .entry)) ⌝ }
 {
     let named = words::word_at(head, 5) as usize;
     let count = words::word_at(head, 9) as usize;

@@ -42,7 +42,8 @@ pub(crate) fn judge(
     a: usize,
     b: usize,
 ) -> Judged
-    ensures { λ r. ⌜ faultOf r ≡ (headFault «index_length» (now (head .entry)) ⊳ placesFault «log_length» (namedLog (now (head .entry))) (namedCount (now (head .entry))) first second a b) ⌝ }
+    ensures { λ r. ⌜ faultOf r ≡ (headFault «index_length» (now (head .entry)) ⊳ placesFault «log_length»
+        (namedLog (now (head .entry))) (namedCount (now (head .entry))) first second a b) ⌝ }
 {
     let named = words::word_at(head, 5) as usize;
     let count = words::word_at(head, 9) as usize;

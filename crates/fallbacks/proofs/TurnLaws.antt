@@ -22,12 +22,14 @@ use Rattle.fallbacks.specs.Turns.{held, staged, wentOn, readAs, readOver
 
 module _ (input : List ℕ) (there : ℕ) (entries : List ℕ) (before : Reading) (fits : there ≤ length input) where
   -- what the step over the bytes that are there tells, and what it leaves in the entries' buffer
-  module _ (told : PartBuilt) (out : List ℕ) (e : standing told out ≡ partOver (take (there - 0) input) (before .extent) entries) where
+  module _ (told : PartBuilt) (out : List ℕ) (e : standing told out
+      ≡ partOver (take (there - 0) input) (before .extent) entries) where
     read-as : readOver input there entries before ≡ wentOn input there before out told
     unfolding readOver
     read-as = ap (readAs input there before) (sym (rw sub-zero at e))
 
-  pub refused-step : (r : ℕ) (out : List ℕ) → standing (built.Refused r) out ≡ partOver (take (there - 0) input) (before .extent) entries →
+  pub refused-step : (r : ℕ) (out : List ℕ) → standing (built.Refused r) out
+      ≡ partOver (take (there - 0) input) (before .extent) entries →
       held (staged (stage.Refused r) before) input out ≡ readOver input there entries before
   refused-step r out e = sym (read-as (built.Refused r) out e)
 
@@ -46,8 +48,10 @@ module _ (input : List ℕ) (there : ℕ) (entries : List ℕ) (before : Reading
       here : kept k rest ≡ kept (there - used) (shifted used (there - used) input)
       here = moved ∙ kept-there used there input (omega (arith, within .within-part, size)) fits
 
-      pub whole-step : held (record { stage = stage.Open; kept = k; extent = after }) rest out ≡ readOver input there entries before
-      whole-step = rw (ap (λ (x : Kept). x .count) here, ap (λ (x : Kept). x .contents) here) (sym (read-as (built.Whole used n after) out e))
+      pub whole-step : held (record { stage = stage.Open; kept = k; extent = after }) rest out
+          ≡ readOver input there entries before
+      whole-step = rw (ap (λ (x : Kept). x .count) here, ap (λ (x : Kept). x .contents) here)
+          (sym (read-as (built.Whole used n after) out e))
 
       -- a record cut short at most
       pub few-wait : k < 18
@@ -62,6 +66,7 @@ module _ (input part entries after written : List ℕ) (before next : Reading) (
   pub end-read : next ≡ staged stage.AtEnd before → after ≡ filled → Follows before input entries next after written
   end-read e f = at-end e (ap (take (before .kept)) f ∙ kept-stays (before .kept) input part h)
 
-  pub some-read : (count : ℕ) → before .kept + count ≤ length filled → Steps before filled (before .kept + count) entries next after written →
+  pub some-read : (count : ℕ) → before .kept + count ≤ length filled →
+      Steps before filled (before .kept + count) entries next after written →
       Follows before input entries next after written
   some-read count fits e = brought filled (before .kept + count) (kept-stays (before .kept) input part h) (omega arith) fits e

@@ -40,7 +40,8 @@ unfoldable pub readOver : List ℕ → ℕ → List ℕ → Reading → Held
 readOver input there entries before = readAs input there before (partOver (take there input) (before .extent) entries)
 
 -- what is there is worked as one part of the log, or its entries could not be written
-pub data Steps (before : Reading) (input : List ℕ) (there : ℕ) (entries : List ℕ) (next : Reading) (after written : List ℕ) : Type 0 where
+pub data Steps (before : Reading) (input : List ℕ) (there : ℕ) (entries : List ℕ) (next : Reading)
+    (after written : List ℕ) : Type 0 where
   unwritten : next .stage ≡ stage.Unwritten → Steps before input there entries next after written
   worked : held next after written ≡ readOver input there entries before → Steps before input there entries next after written
 
@@ -48,6 +49,8 @@ pub data Steps (before : Reading) (input : List ℕ) (there : ℕ) (entries : Li
 -- behind those that were kept, so many are there, and they are worked.
 pub data Follows (before : Reading) (input entries : List ℕ) (next : Reading) (after written : List ℕ) : Type 0 where
   unread : next ≡ staged stage.Unread before → Follows before input entries next after written
-  at-end : next ≡ staged stage.AtEnd before → take (before .kept) after ≡ take (before .kept) input → Follows before input entries next after written
-  brought : (filled : List ℕ) (there : ℕ) → take (before .kept) filled ≡ take (before .kept) input → before .kept ≤ there → there ≤ length filled →
+  at-end : next ≡ staged stage.AtEnd before → take (before .kept) after ≡ take (before .kept) input →
+      Follows before input entries next after written
+  brought : (filled : List ℕ) (there : ℕ) → take (before .kept) filled ≡ take (before .kept) input →
+      before .kept ≤ there → there ≤ length filled →
       Steps before filled there entries next after written → Follows before input entries next after written

@@ -119,7 +119,8 @@ fn turn(file: i32, new: i32, input: &mut [u8], entries: &mut [u8], before: Readi
 // next read.
 fn step(new: i32, input: &mut [u8], there: usize, entries: &mut [u8], before: Reading) -> Reading
     requires { ⌜ (before .kept < 18) × (there ≤ length (now input)) ⌝ }
-    ensures { λ r. ⌜ Steps before (now (input .entry)) there (now (entries .entry)) r (now (input .exit)) (now (entries .exit)) ⌝ }
+    ensures { λ r. ⌜ Steps before (now (input .entry)) there (now (entries .entry)) r (now (input .exit))
+        (now (entries .exit)) ⌝ }
     ensures { λ r. ⌜ r .kept < 18 ⌝ }
 {
     let extent = before.extent;

@@ -1,5 +1,6 @@
-// Reads scene records from standard input to its end and writes the answer to each to standard output (01, "Records (ours)"). A read or a
-// write that fails is told on standard error, the one sign of it that a program can give: it has no exit status.
+// Reads scene records from standard input to its end and writes the answer to each to standard output (01, "Records
+// (ours)"). A read or a write that fails is told on standard error, the one sign of it that a program can give: it has
+// no exit status.
 use libc::STDIN_FILENO;
 use libc::STDOUT_FILENO;
 use records::Stream;

@@ -17,13 +17,16 @@ pub record Back {A : Type 0} (s : List ℕ) (g : Got A) (v : A) (r : List ℕ) :
   pub bound : place ≤ length s
   pub left : drop place s ≡ r
 
-pub taking : {A C : Type 0} {s : List ℕ} {g : Got A} {v : A} {r : List ℕ} → Back s g v r → ((m : ℕ) → g ≡ got v m → m ≤ length s → drop m s ≡ r → C) → C
+pub taking : {A C : Type 0} {s : List ℕ} {g : Got A} {v : A} {r : List ℕ} → Back s g v r →
+    ((m : ℕ) → g ≡ got v m → m ≤ length s → drop m s ≡ r → C) → C
 taking b k = k (b .place) (b .gives) (b .bound) (b .left)
 
-pub word-back : (s : List ℕ) (w at x : ℕ) (r : List ℕ) → 0 < w → x < 256 ^ w → drop at s ≡ bigEndian w x ++ r → Back s (word w s at) x r
+pub word-back : (s : List ℕ) (w at x : ℕ) (r : List ℕ) → 0 < w → x < 256 ^ w → drop at s ≡ bigEndian w x ++ r →
+    Back s (word w s at) x r
 unfolding word
 word-back s w at x r p h e =
-    let l : length s - at ≡ w + length r = sym (length-drop at s) ∙ ap length e ∙ length-append (bigEndian w x) r ∙ ap (λ (k : ℕ). k + length r) (length-big-endian w x) in
+    let l : length s - at ≡ w + length r = sym (length-drop at s) ∙ ap length e ∙ length-append (bigEndian w x) r
+    ∙ ap (λ (k : ℕ). k + length r) (length-big-endian w x) in
     let b : at + w ≤ length s = omega arith in
     let t : take w (drop at s) ≡ bigEndian w x = ap (take w) e ∙ take-at (bigEndian w x) r w (length-big-endian w x) in
     let d : drop (at + w) s ≡ r = sym (drop-drop w at s) ∙ ap (drop w) e ∙ drop-at (bigEndian w x) r w (length-big-endian w x) in
@@ -36,7 +39,8 @@ Every P on state (a ∷ l) = P state a × Every P on (on state a) l
 
 pub many-back : {A S : Type 0} (s : List ℕ) (step : S → ℕ → Got A) (on : S → A → S) (bytes : A → List ℕ) (P : S → A → Type 0)
     → ((state : S) (at : ℕ) (a : A) (r : List ℕ) → P state a → drop at s ≡ bytes a ++ r → Back s (step state at) a r)
-    → (vs : List A) (state : S) (at : ℕ) (r : List ℕ) → at ≤ length s → Every P on state vs → drop at s ≡ each bytes vs ++ r → Back s (many step on (length vs) state at) vs r
+    → (vs : List A) (state : S) (at : ℕ) (r : List ℕ) → at ≤ length s → Every P on state vs →
+    drop at s ≡ each bytes vs ++ r → Back s (many step on (length vs) state at) vs r
 unfolding many each
 many-back s step on bytes P one [] state at r b ok e = record { place = at; gives = refl; bound = b; left = e }
 many-back s step on bytes P one (a ∷ vs) state at r b ok e =

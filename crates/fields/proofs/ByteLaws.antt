@@ -23,7 +23,8 @@ weight (suc w) = let h : 0 < 256 ^ w = weight w in let e : 256 ^ suc w ≡ 256 ^
 from-bytes : (n w x : ℕ) → bigEndianFrom n (bigEndian w x) ≡ n * 256 ^ w + x % 256 ^ w
 unfolding bigEndianFrom bigEndian
 from-bytes n zero x = omega arith
-from-bytes n (suc w) x = from-bytes (n * 256 + x / 256 ^ w % 256) w x ∙ rw (pow-succ' 256 w, mod-mul x (lit< tt) (weight w)) (simp (add-mul, mul-assoc, add-assoc))
+from-bytes n (suc w) x = from-bytes (n * 256 + x / 256 ^ w % 256) w x
+    ∙ rw (pow-succ' 256 w, mod-mul x (lit< tt) (weight w)) (simp (add-mul, mul-assoc, add-assoc))
 
 pub number-of-bytes : (w x : ℕ) → x < 256 ^ w → bigEndianNumber (bigEndian w x) ≡ x
 unfolding bigEndianNumber
@@ -33,12 +34,14 @@ number-of-bytes w x h = from-bytes 0 w x ∙ rw (zero-mul, zero-add, mod-eq-of-l
 from-number : (n : ℕ) (l : List ℕ) → bigEndianFrom n l ≡ n * 256 ^ length l + bigEndianNumber l
 unfolding bigEndianNumber bigEndianFrom
 from-number n [] = omega arith
-from-number n (b ∷ l) = rw (from-number (n * 256 + b) l, from-number (0 + b) l, pow-succ' 256 (length l)) (simp (add-mul, mul-assoc, add-assoc, zero-add))
+from-number n (b ∷ l) = rw (from-number (n * 256 + b) l, from-number (0 + b) l, pow-succ' 256 (length l))
+    (simp (add-mul, mul-assoc, add-assoc, zero-add))
 
 pub number-lt : (l : List ℕ) → AllBytes l → bigEndianNumber l < 256 ^ length l
 unfolding bigEndianNumber bigEndianFrom
 number-lt [] h = lit< tt
-number-lt (b ∷ l) h = rw (from-number (0 + b) l, zero-add, pow-succ' 256 (length l)) (digits-lt (h 0) (number-lt l λ i. h (suc i)))
+number-lt (b ∷ l) h =
+    rw (from-number (0 + b) l, zero-add, pow-succ' 256 (length l)) (digits-lt (h 0) (number-lt l λ i. h (suc i)))
 
 -- what stands above the w lowest bytes does not change them
 bytes-high : (w q x : ℕ) → bigEndian w (q * 256 ^ w + x) ≡ bigEndian w x

@@ -18,7 +18,10 @@ pub record Span (s : List ℕ) (at : ℕ) (b : List ℕ) (m : ℕ) : Type 0 wher
   pub stands : drop at s ≡ b ++ drop m s
 
 pub join : {s : List ℕ} {at : ℕ} {b : List ℕ} {m : ℕ} {c : List ℕ} {k : ℕ} → Span s at b m → Span s m c k → Span s at (b ++ c) k
-join {s} {at} {b} {m} {c} {k} p q = record { stands = p .stands ∙ ap (λ (r : List ℕ). b ++ r) (q .stands) ∙ sym (append-assoc b c (drop k s)) }
+join {s} {at} {b} {m} {c} {k} p q = record {
+  stands = p .stands ∙ ap (λ (r : List ℕ). b ++ r) (q .stands)
+      ∙ sym (append-assoc b c (drop k s));
+}
 
 -- every part of bytes is bytes
 part-bytes : (s : List ℕ) (w at : ℕ) → AllBytes s → AllBytes (take w (drop at s))
@@ -45,8 +48,12 @@ module _ (s : List ℕ) (h : AllBytes s) where
       let q : at + w ≡ m = got-same r .1 in
       let l : length (take w (drop at s)) ≡ w = length-take-le w (drop at s) (rw length-drop (omega arith)) in
       let k : AllBytes (take w (drop at s)) = part-bytes s w at h in
-      let b : bigEndian w x ≡ take w (drop at s) = rw (l, p) at (bytes-of-number (take w (drop at s)) k) in
-      (rw (l, p) at (number-lt (take w (drop at s)) k), record { stands = rw (b, ← q, ← drop-drop w at s) (sym (take-append-drop w (drop at s))) })
+      let b : bigEndian w x ≡ take w (drop at s) = rw (l, p) at (bytes-of-number (take w (drop at s)) k) in (
+        rw (l, p) at (number-lt (take w (drop at s)) k),
+        record {
+          stands = rw (b, ← q, ← drop-drop w at s) (sym (take-append-drop w (drop at s)));
+        },
+      )
 
 -- steps that each read the bytes of their value read those of all, one behind the other
 pub many-span : {A S : Type 0} (s : List ℕ) (step : S → ℕ → Got A) (on : S → A → S) (bytes : A → List ℕ)

@@ -1,5 +1,5 @@
--- 01, "Refusal numbers": "fields left to right, each first for missing bytes (2), then its own rule". A step of reading at a place gives a refusal's number,
--- or a value and the place behind it. Definitions only. Assumes nothing.
+-- 01, "Refusal numbers": "fields left to right, each first for missing bytes (2), then its own rule". A step of reading
+-- at a place gives a refusal's number, or a value and the place behind it. Definitions only. Assumes nothing.
 use Prim.Native.Nat.{ℕ, zero, suc, _+_}
 use mathlib.Core.Bool.{Bool, true, false}
 use mathlib.Core.List.{List, [], _∷_}

@@ -8,7 +8,8 @@ use lib.Seq.{take-all}
 use Rattle.lines.proofs.Fold.{take-next, take-set-next}
 
 module _ {A : Type 0} (l m : List A) (i : ℕ) where
-  pub filled-next : (d : A) {x : A} → i < length l → i < length m → take i l ≡ take i m → x ≡ getD m i d → take (i + 1) (set l i x) ≡ take (i + 1) m
+  pub filled-next : (d : A) {x : A} → i < length l → i < length m → take i l ≡ take i m → x ≡ getD m i d →
+      take (i + 1) (set l i x) ≡ take (i + 1) m
   filled-next d {x} h k e f = rw (take-set-next l i h x, take-next m i k d, e, f)
 
   pub filled : length l ≡ i → length m ≡ i → take i l ≡ take i m → l ≡ m

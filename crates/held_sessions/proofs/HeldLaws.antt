@@ -1,5 +1,5 @@
--- What one call leaves is what the next one finds: a session laid out is the session that the arrays say, and behind a refusal they hold what they held.
--- Probes are a number of four bytes. Assumes nothing.
+-- What one call leaves is what the next one finds: a session laid out is the session that the arrays say, and behind a
+-- refusal they hold what they held. Probes are a number of four bytes. Assumes nothing.
 use Prim.Native.Nat.{ℕ, _^_, _<_}
 use mathlib.Core.Path.{_≡_, refl, _∙_, ap}
 use native.Mathlib.Nat.{mod-eq-of-lt}
@@ -32,7 +32,8 @@ module _ (w : Vec2) (l : Float) where
   limit-back (phase.Relaxing x y depth) = refl
   limit-back (phase.RigidFailure k x y) = refl
 
-  phase-back : (p : Phase) → phaseIn (phaseKind p) (phaseIndex p) (getD (numbersIn w l p) 3 nan) (getD (numbersIn w l p) 4 nan) (getD (numbersIn w l p) 5 nan) ≡ p
+  phase-back : (p : Phase) → phaseIn (phaseKind p) (phaseIndex p) (getD (numbersIn w l p) 3 nan)
+      (getD (numbersIn w l p) 4 nan) (getD (numbersIn w l p) 5 nan) ≡ p
   unfolding phaseIn if_then_else_
   phase-back (phase.Solving x y) = refl
   phase-back (phase.Relaxing x y depth) = refl

@@ -1,4 +1,5 @@
--- A session in four arrays of a caller's: which session they say, and how one is laid out in them. Definitions only. Assumes nothing.
+-- A session in four arrays of a caller's: which session they say, and how one is laid out in them. Definitions only.
+-- Assumes nothing.
 use Prim.Native.Nat.{ℕ, _%_, _^_}
 use mathlib.Core.List.{List, [], _∷_}
 use lib.ListN.{getD}
@@ -19,8 +20,9 @@ use Rattle.session.specs.Withdrawals.{threesOf}
 
 -- ---- the four arrays
 
--- 256 lines, four numbers each; 256 origins, three numbers each; wish, limit, point and penetration; line count, rigid count, phase and the index of a rigid
--- failure, cause and index of the failed line, the earlier line that the cause names, probes
+-- 256 lines, four numbers each; 256 origins, three numbers each; wish, limit, point and penetration; line count, rigid
+-- count, phase and the index of a rigid failure, cause and index of the failed line, the earlier line that the cause
+-- names, probes
 pub record Block : Type 0 where
   pub lines : List Float
   pub origins : List ℕ
@@ -39,7 +41,8 @@ sessionIn b = record {
   rigid = getD (b .words) 1 0;
   wish = vec (getD (b .numbers) 0 nan) (getD (b .numbers) 1 nan);
   limit = getD (b .numbers) 2 nan;
-  phase = phaseIn (getD (b .words) 2 0) (getD (b .words) 3 0) (getD (b .numbers) 3 nan) (getD (b .numbers) 4 nan) (getD (b .numbers) 5 nan);
+  phase = phaseIn (getD (b .words) 2 0) (getD (b .words) 3 0) (getD (b .numbers) 3 nan) (getD (b .numbers) 4 nan)
+      (getD (b .numbers) 5 nan);
   failed = failedIn (getD (b .words) 4 0) (getD (b .words) 5 0) (getD (b .words) 6 0);
   probes = getD (b .words) 7 0 % 2 ^ 32;
 }

@@ -1,5 +1,5 @@
-// A session in a caller's memory: four arrays of plain numbers, as C can hold them. Whatever they hold, they say a session; and a session is laid out in them
-// in one way.
+// A session in a caller's memory: four arrays of plain numbers, as C can hold them. Whatever they hold, they say a
+// session; and a session is laid out in them in one way.
 use admission::Judged;
 use common::Vec2;
 use linear_programming::FailedLine;
@@ -49,7 +49,8 @@ pub fn session_in(
     numbers: &[f32; 6],
     words: &[usize; 8],
 ) -> Session
-    ensures { λ r. ⌜ r ≡ sessionIn (block (now (lines .entry)) (now (origins .entry)) (now (numbers .entry)) (now (words .entry))) ⌝ }
+    ensures { λ r. ⌜ r ≡ sessionIn (block (now (lines .entry)) (now (origins .entry)) (now (numbers .entry))
+        (now (words .entry))) ⌝ }
 {
     Session {
         lines: lines_in(lines),
@@ -108,7 +109,8 @@ fn numbers_of(wish: Vec2, limit: f32, phase: Phase) -> [f32; 6]
     }
 }
 
-// Line count, rigid count, phase and the index of a rigid failure, cause and index of the failed line, the earlier line that the cause names, probes.
+// Line count, rigid count, phase and the index of a rigid failure, cause and index of the failed line, the earlier line
+// that the cause names, probes.
 fn words_of(count: usize, rigid: usize, phase: Phase, failed: FailedLine, probes: u32) -> [usize; 8]
     ensures { λ r. ⌜ r ≡ wordsIn count rigid phase failed probes ⌝ }
 {
@@ -137,7 +139,8 @@ pub fn put_session(
     numbers: &mut [f32; 6],
     words: &mut [usize; 8],
 )
-    ensures { λ _. ⌜ block (now (lines .exit)) (now (origins .exit)) (now (numbers .exit)) (now (words .exit)) ≡ blockOf session ⌝ }
+    ensures { λ _. ⌜ block (now (lines .exit)) (now (origins .exit)) (now (numbers .exit)) (now (words .exit))
+        ≡ blockOf session ⌝ }
 {
     let all = session.lines;
     let walls = session.origins;
@@ -150,7 +153,8 @@ pub fn put_session(
     *words = words_of(session.count, session.rigid, phase, failed, session.probes);
 }
 
-// What a call on a session handed back, left in the four arrays: 0, and they say its session; or the number of its refusal, and they are as they were.
+// What a call on a session handed back, left in the four arrays: 0, and they say its session; or the number of its
+// refusal, and they are as they were.
 pub fn leave(
     fed: Fed,
     lines: &mut [f32; 1024],

@@ -52,7 +52,8 @@ module _ (rigid other : ℕ) (limit : Float) (lines : List Line) {p : Vec2} {f :
   unfolding afterPass
   after-free (feasible c m) e = e
   after-free (failed g c m) e =
-      absurd (never-solving (ltb (g .index) rigid) (g .index) c p (failedLine g) f m n (walk (relaxLine rigid limit) (take (g .index) lines) (drop (g .index) lines) (relaxed c 0ᶠ m)) e)
+      absurd (never-solving (ltb (g .index) rigid) (g .index) c p (failedLine g) f m n
+      (walk (relaxLine rigid limit) (take (g .index) lines) (drop (g .index) lines) (relaxed c 0ᶠ m)) e)
   after-free (refused r) e = let z : _≡_ {A = ℕ} 0 1 = cc in absurd (omega arith)
 
   pub rigid-free : (wish : Vec2) → wholeList rigid wish limit lines ≡ stands (solving p) f n →
@@ -65,7 +66,8 @@ pub other-rigid : {s : Session} → Handed s → {p : Vec2} → phaseOf (s .phas
 unfolding judgedList
 other-rigid {s} h {p} solves other =
     let free = fault-free s h in
-    let stood : wholeList (s .rigid) (s .wish) (s .limit) (linesIn s) ≡ stands (solving p) (failedOf (s .failed)) (s .probes) = free .stood ∙ rw solves in
+    let stood : wholeList (s .rigid) (s .wish) (s .limit) (linesIn s)
+    ≡ stands (solving p) (failedOf (s .failed)) (s .probes) = free .stood ∙ rw solves in
     record {
       size = h .size;
       origins-size = h .origins-size;
@@ -86,7 +88,8 @@ without-behind {A} (x ∷ l) m k =
     let e : length (x ∷ l) + k ≡ suc (length l + k) = omega arith in
     rw e (ap (λ (r : List A). x ∷ r) (without-behind l m k))
 
-module _ {A : Type 0} (l m : List A) {c n i : ℕ} (base : length l ≡ c) (size : length m ≡ suc n) (low : c ≤ i) (high : i < c + suc n) where
+module _ {A : Type 0} (l m : List A) {c n i : ℕ} (base : length l ≡ c) (size : length m ≡ suc n) (low : c ≤ i)
+    (high : i < c + suc n) where
   abbrev less : List A
   less = without (i - c) m
 
@@ -105,20 +108,35 @@ module _ (l : List Line) (o : List Origin) {c : ℕ} (base : length l ≡ c) (or
       AllFit (record { lines = l ++ m; origins = os; rigid = rigid }) (withdrawals is)
   back-fits all-back m size os rigid = no-more
   back-fits (one-back {n} {i} {is} low high rest) m size os rigid =
-      and-then {o = withdrawal i} {os = withdrawals is} (index-below {g = record { lines = l ++ m; origins = os; rigid = rigid }} {i = i} (omega (arith, length-append l m)))
-      (rw (out-behind l m base size low high) (back-fits rest (less l m base size low high) (less-long l m base size low high) (without i os) (lowered i rigid)))
+      and-then {o = withdrawal i} {os = withdrawals is} (index-below {g = record {
+        lines = l ++ m;
+        origins = os;
+        rigid = rigid;
+      }} {i = i} (omega (arith, length-append l m)))
+      (rw (out-behind l m base size low high) (back-fits rest (less l m base size low high)
+      (less-long l m base size low high) (without i os) (lowered i rigid)))
 
   back-stands : {n : ℕ} {is : List ℕ} → TakenBack c n is → (m : List Line) → length m ≡ n → (q : List Origin) →
       length q ≡ n → (rigid : ℕ) →
-      standingAfterAll (record { lines = l ++ m; origins = o ++ q; rigid = rigid }) (withdrawals is) ≡ record { lines = l; origins = o; rigid = loweredAll is rigid }
+      standingAfterAll (record { lines = l ++ m; origins = o ++ q; rigid = rigid }) (withdrawals is)
+      ≡ record { lines = l; origins = o; rigid = loweredAll is rigid }
   back-stands all-back [] size [] long rigid = rw (append-nil l, append-nil o)
   back-stands all-back (x ∷ m) size q long rigid = absurd (omega arith)
   back-stands all-back [] size (x ∷ q) long rigid = absurd (omega arith)
   back-stands (one-back {n} {i} {is} low high rest) m size q long rigid =
-      ap (λ (ls : List Line). standingAfterAll (record { lines = ls; origins = without i (o ++ q); rigid = lowered i rigid }) (withdrawals is)) (out-behind l m base size low high)
-      ∙ ap (λ (os : List Origin). standingAfterAll (record { lines = l ++ less l m base size low high; origins = os; rigid = lowered i rigid }) (withdrawals is))
+      ap (λ (ls : List Line). standingAfterAll (record {
+        lines = ls;
+        origins = without i (o ++ q);
+        rigid = lowered i rigid;
+      }) (withdrawals is)) (out-behind l m base size low high)
+      ∙ ap (λ (os : List Origin). standingAfterAll (record {
+        lines = l ++ less l m base size low high;
+        origins = os;
+        rigid = lowered i rigid;
+      }) (withdrawals is))
       (out-behind o q origins-base long low high)
-      ∙ back-stands rest (less l m base size low high) (less-long l m base size low high) (less o q origins-base long low high) (less-long o q origins-base long low high) (lowered i rigid)
+      ∙ back-stands rest (less l m base size low high) (less-long l m base size low high)
+      (less o q origins-base long low high) (less-long o q origins-base long low high) (lowered i rigid)
 
 -- that the lines were strictly met is not needed: a withdrawal solves afresh
 module _ {s : Session} (h : Handed s) {p : Vec2} (solves : phaseOf (s .phase) ≡ solving p) (b : Batch) (admitted : Admitted b)
@@ -130,10 +148,12 @@ module _ {s : Session} (h : Handed s) {p : Vec2} (solves : phaseOf (s .phase) �
       let own = over-own h in
       let o = batch-over own b admitted (rw base room) in
       let origins-base : length (originsIn s) ≡ s .count = origins-over own ∙ base in
-      let each : length (arriving b) ≡ length L = omega (arith, origins-over o, length-append (originsIn s) (arriving b), length-append (linesIn s) L) in
+      let each : length (arriving b) ≡ length L =
+      omega (arith, origins-over o, length-append (originsIn s) (arriving b), length-append (linesIn s) L) in
       let fit = back-fits (linesIn s) (originsIn s) base origins-base back L refl (originsIn s ++ arriving b) (s .rigid) in
       let g = standingAfter (standingIn s) (batch b) in
-      let last = rw (back-stands (linesIn s) (originsIn s) base origins-base back L refl (arriving b) each (s .rigid)) at (last-over (s .wish) (s .limit) {g = g} o fit) in
+      let last = rw (back-stands (linesIn s) (originsIn s) base origins-base back L refl (arriving b) each
+      (s .rigid)) at (last-over (s .wish) (s .limit) {g = g} o fit) in
       record {
         each = each-stands (s .wish) (s .limit) {g = g} o fit;
         earlier = same-session last (over-own (other-rigid h solves (loweredAll is (s .rigid))));
@@ -147,12 +167,14 @@ rigid-below (one-back {i = i} low high rest) rigid h = rw (lowered-none i rigid 
 
 pub rigid-beyond : {c n : ℕ} {is : List ℕ} → TakenBack c n is → (rigid : ℕ) → c + n ≤ rigid → loweredAll is rigid ≡ rigid - n
 rigid-beyond all-back rigid h = omega arith
-rigid-beyond (one-back {i = i} low high rest) rigid h = rw (lowered-one i rigid (omega arith)) (rigid-beyond rest (rigid - 1) (omega arith) ∙ omega arith)
+rigid-beyond (one-back {i = i} low high rest) rigid h =
+    rw (lowered-one i rigid (omega arith)) (rigid-beyond rest (rigid - 1) (omega arith) ∙ omega arith)
 
 pub rigid-within : {c n : ℕ} {is : List ℕ} → TakenBack c n is → (rigid : ℕ) → c ≤ rigid → rigid ≤ c + n →
     loweredAll is rigid ≡ c
 rigid-within all-back rigid low high = omega arith
-rigid-within {c} (one-back {n} {i} {is} above below rest) rigid low high = go (λ r k m. rigid-within rest r k m) (ltb i rigid) refl
+rigid-within {c} (one-back {n} {i} {is} above below rest) rigid low high =
+    go (λ r k m. rigid-within rest r k m) (ltb i rigid) refl
   where
     go : ((r : ℕ) → c ≤ r → r ≤ c + n → loweredAll is r ≡ c) → (b : Bool) → ltb i rigid ≡ b →
         loweredAll is (lowered i rigid) ≡ c

@@ -1,6 +1,6 @@
--- A change of a session that was handed out (docs/changes/change.md): it is taken where its indices ascend and its batch fits what is
--- left, and then is, as a value, the withdrawals from the highest index down and the batch behind them; refused, it is as if it had
--- never been offered. Assumes nothing.
+-- A change of a session that was handed out (docs/changes/change.md): it is taken where its indices ascend and its
+-- batch fits what is left, and then is, as a value, the withdrawals from the highest index down and the batch behind
+-- them; refused, it is as if it had never been offered. Assumes nothing.
 use Prim.Native.Nat.{ℕ, suc, _+_, _-_, _≤_, _<_}
 use mathlib.Core.Path.{_≡_, refl, sym, _∙_, ap}
 use mathlib.Core.Bool.{Bool, true, false}
@@ -38,7 +38,8 @@ use Rattle.histories.proofs.MetLaws.{batch-passes}
 ascending-fine : {count low : ℕ} {is : List ℕ} → Ascending count low is → ascendingFault count low is ≡ fine
 unfolding ascendingFault
 ascending-fine ascended = refl
-ascending-fine {count} {low} (ascends {i = i} above below rest) = rw (le-leb low i above, lt-ltb i count below) (ascending-fine rest)
+ascending-fine {count} {low} (ascends {i = i} above below rest) =
+    rw (le-leb low i above, lt-ltb i count below) (ascending-fine rest)
 
 fine-ascending : (count low : ℕ) (is : List ℕ) → ascendingFault count low is ≡ fine → Ascending count low is
 unfolding ascendingFault
@@ -46,7 +47,8 @@ fine-ascending count low [] e = ascended
 fine-ascending count low (i ∷ is) e =
     let a = ⊳-fine (must (leb low i) 15) e in
     let b = ⊳-fine (must (ltb i count) 15) (a .1) in
-    ascends (leb-true low i (must-fine (leb low i) 15 (a .0))) (ltb-true i count (must-fine (ltb i count) 15 (b .0))) (fine-ascending count (i + 1) is (b .1))
+    ascends (leb-true low i (must-fine (leb low i) 15 (a .0))) (ltb-true i count (must-fine (ltb i count) 15 (b .0)))
+    (fine-ascending count (i + 1) is (b .1))
 
 -- there are no more of them than places
 ascending-few : {count low : ℕ} {is : List ℕ} → Ascending count low is → low ≤ count → low + length is ≤ count
@@ -108,7 +110,8 @@ below-none rigid (ascends {i = i} {is = is} above below rest) h =
     n ∙ omega arith
 
 few-step : (rigid low i : ℕ) (is : List ℕ) (b : Bool) → ltb i rigid ≡ b → low ≤ i → low ≤ rigid →
-    (i + 1 ≤ rigid → belowIn rigid is + (i + 1) ≤ rigid) → (rigid ≤ i + 1 → belowIn rigid is ≡ 0) → belowIn rigid (i ∷ is) + low ≤ rigid
+    (i + 1 ≤ rigid → belowIn rigid is + (i + 1) ≤ rigid) → (rigid ≤ i + 1 → belowIn rigid is ≡ 0) →
+    belowIn rigid (i ∷ is) + low ≤ rigid
 few-step rigid low i is true e above h few none =
     let k = ltb-true i rigid e in
     let f = few (omega arith) in
@@ -123,7 +126,8 @@ few-step rigid low i is false e above h few none =
 below-few : (rigid : ℕ) {count low : ℕ} {is : List ℕ} → Ascending count low is → low ≤ rigid → belowIn rigid is + low ≤ rigid
 unfolding belowIn
 below-few rigid ascended h = omega arith
-below-few rigid {low = low} (ascends {i = i} {is = is} above below rest) h = few-step rigid low i is (ltb i rigid) refl above h (below-few rigid rest) (below-none rigid rest)
+below-few rigid {low = low} (ascends {i = i} {is = is} above below rest) h =
+    few-step rigid low i is (ltb i rigid) refl above h (below-few rigid rest) (below-none rigid rest)
 
 lowered-step : (rigid i : ℕ) (is : List ℕ) (b : Bool) → ltb i rigid ≡ b → loweredDown is rigid ≡ rigid - belowIn rigid is →
     (i + 1 ≤ rigid → belowIn rigid is + (i + 1) ≤ rigid) → lowered i (loweredDown is rigid) ≡ rigid - belowIn rigid (i ∷ is)
@@ -139,7 +143,8 @@ each-below : (rigid : ℕ) {count low : ℕ} {is : List ℕ} → Ascending count
     loweredDown is rigid ≡ rigid - belowIn rigid is
 unfolding belowIn
 each-below rigid ascended = omega arith
-each-below rigid (ascends {i = i} {is = is} above below rest) = lowered-step rigid i is (ltb i rigid) refl (each-below rigid rest) (below-few rigid rest)
+each-below rigid (ascends {i = i} {is = is} above below rest) =
+    lowered-step rigid i is (ltb i rigid) refl (each-below rigid rest) (below-few rigid rest)
 
 pub lowered-each : (rigid : ℕ) {count low : ℕ} {is : List ℕ} → Ascending count low is →
     loweredDown is rigid ≡ loweredBy is rigid
@@ -162,7 +167,8 @@ taken-append : {s : Session} {os ps : List Operation} → AllTaken s os → AllT
 taken-append all-taken b = b
 taken-append (one-taken e a) b = one-taken e (taken-append a b)
 
-module _ {s : Session} {rigid : ℕ} {wish : Vec2} {limit : Float} {lines : List Line} {origins : List Origin} (o : StandsOver s rigid wish limit lines origins) where
+module _ {s : Session} {rigid : ℕ} {wish : Vec2} {limit : Float} {lines : List Line} {origins : List Origin}
+    (o : StandsOver s rigid wish limit lines origins) where
   down-over : {low : ℕ} {is : List ℕ} → Ascending (length lines) low is →
       StandsOver (doneAll s (downward is)) (loweredDown is rigid) wish limit (withoutAll is lines) (withoutAll is origins)
   unfolding withoutAll
@@ -173,7 +179,8 @@ module _ {s : Session} {rigid : ℕ} {wish : Vec2} {limit : Float} {lines : List
   down-taken : {low : ℕ} {is : List ℕ} → Ascending (length lines) low is → AllTaken s (downward is)
   down-taken ascended = all-taken
   down-taken (ascends {i = i} {is = is} above below rest) =
-      taken-append (down-taken rest) (one-taken (withdrawn-taken (down-over rest) i (still-below below rest lines refl)) all-taken)
+      taken-append (down-taken rest) (one-taken (withdrawn-taken (down-over rest) i (still-below below rest lines refl))
+      all-taken)
 
   -- ---- a change whose indices ascend
 
@@ -182,7 +189,8 @@ module _ {s : Session} {rigid : ℕ} {wish : Vec2} {limit : Float} {lines : List
     left-right =
         let n = without-all-long up lines refl in
         let m = without-all-long up origins (origins-over o) in
-        fresh-right wish limit (loweredBy is rigid) (withoutAll is lines) (withoutAll is origins) (wish-admitted o) (without-all-admitted is lines (lines-admitted o))
+        fresh-right wish limit (loweredBy is rigid) (withoutAll is lines) (withoutAll is origins) (wish-admitted o)
+        (without-all-admitted is lines (lines-admitted o))
         (omega (arith, few-over o)) (omega arith)
 
     abbrev fresh : Session
@@ -198,7 +206,8 @@ module _ {s : Session} {rigid : ℕ} {wish : Vec2} {limit : Float} {lines : List
     changed-fed b = rw (no-fault-yet, o .wish-is, o .limit-is, o .rigid-is, o .lines-are, o .origins-are, left-right .taken)
 
     -- ---- and whose batch fits what is left
-    module _ (b : Batch) (admitted : Admitted b) (room : length (withoutAll is lines) + length (linesOf (b .numbers)) ≤ mostLines) where
+    module _ (b : Batch) (admitted : Admitted b) (room : length (withoutAll is lines) + length (linesOf (b .numbers))
+        ≤ mostLines) where
       fed-taken : faultOf (fedBy fresh b .judged) ≡ fine
       fed-taken = batch-taken (left-right .over) b admitted room
 
@@ -208,13 +217,15 @@ module _ {s : Session} {rigid : ℕ} {wish : Vec2} {limit : Float} {lines : List
       pub change-taken : faultOf (changedBy s is b .judged) ≡ fine
       change-taken = rw changed-whole fed-taken
 
-      pub change-over : StandsOver (changedBy s is b .session) (loweredBy is rigid) wish limit (withoutAll is lines ++ linesOf (b .numbers)) (withoutAll is origins ++ arriving b)
+      pub change-over : StandsOver (changedBy s is b .session) (loweredBy is rigid) wish limit
+          (withoutAll is lines ++ linesOf (b .numbers)) (withoutAll is origins ++ arriving b)
       change-over = rw changed-whole (batch-over (left-right .over) b admitted room)
 
       -- the same value as withdrawing from the highest index down and then feeding the batch, each of which is taken
       pub change-is-withdraw-then-batch : changedBy s is b .session ≡ doneAll s (downward is ++ (batch b ∷ []))
       change-is-withdraw-then-batch =
-          same-session change-over (batch-over (rw (lowered-each rigid up) at (down-over up)) b admitted room) ∙ sym (done-append s (downward is) (batch b ∷ []))
+          same-session change-over (batch-over (rw (lowered-each rigid up) at (down-over up)) b admitted room)
+          ∙ sym (done-append s (downward is) (batch b ∷ []))
 
       pub parts-taken : AllTaken s (downward is ++ (batch b ∷ []))
       parts-taken = taken-append (down-taken up) (one-taken (batch-taken (down-over up) b admitted room) all-taken)
@@ -287,11 +298,13 @@ module _ (s : Session) (h : Handed s) (is : List ℕ) where
       let right = left-right (over-own h) is up in
       let t = fresh (over-own h) is up in
       rw (changed-fed (over-own h) is up b)
-      (or-given-told s (fedBy t b) ∙ batch-told t (right .over .handed) b ∙ ap (λ (n : ℕ). batchFault n (b .numbers) (b .brought)) (count-over (right .over)))
+      (or-given-told s (fedBy t b) ∙ batch-told t (right .over .handed) b
+      ∙ ap (λ (n : ℕ). batchFault n (b .numbers) (b .brought)) (count-over (right .over)))
 
   -- 15 of its indices; then what a batch of the lines that are left tells: never 8 or 9
   pub change-told : (b : Batch) →
-      faultOf (changedBy s is b .judged) ≡ (changeFault (s .count) is ⊳ batchFault (length (withoutAll is (linesIn s))) (b .numbers) (b .brought))
+      faultOf (changedBy s is b .judged) ≡ (changeFault (s .count) is ⊳ batchFault (length (withoutAll is (linesIn s)))
+      (b .numbers) (b .brought))
   change-told b = change-told-by b (changeFault (s .count) is) refl
 
   handed-by : (r : Fed) → Handed (r .session) → (f : Fault) → Handed (unlessFault (refusedBy s) f r .session)
@@ -304,7 +317,9 @@ module _ (s : Session) (h : Handed s) (is : List ℕ) where
       let up = up-from e in
       let right = left-right (over-own h) is up in
       let t = fresh (over-own h) is up in
-      rw (changed-fed (over-own h) is up b) (handed-by (fedBy t b) (continues t (right .over .handed) (b .numbers) (b .brought) .handed) (faultOf (fedBy t b .judged)))
+      rw (changed-fed (over-own h) is up b)
+      (handed-by (fedBy t b) (continues t (right .over .handed) (b .numbers) (b .brought) .handed)
+      (faultOf (fedBy t b .judged)))
 
   pub change-handed : (b : Batch) → Handed (changedBy s is b .session)
   change-handed b = change-handed-by b (changeFault (s .count) is) refl
@@ -325,7 +340,8 @@ found-from : (kind place count n : ℕ) (os : List Origin) → count ≡ n + len
     Ascending count n (indicesFrom kind place n os)
 unfolding indicesFrom
 found-from kind place count n [] e = ascended
-found-from kind place count n (o ∷ os) e = found-more count n (isOf kind place o) (omega arith) (found-from kind place count (n + 1) os (omega arith))
+found-from kind place count n (o ∷ os) e =
+    found-more count n (isOf kind place o) (omega arith) (found-from kind place count (n + 1) os (omega arith))
 
 pub found-ascends : (s : Session) → Handed s → (kind place : ℕ) → Ascending (length (linesIn s)) 0 (indicesOf s kind place)
 found-ascends s h kind place =

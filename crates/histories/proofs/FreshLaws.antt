@@ -1,5 +1,6 @@
--- Sessions that were handed out over the same lines are the same value but for origins, and the same value where these are the same
--- too; a fresh session fed admitted lines stands over them; and a line taken back leaves that very session. Assumes nothing.
+-- Sessions that were handed out over the same lines are the same value but for origins, and the same value where these
+-- are the same too; a fresh session fed admitted lines stands over them; and a line taken back leaves that very
+-- session. Assumes nothing.
 use Prim.Native.Nat.{ℕ, zero, suc, _+_, _-_, _*_, _%_, _≤_, _<_}
 use mathlib.Core.Path.{_≡_, refl, sym, _∙_, ap}
 use mathlib.Core.Bool.{Bool, true, false, _||_}
@@ -36,7 +37,8 @@ use Rattle.histories.proofs.StandLaws.{StandsOver, over-own, stands-who
 
 -- ---- one value
 
-module _ {s : Session} {rigid : ℕ} {wish : Vec2} {limit : Float} {lines : List Line} {origins : List Origin} (o : StandsOver s rigid wish limit lines origins) where
+module _ {s : Session} {rigid : ℕ} {wish : Vec2} {limit : Float} {lines : List Line} {origins : List Origin}
+    (o : StandsOver s rigid wish limit lines origins) where
   pub count-over : s .count ≡ length lines
   count-over = sym (count-is s (o .handed)) ∙ ap length (o .lines-are)
 
@@ -45,15 +47,18 @@ module _ {s : Session} {rigid : ℕ} {wish : Vec2} {limit : Float} {lines : List
 
   -- an origin a line
   pub origins-over : length origins ≡ length lines
-  origins-over = ap length (sym (o .origins-are)) ∙ length-take-le (s .count) (s .origins) (omega (arith, o .handed .origins-size, o .handed .fits)) ∙ count-over
+  origins-over = ap length (sym (o .origins-are))
+      ∙ length-take-le (s .count) (s .origins) (omega (arith, o .handed .origins-size, o .handed .fits)) ∙ count-over
 
   lines-array : s .lines ≡ lines ++ drop (length lines) blankLines
   lines-array =
-      sym (take-append-drop (s .count) (s .lines)) ∙ rw (o .handed .blank, o .lines-are) (ap (λ (n : ℕ). lines ++ drop n blankLines) count-over)
+      sym (take-append-drop (s .count) (s .lines))
+      ∙ rw (o .handed .blank, o .lines-are) (ap (λ (n : ℕ). lines ++ drop n blankLines) count-over)
 
   origins-array : s .origins ≡ origins ++ drop (length lines) blankOrigins
   origins-array =
-      sym (take-append-drop (s .count) (s .origins)) ∙ rw (o .handed .blank-origins, o .origins-are) (ap (λ (n : ℕ). origins ++ drop n blankOrigins) count-over)
+      sym (take-append-drop (s .count) (s .origins))
+      ∙ rw (o .handed .blank-origins, o .origins-are) (ap (λ (n : ℕ). origins ++ drop n blankOrigins) count-over)
 
 pub phase-same : (p q : PhaseCode) → phaseOf p ≡ phaseOf q → p ≡ q
 phase-same p q e = sym (phase-back p) ∙ ap phaseAs e ∙ phase-back q
@@ -64,7 +69,17 @@ failed-same f g e = sym (failed-back f) ∙ ap failedAs e ∙ failed-back g
 -- a session by its fields
 abbrev made : List Line → List Origin → ℕ → ℕ → Vec2 → Float → PhaseCode → FailedLine → ℕ → Session
 made lines origins count rigid wish limit phase failed probes =
-    record { lines = lines; origins = origins; count = count; rigid = rigid; wish = wish; limit = limit; phase = phase; failed = failed; probes = probes }
+    record {
+      lines = lines;
+      origins = origins;
+      count = count;
+      rigid = rigid;
+      wish = wish;
+      limit = limit;
+      phase = phase;
+      failed = failed;
+      probes = probes;
+    }
 
 -- over the same lines, whatever their origins
 pub same-but-origins : {s t : Session} {rigid : ℕ} {wish : Vec2} {limit : Float} {lines : List Line} {os ps : List Origin} →
@@ -108,13 +123,18 @@ unfolding fitting
 fitting-threes n os e =
     rw (eq-eqb (length (threesOf os)) (3 * n) (threes-long os ∙ ap (λ (k : ℕ). 3 * k) e)) (or-true (eqb (length (threesOf os)) 0))
 
-module _ (wish : Vec2) (limit : Float) (rigid : ℕ) (lines : List Line) (origins : List Origin) (w : wishFault wish limit ≡ fine) (l : linesFault lines ≡ fine)
+module _ (wish : Vec2) (limit : Float) (rigid : ℕ) (lines : List Line) (origins : List Origin) (w : wishFault wish limit
+    ≡ fine) (l : linesFault lines ≡ fine)
     (few : length lines ≤ mostLines) (each : length origins ≡ length lines) where
   abbrev given : Batch
   given = record { numbers = numbersOf lines; brought = threesOf origins }
 
   given-admitted : Admitted given
-  given-admitted = record { four = omega (arith, numbers-long lines); theirs = rw (lines-back lines, fitting-threes (length lines) origins each) refl; lines = rw (lines-back lines) l }
+  given-admitted = record {
+    four = omega (arith, numbers-long lines);
+    theirs = rw (lines-back lines, fitting-threes (length lines) origins each) refl;
+    lines = rw (lines-back lines) l;
+  }
 
   room : 0 + length (linesOf (numbersOf lines)) ≤ mostLines
   room = rw (lines-back lines) (omega arith)
@@ -135,9 +155,11 @@ module _ (wish : Vec2) (limit : Float) (rigid : ℕ) (lines : List Line) (origin
       }
 
 -- any session that was handed out is the fresh one over its lines
-pub over-fresh : {s : Session} {rigid : ℕ} {wish : Vec2} {limit : Float} {lines : List Line} {origins : List Origin} → StandsOver s rigid wish limit lines origins →
+pub over-fresh : {s : Session} {rigid : ℕ} {wish : Vec2} {limit : Float} {lines : List Line} {origins : List Origin} →
+    StandsOver s rigid wish limit lines origins →
     (other : ℕ) → FreshRight wish limit other lines origins
-over-fresh {wish = wish} {limit} {lines} {origins} o other = fresh-right wish limit other lines origins (wish-admitted o) (lines-admitted o) (few-over o) (origins-over o)
+over-fresh {wish = wish} {limit} {lines} {origins} o other =
+    fresh-right wish limit other lines origins (wish-admitted o) (lines-admitted o) (few-over o) (origins-over o)
 
 -- ---- a line taken back
 
@@ -149,7 +171,8 @@ without-admitted (suc i) (l ∷ ls) e =
     let k = ⊳-fine (lineFault l) e in
     rw (k .0) (without-admitted i ls (k .1))
 
-module _ {s : Session} {rigid : ℕ} {wish : Vec2} {limit : Float} {lines : List Line} {origins : List Origin} (o : StandsOver s rigid wish limit lines origins)
+module _ {s : Session} {rigid : ℕ} {wish : Vec2} {limit : Float} {lines : List Line} {origins : List Origin}
+    (o : StandsOver s rigid wish limit lines origins)
     (i : ℕ) (below : i < length lines) where
   no-fault-yet : withdrawalFault (s .count) i ≡ fine
   unfolding withdrawalFault
@@ -161,7 +184,8 @@ module _ {s : Session} {rigid : ℕ} {wish : Vec2} {limit : Float} {lines : List
   left-right =
       let n = without-fewer i lines below in
       let m = without-fewer i origins (rw (origins-over o) below) in
-      fresh-right wish limit (lowered i rigid) (without i lines) (without i origins) (wish-admitted o) (without-admitted i lines (lines-admitted o))
+      fresh-right wish limit (lowered i rigid) (without i lines) (without i origins) (wish-admitted o)
+      (without-admitted i lines (lines-admitted o))
       (omega (arith, few-over o)) (omega (arith, origins-over o))
 
   -- the answer is the fresh session's, over the lines that are left

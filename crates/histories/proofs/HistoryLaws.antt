@@ -1,5 +1,6 @@
--- Demand 3 over any history (specs/Demand3). Whatever batches, withdrawals and changes a session has taken, it is the fresh session fed the
--- lines that now stand, so that it stands as the whole-list rules and as the single call over them do. Assumes nothing.
+-- Demand 3 over any history (specs/Demand3). Whatever batches, withdrawals and changes a session has taken, it is the
+-- fresh session fed the lines that now stand, so that it stands as the whole-list rules and as the single call over
+-- them do. Assumes nothing.
 use Prim.Native.Nat.{ℕ}
 use mathlib.Core.Path.{_≡_, sym, _∙_, ap}
 use mathlib.Core.List.{List, [], _∷_}
@@ -33,7 +34,8 @@ module _ (wish : Vec2) (limit : Float) where
         origins-are = o .origins-are;
         rigid-is = o .rigid-is;
         whole = stands-whole o;
-        called = stands-judged o ∙ sym (called (g .rigid) wish limit (numbersOf (g .lines)) (omega (arith, numbers-long (g .lines))) ∙ rw (lines-back (g .lines)));
+        called = stands-judged o ∙ sym (called (g .rigid) wish limit (numbersOf (g .lines))
+            (omega (arith, numbers-long (g .lines))) ∙ rw (lines-back (g .lines)));
       }
 
   -- ---- one call
@@ -56,7 +58,11 @@ module _ (wish : Vec2) (limit : Float) where
   one-keeps o (change-fits up admitted room) = until-changed
 
   one-stands : {s : Session} {g : Standing} {p : Operation} → Over wish limit g s → Fits g p → CallStands wish limit g s p
-  one-stands {g = g} {p} o fits = record { taken = one-taken o fits; stands = stands-fresh (standingAfter g p) (one-over o fits); keeps = one-keeps o fits }
+  one-stands {g = g} {p} o fits = record {
+    taken = one-taken o fits;
+    stands = stands-fresh (standingAfter g p) (one-over o fits);
+    keeps = one-keeps o fits;
+  }
 
   -- ---- any calls, from any session that was handed out on
 
@@ -75,4 +81,8 @@ module _ (wish : Vec2) (limit : Float) where
       AllFit (nothingYet rigid) os → Demand3 rigid wish limit os
   history-stands rigid os w fit =
       let o = start-over rigid wish limit w in
-      record { started = start-taken rigid wish limit w; none-yet = stands-fresh (nothingYet rigid) o; each = each-stands {g = nothingYet rigid} o fit }
+      record {
+        started = start-taken rigid wish limit w;
+        none-yet = stands-fresh (nothingYet rigid) o;
+        each = each-stands {g = nothingYet rigid} o fit;
+      }

@@ -1,6 +1,6 @@
--- The laws of a session's calls: where it stands over which lines, that it is the fresh one over them, also where it is changed, by
--- a wall's name too, demand 3 over any history and over any cut into batches, of origins, of lines that do not matter, and of lines
--- taken back.
+-- The laws of a session's calls: where it stands over which lines, that it is the fresh one over them, also where it is
+-- changed, by a wall's name too, demand 3 over any history and over any cut into batches, of origins, of lines that do
+-- not matter, and of lines taken back.
 pub mod StandLaws
 pub mod FreshLaws
 pub mod ChangeLaws

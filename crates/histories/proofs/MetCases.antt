@@ -1,5 +1,6 @@
--- Lines that do not matter to P3's session, and one that does: exactly 0 is not strictly met; and one that matters to a line behind it. antt computes each
--- row by the definitions that the contracts of `start`, `batch` and `first_unmet` cite. Assumes nothing.
+-- Lines that do not matter to P3's session, and one that does: exactly 0 is not strictly met; and one that matters to a
+-- line behind it. antt computes each row by the definitions that the contracts of `start`, `batch` and `first_unmet`
+-- cite. Assumes nothing.
 use Prim.Native.Nat.{ℕ}
 use mathlib.Core.Path.{_≡_, refl}
 use mathlib.Core.List.{List, [], _∷_, map}
@@ -55,7 +56,8 @@ table =
 
 -- each row's batch, asked about and fed by the definitions, has the row's answers
 pub met-cases : map (λ (c : Case). byTheRules (c .lines)) table ≡ table
-unfolding table solved within inside lineFault listCall judgedList linesOf numbersOf wishFault linesFault startedAs blankLines blankOrigins blankSession
+unfolding table solved within inside lineFault listCall judgedList linesOf numbersOf wishFault linesFault startedAs
+    blankLines blankOrigins blankSession
     originsFor fitting batchFault worked fedWith fedAs resumed isMet firstUnmet pointNow named unmetAs
 met-cases = refl
 
@@ -77,6 +79,7 @@ pub dropped-cases : (unmetAs (wider []) (numbersOf (W ∷ [])) ≡ unmet.Nothing
     × (outcomeIn (wider (W ∷ [])) ≡ stays 2)
     × (failedOf (wider (W ∷ later ∷ []) .failed) ≡ failedLine (record { index = 2; cause = parallel 1 }))
     × (outcomeIn (wider (later ∷ [])) ≡ stands (solving (vec (+ 2) (+ 1))) noLine 3)
-unfolding table solved within inside lineFault listCall judgedList linesOf numbersOf wishFault linesFault startedAs blankLines blankOrigins blankSession
+unfolding table solved within inside lineFault listCall judgedList linesOf numbersOf wishFault linesFault startedAs
+    blankLines blankOrigins blankSession
     originsFor fitting batchFault worked fedWith fedAs resumed isMet firstUnmet pointNow named unmetAs
 dropped-cases = (refl, refl, refl, refl)

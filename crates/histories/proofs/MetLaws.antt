@@ -1,6 +1,6 @@
--- Lines that do not matter (02, T-13): strictly met lines behind a session that is solving change neither phase nor point and cost a
--- probe each (`met-changes-nothing`); so a batch that changes them has a line that was not strictly met (`changed-has-unmet`), and
--- where none is named the batch changes nothing (`nothing-unmet`). Assumes nothing.
+-- Lines that do not matter (02, T-13): strictly met lines behind a session that is solving change neither phase nor
+-- point and cost a probe each (`met-changes-nothing`); so a batch that changes them has a line that was not strictly
+-- met (`changed-has-unmet`), and where none is named the batch changes nothing (`nothing-unmet`). Assumes nothing.
 use Prim.Native.Nat.{ℕ, _+_, _%_, _≤_, _<_}
 use mathlib.Core.Path.{_≡_, refl, sym, _∙_, ap}
 use mathlib.Core.Bool.{Bool, true, false}
@@ -51,7 +51,8 @@ module _ (rigid : ℕ) (wish : Vec2) (limit : Float) (p : Vec2) where
       feed rigid wish limit e m (stands (solving p) noLine n) ≡ stands (solving p) noLine (n + length m)
   unfolding feed
   feed-met e n none = rw add-zero
-  feed-met e n (more {x} {xs} h hs) = rw (advance-met e x n h) (feed-met (e ++ (x ∷ [])) (n + 1) hs ∙ ap (stands (solving p) noLine) (omega arith))
+  feed-met e n (more {x} {xs} h hs) =
+      rw (advance-met e x n h) (feed-met (e ++ (x ∷ [])) (n + 1) hs ∙ ap (stands (solving p) noLine) (omega arith))
 
 solving-unfailed : {ph : Phase} {p : Vec2} {f : Failed} {n : ℕ} → Agrees (stands ph f n) → ph ≡ solving p → f ≡ noLine
 solving-unfailed agree-solving e = refl
@@ -67,7 +68,8 @@ module _ {s : Session} (h : Handed s) {p : Vec2} (solves : phaseOf (s .phase) �
   stood-solving : wholeList (s .rigid) (s .wish) (s .limit) (linesIn s) ≡ stands (solving p) noLine (s .probes)
   stood-solving = fault-free s h .stood ∙ rw (solves, unfailed)
 
-  module _ (b : Batch) (admitted : Admitted b) (room : s .count + length (linesOf (b .numbers)) ≤ mostLines) (all : All (Met p) (linesOf (b .numbers))) where
+  module _ (b : Batch) (admitted : Admitted b) (room : s .count + length (linesOf (b .numbers)) ≤ mostLines)
+      (all : All (Met p) (linesOf (b .numbers))) where
     room-in : length (linesIn s) + length (linesOf (b .numbers)) ≤ mostLines
     room-in = rw (count-is s h) room
 
@@ -80,7 +82,8 @@ module _ {s : Session} (h : Handed s) {p : Vec2} (solves : phaseOf (s .phase) �
     pub met-changes-nothing : Unchanged s b
     met-changes-nothing =
         let t = fedBy s b .session in
-        let e : stands (phaseOf (t .phase)) (failedOf (t .failed)) (t .probes) ≡ stands (solving p) noLine (s .probes + length (linesOf (b .numbers))) = after-met in
+        let e : stands (phaseOf (t .phase)) (failedOf (t .failed)) (t .probes)
+        ≡ stands (solving p) noLine (s .probes + length (linesOf (b .numbers))) = after-met in
         let u = unfailed in
         record {
           taken = batch-taken (over-own h) b admitted room-in;
@@ -99,7 +102,11 @@ record FirstAt (p : Vec2) (ls : List Line) (k : ℕ) : Type 0 where
 
 first-more : (p : Vec2) (l : Line) (ls : List Line) (b : Bool) → isMet p l ≡ b → FirstAt p ls (firstUnmet p ls) →
     FirstAt p (l ∷ ls) (firstUnmet p (l ∷ ls))
-first-more p l ls true h r = rw (first-on p l ls h) (record { most = omega (arith, r .most); before-met = more h (r .before-met); not-met = λ k. r .not-met (omega arith) })
+first-more p l ls true h r = rw (first-on p l ls h) (record {
+  most = omega (arith, r .most);
+  before-met = more h (r .before-met);
+  not-met = λ k. r .not-met (omega arith);
+})
 first-more p l ls false h r = rw (first-here p l ls h) (record { most = omega arith; before-met = none; not-met = λ k. h })
 
 first-at : (p : Vec2) (ls : List Line) → FirstAt p ls (firstUnmet p ls)
@@ -134,14 +141,22 @@ batch-passes count b e =
     let theirs = ⊳-fine (originsFault n (b .brought)) (whole .1) in
     let room = ⊳-fine (must (leb (count + n) mostLines) 4) (theirs .1) in
     record {
-      admitted = record { four = eqb-true (length (b .numbers) % 4) 0 (must-fine (eqb (length (b .numbers) % 4) 0) 2 (whole .0)); theirs = theirs .0; lines = room .1 };
+      admitted = record {
+        four = eqb-true (length (b .numbers) % 4) 0 (must-fine (eqb (length (b .numbers) % 4) 0) 2
+            (whole .0));
+        theirs = theirs .0;
+        lines = room .1;
+      };
       room = leb-true (count + n) mostLines (must-fine (leb (count + n) mostLines) 4 (room .0));
       alone = rw (few .0, whole .0, room .0) (room .1);
     }
 
 named-nothing : (count n k : ℕ) (b : Bool) → ltb k n ≡ b → named count n k ≡ unmet.Nothing → n ≤ k
 unfolding named if_then_else_
-named-nothing count n k true e h = let z : unmet.At (count + k) ≡ unmet.Nothing = rw e at h in let y : _≡_ {A = ℕ} 0 1 = cc in absurd (omega arith)
+named-nothing count n k true e h =
+    let z : unmet.At (count + k) ≡ unmet.Nothing = rw e at h in
+    let y : _≡_ {A = ℕ} 0 1 = cc in
+    absurd (omega arith)
 named-nothing count n k false e h = ltb-false k n e
 
 -- ---- asked beforehand
@@ -163,11 +178,18 @@ module _ {s : Session} (h : Handed s) {p : Vec2} (solves : phaseOf (s .phase) �
       let passes = batch-passes (s .count) b e in
       let f = first-at p L in
       let inside : firstUnmet p L < length L =
-      some-unmet p L (ltb (firstUnmet p L) (length L)) refl (λ all. changed (met-changes-nothing h solves b (passes .admitted) (passes .room) all .phase-stays)) in
-      record { place = firstUnmet p L; inside = inside; told = unmet-named (passes .alone) inside; before-met = f .before-met; not-met = f .not-met inside }
+      some-unmet p L (ltb (firstUnmet p L) (length L)) refl
+      (λ all. changed (met-changes-nothing h solves b (passes .admitted) (passes .room) all .phase-stays)) in
+      record {
+        place = firstUnmet p L;
+        inside = inside;
+        told = unmet-named (passes .alone) inside;
+        before-met = f .before-met;
+        not-met = f .not-met inside;
+      }
 
-  -- a batch, whatever its numbers, after which the phase is another, be it another point or no longer solving, has a line that the
-  -- point at its arrival did not strictly meet
+  -- a batch, whatever its numbers, after which the phase is another, be it another point or no longer solving, has a
+  -- line that the point at its arrival did not strictly meet
   pub changed-has-unmet : (fedBy s b .session .phase ≡ s .phase → ⊥) → NamesFirst s p b
   changed-has-unmet = changed-by (batchFault (s .count) (b .numbers) (b .brought)) refl
 
@@ -177,11 +199,13 @@ module _ {s : Session} (h : Handed s) {p : Vec2} (solves : phaseOf (s .phase) �
   plain = record { numbers = xs; brought = [] }
 
   nothing-by : (f : Fault) → batchFault (s .count) xs [] ≡ f →
-      unlessFault unmet.Refused f (named (s .count) (length (linesOf xs)) (firstUnmet p (linesOf xs))) ≡ unmet.Nothing → Unchanged s plain
+      unlessFault unmet.Refused f (named (s .count) (length (linesOf xs)) (firstUnmet p (linesOf xs))) ≡ unmet.Nothing →
+      Unchanged s plain
   nothing-by fine e u =
       let passes = batch-passes (s .count) plain e in
       met-changes-nothing h solves plain (passes .admitted) (passes .room)
-      (all-met p (linesOf xs) (named-nothing (s .count) (length (linesOf xs)) (firstUnmet p (linesOf xs)) (ltb (firstUnmet p (linesOf xs)) (length (linesOf xs))) refl u))
+      (all-met p (linesOf xs) (named-nothing (s .count) (length (linesOf xs)) (firstUnmet p (linesOf xs))
+      (ltb (firstUnmet p (linesOf xs)) (length (linesOf xs))) refl u))
   nothing-by (fault r) e u = let y : _≡_ {A = ℕ} 0 1 = cc in absurd (omega arith)
 
   pub nothing-unmet : unmetAs s xs ≡ unmet.Nothing → Unchanged s plain

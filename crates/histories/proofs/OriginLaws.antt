@@ -1,5 +1,6 @@
--- 02, T-06: sessions that differ only in origins end alike in all else, after a batch, a withdrawal, a change and any history
--- (`origins-alike`, `withdrawal-alike`, `change-alike`, `all-alike`), and at each index the origin kept is the one that the line arrived with (`origins-kept`). Assumes nothing.
+-- 02, T-06: sessions that differ only in origins end alike in all else, after a batch, a withdrawal, a change and any
+-- history (`origins-alike`, `withdrawal-alike`, `change-alike`, `all-alike`), and at each index the origin kept is the
+-- one that the line arrived with (`origins-kept`). Assumes nothing.
 use Prim.Native.Nat.{ℕ, _+_, _≤_, _<_}
 use mathlib.Core.Path.{_≡_, refl, sym, _∙_, ap}
 use mathlib.Core.Bool.{Bool, true, false}
@@ -48,7 +49,8 @@ settled-alike s qs m os ps (stands ph f n) = record { judged-same = refl; sessio
 settled-alike s qs m os ps (refusal r) = record { judged-same = refl; sessions = alike qs }
 
 -- batches with the same lines and any origins, none or three numbers a line
-module _ (xs : List Float) (os ps : List ℕ) (theirs : originsFault (length (linesOf xs)) os ≡ fine) (others : originsFault (length (linesOf xs)) ps ≡ fine) where
+module _ (xs : List Float) (os ps : List ℕ) (theirs : originsFault (length (linesOf xs)) os
+    ≡ fine) (others : originsFault (length (linesOf xs)) ps ≡ fine) where
   same-fault : (n : ℕ) → batchFault n xs os ≡ batchFault n xs ps
   unfolding batchFault
   same-fault n = rw (theirs, others)
@@ -61,7 +63,8 @@ module _ (xs : List Float) (os ps : List ℕ) (theirs : originsFault (length (li
   pub origins-alike : {s t : Session} → Alike s t → AlikeFed (fedWith s xs os) (fedWith t xs ps)
   unfolding fedWith
   origins-alike (alike {s} qs) =
-      rw (← same-fault (s .count), same-work s qs) (settled-alike s qs (linesOf xs) os ps (batchFault (s .count) xs os ⟫ worked s (linesOf xs)))
+      rw (← same-fault (s .count), same-work s qs)
+      (settled-alike s qs (linesOf xs) os ps (batchFault (s .count) xs os ⟫ worked s (linesOf xs)))
 
 alike-by : {s t : Session} (b c : Batch) → b .numbers ≡ c .numbers → Theirs b → Theirs c → Alike s t →
     AlikeFed (fedBy s b) (fedBy t c)
@@ -91,7 +94,10 @@ withdrawal-alike h k (alike {s} qs) i = go (ltb i (s .count)) refl
           judged-same = judgements-agree (withdrawn-taken o i (omega arith)) (withdrawn-taken p i (omega arith));
           sessions = over-alike (withdrawn-over o i (omega arith)) (withdrawn-over p i (omega arith));
         }
-    go false e = rw (withdrawn-behind s h i e, withdrawn-behind (labelled qs s) k i e) (record { judged-same = refl; sessions = alike qs })
+    go false e = rw (withdrawn-behind s h i e, withdrawn-behind (labelled qs s) k i e) (record {
+      judged-same = refl;
+      sessions = alike qs;
+    })
 
 -- ---- a change
 
@@ -108,13 +114,17 @@ pub change-alike : {s t : Session} → Handed s → Handed t → Alike s t → (
 change-alike h k (alike {s} qs) is b c same theirs others = go (changeFault (s .count) is) refl
   where
     go : (f : Fault) → changeFault (s .count) is ≡ f → AlikeFed (changedBy s is b) (changedBy (labelled qs s) is c)
-    go (fault r) e = rw (change-behind s is b r e, change-behind (labelled qs s) is c r e) (record { judged-same = refl; sessions = alike qs })
+    go (fault r) e = rw (change-behind s is b r e, change-behind (labelled qs s) is c r e) (record {
+      judged-same = refl;
+      sessions = alike qs;
+    })
     go fine e =
         let up = up-from s h is e in
         let o = over-own h in
         let p = over-own k in
         rw (changed-fed o is up b, changed-fed p is up c)
-        (given-alike (alike-by b c same theirs others (over-alike (left-right o is up .over) (left-right p is up .over))) (alike qs))
+        (given-alike (alike-by b c same theirs others
+        (over-alike (left-right o is up .over) (left-right p is up .over))) (alike qs))
 
 -- ---- any calls, one after the other
 
@@ -122,7 +132,8 @@ pub all-alike : {s t : Session} {os ps : List Operation} → Handed s → Handed
     Alike (doneAll s os) (doneAll t ps)
 all-alike h k a no-call = a
 all-alike {s} {t} h k a (batch-each {b} {c} e theirs others same) =
-    all-alike (continues s h (b .numbers) (b .brought) .handed) (continues t k (c .numbers) (c .brought) .handed) (alike-by b c e theirs others a .sessions) same
+    all-alike (continues s h (b .numbers) (b .brought) .handed) (continues t k (c .numbers) (c .brought) .handed)
+    (alike-by b c e theirs others a .sessions) same
 all-alike {s} {t} h k a (withdrawal-each {i} same) =
     all-alike (withdrawn-handed s h i) (withdrawn-handed t k i) (withdrawal-alike h k a i .sessions) same
 all-alike {s} {t} h k a (change-each {is} {b} {c} e theirs others same) =
@@ -130,8 +141,8 @@ all-alike {s} {t} h k a (change-each {is} {b} {c} e theirs others same) =
 
 -- ---- each line's own
 
--- "At each index the origin kept is the one the line arrived with": a batch that is taken leaves those of the lines before it, and behind them stand those
--- that its own lines arrived with
+-- "At each index the origin kept is the one the line arrived with": a batch that is taken leaves those of the lines
+-- before it, and behind them stand those that its own lines arrived with
 module _ (s : Session) (h : Handed s) (b : Batch) (taken : faultOf (fedBy s b .judged) ≡ fine) where
   kept-all : originsIn (fedBy s b .session) ≡ originsIn s ++ arriving b
   kept-all = continues s h (b .numbers) (b .brought) .remembers taken

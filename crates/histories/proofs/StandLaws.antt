@@ -1,5 +1,5 @@
--- A session that was handed out over some lines stands as the rules over them do; a batch of admitted lines that fits is taken, and
--- the session then stands over these lines too; so does a start over none. Assumes nothing.
+-- A session that was handed out over some lines stands as the rules over them do; a batch of admitted lines that fits
+-- is taken, and the session then stands over these lines too; so does a start over none. Assumes nothing.
 use Prim.Native.Nat.{ℕ, _+_, _%_, _≤_}
 use mathlib.Core.Path.{_≡_, refl, sym, _∙_, ap}
 use mathlib.Core.List.{List, [], _++_}
@@ -32,7 +32,8 @@ told-fine : (f : Fault) (s : Session) {o : Outcome} → Stood o → (f ⟫ outco
 told-fine f s stood e = ⟫-stands f e .0
 
 -- where the session stands, over which lines and origins
-pub record StandsOver (s : Session) (rigid : ℕ) (wish : Vec2) (limit : Float) (lines : List Line) (origins : List Origin) : Type 0 where
+pub record StandsOver (s : Session) (rigid : ℕ) (wish : Vec2) (limit : Float) (lines : List Line)
+    (origins : List Origin) : Type 0 where
   pub handed : Handed s
   pub lines-are : linesIn s ≡ lines
   pub origins-are : originsIn s ≡ origins
@@ -45,7 +46,8 @@ pub over-own : {s : Session} → Handed s → StandsOver s (s .rigid) (s .wish) 
 over-own h = record { handed = h; lines-are = refl; origins-are = refl; rigid-is = refl; wish-is = refl; limit-is = refl }
 
 -- the session stands as the whole-list rules over its lines do, and as the judged list of them does; they have no fault
-module _ {s : Session} {rigid : ℕ} {wish : Vec2} {limit : Float} {lines : List Line} {origins : List Origin} (o : StandsOver s rigid wish limit lines origins) where
+module _ {s : Session} {rigid : ℕ} {wish : Vec2} {limit : Float} {lines : List Line} {origins : List Origin}
+    (o : StandsOver s rigid wish limit lines origins) where
   pub stands-whole : outcomeIn s ≡ wholeList rigid wish limit lines
   stands-whole = rw (← o .rigid-is, ← o .wish-is, ← o .limit-is, ← o .lines-are) (sym (fault-free s (o .handed) .stood))
 
@@ -60,23 +62,34 @@ module _ {s : Session} {rigid : ℕ} {wish : Vec2} {limit : Float} {lines : List
 
 -- ---- one batch of admitted lines that fits
 
-module _ (s : Session) (h : Handed s) (b : Batch) (admitted : Admitted b) (room : length (linesIn s) + length (linesOf (b .numbers)) ≤ mostLines) where
+module _ (s : Session) (h : Handed s) (b : Batch) (admitted : Admitted b)
+    (room : length (linesIn s) + length (linesOf (b .numbers)) ≤ mostLines) where
   abbrev L : List Line
   L = linesOf (b .numbers)
 
   whole : judgedList (s .rigid) (s .wish) (s .limit) (linesIn s ++ L) ≡ wholeList (s .rigid) (s .wish) (s .limit) (linesIn s ++ L)
   unfolding judgedList
-  whole = rw (length-append (linesIn s) L, le-leb (length (linesIn s) + length L) mostLines room, fault-free s h .wished, faults-append, fault-free s h .lined, admitted .lines)
+  whole = rw (
+    length-append (linesIn s) L,
+    le-leb (length (linesIn s) + length L) mostLines room,
+    fault-free s h .wished,
+    faults-append,
+    fault-free s h .lined,
+    admitted .lines,
+  )
 
   never : Stood (wholeList (s .rigid) (s .wish) (s .limit) (linesIn s ++ L))
-  never = never-refused (s .rigid) (s .wish) (s .limit) (linesIn s ++ L) (fault-free s h .wished) (rw (faults-append, fault-free s h .lined) (admitted .lines))
+  never = never-refused (s .rigid) (s .wish) (s .limit) (linesIn s ++ L) (fault-free s h .wished)
+      (rw (faults-append, fault-free s h .lined) (admitted .lines))
 
   taken-one : faultOf (fedBy s b .judged) ≡ fine
   taken-one =
       told-fine (faultOf (fedBy s b .judged)) (fedBy s b .session) never
-      (continues s h (b .numbers) (b .brought) .tells ∙ rw (eq-eqb (length (b .numbers) % 4) 0 (admitted .four), admitted .theirs) whole)
+      (continues s h (b .numbers) (b .brought) .tells
+      ∙ rw (eq-eqb (length (b .numbers) % 4) 0 (admitted .four), admitted .theirs) whole)
 
-module _ {s : Session} {rigid : ℕ} {wish : Vec2} {limit : Float} {lines : List Line} {origins : List Origin} (o : StandsOver s rigid wish limit lines origins)
+module _ {s : Session} {rigid : ℕ} {wish : Vec2} {limit : Float} {lines : List Line} {origins : List Origin}
+    (o : StandsOver s rigid wish limit lines origins)
     (b : Batch) (admitted : Admitted b) (room : length lines + length (linesOf (b .numbers)) ≤ mostLines) where
   pub batch-taken : faultOf (fedBy s b .judged) ≡ fine
   batch-taken = taken-one s (o .handed) b admitted (rw (o .lines-are) room)
@@ -117,11 +130,21 @@ module _ (rigid : ℕ) (wish : Vec2) (limit : Float) where
   never-none w = never-refused rigid wish limit [] w refl
 
   pub start-taken : wishFault wish limit ≡ fine → faultOf (startedAs wish limit rigid .judged) ≡ fine
-  start-taken w = told-fine _ (startedAs wish limit rigid .session) (never-none w) (begins wish limit rigid .tells ∙ start-whole w)
+  start-taken w =
+      told-fine _ (startedAs wish limit rigid .session) (never-none w) (begins wish limit rigid .tells ∙ start-whole w)
 
-  begun-over : {o : Outcome} → Stood o → Handed (startedBy wish limit rigid o .session) → StandsOver (startedBy wish limit rigid o .session) rigid wish limit [] []
-  begun-over stood h = record { handed = h; lines-are = refl; origins-are = refl; rigid-is = refl; wish-is = refl; limit-is = refl }
+  begun-over : {o : Outcome} → Stood o → Handed (startedBy wish limit rigid o .session) →
+      StandsOver (startedBy wish limit rigid o .session) rigid wish limit [] []
+  begun-over stood h = record {
+    handed = h;
+    lines-are = refl;
+    origins-are = refl;
+    rigid-is = refl;
+    wish-is = refl;
+    limit-is = refl;
+  }
 
   pub start-over : wishFault wish limit ≡ fine → StandsOver (startedAs wish limit rigid .session) rigid wish limit [] []
   unfolding startedAs
-  start-over w = begun-over {o = listCall rigid wish limit []} (rw (start-whole w) (never-none w)) (begins wish limit rigid .handed)
+  start-over w = begun-over {o = listCall rigid wish limit []} (rw (start-whole w) (never-none w))
+      (begins wish limit rigid .handed)

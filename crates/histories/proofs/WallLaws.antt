@@ -69,7 +69,8 @@ all-other kind place (o ∷ os) = other-more kind place o (isOf kind place o) re
 
 -- ---- the call
 
-module _ (s : Session) (h : Handed s) (kind place : ℕ) (b : Batch) (taken : faultOf (originChangedBy s kind place b .fed .judged) ≡ fine) where
+module _ (s : Session) (h : Handed s) (kind place : ℕ) (b : Batch)
+    (taken : faultOf (originChangedBy s kind place b .fed .judged) ≡ fine) where
   abbrev found : List ℕ
   found = indicesOf s kind place
 

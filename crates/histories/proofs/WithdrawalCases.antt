@@ -1,5 +1,5 @@
--- Withdrawals from small sessions: 01's cases P5, P7 and P9 with a line taken back. antt computes each row by the definitions that the
--- contracts of `start`, `batch` and `withdraw` cite. Assumes nothing.
+-- Withdrawals from small sessions: 01's cases P5, P7 and P9 with a line taken back. antt computes each row by the
+-- definitions that the contracts of `start`, `batch` and `withdraw` cite. Assumes nothing.
 use Prim.Native.Nat.{ℕ}
 use mathlib.Core.Path.{_≡_, refl}
 use mathlib.Core.List.{List, [], _∷_, map}
@@ -30,7 +30,12 @@ pub record Read : Type 0 where
   pub rigid : ℕ
 
 abbrev readOff : Fed → Read
-readOff r = record { told = faultOf (r .judged); outcome = outcomeIn (r .session); origins = originsIn (r .session); rigid = r .session .rigid }
+readOff r = record {
+  told = faultOf (r .judged);
+  outcome = outcomeIn (r .session);
+  origins = originsIn (r .session);
+  rigid = r .session .rigid;
+}
 
 -- a session with this rigid count at wish 0 and limit 2, fed lines at once, and an index taken back
 pub record Case : Type 0 where
@@ -57,10 +62,17 @@ far = line (vec (+ 0) (+ 3)) right
 
 abbrev case : ℕ → List Line → List ℕ → ℕ → Fault → Outcome → List Origin → ℕ → Case
 case rigid ls os i told outcome origins left =
-    record { rigid = rigid; lines = ls; brought = os; index = i; answer = record { told = told; outcome = outcome; origins = origins; rigid = left } }
+    record {
+      rigid = rigid;
+      lines = ls;
+      brought = os;
+      index = i;
+      answer = record { told = told; outcome = outcome; origins = origins; rigid = left };
+    }
 
 abbrev pub byTheRules : Case → Read
-byTheRules c = readOff (withdrawnAs (fedWith (startedAs o (+ 2) (c .rigid) .session) (numbersOf (c .lines)) (c .brought) .session) (c .index))
+byTheRules c = readOff (withdrawnAs (fedWith (startedAs o (+ 2) (c .rigid) .session) (numbersOf (c .lines))
+    (c .brought) .session) (c .index))
 
 abbrev up : Outcome
 up = stands (solving (vec (+ 0) (+ 1))) noLine 1
@@ -78,7 +90,8 @@ table =
     ∷ case 2 (A ∷ B ∷ []) [] 0 fine down (unknown ∷ []) 1
     -- P5: the last line goes; an index behind it is refused
     ∷ case 1 (far ∷ []) [] 0 fine (stands (solving o) noLine 0) [] 0
-    ∷ case 1 (far ∷ []) [] 1 (fault 15) (stands (rigidFailure 0 o) (failedLine (record { index = 0; cause = circle })) 1) (unknown ∷ []) 1
+    ∷ case 1 (far ∷ []) [] 1 (fault 15)
+    (stands (rigidFailure 0 o) (failedLine (record { index = 0; cause = circle })) 1) (unknown ∷ []) 1
     -- a rigid count above the lines
     ∷ case 9 (A ∷ B ∷ []) [] 1 fine up (unknown ∷ []) 8
     -- an index that is the rigid count
@@ -90,6 +103,7 @@ table =
 
 -- each row's question, answered by the definitions, has the row's answer
 pub withdrawal-cases : map byTheRules table ≡ map (λ (c : Case). c .answer) table
-unfolding table solved within inside lineFault listCall judgedList linesOf numbersOf originsOf wishFault linesFault startedAs blankLines blankOrigins blankSession
+unfolding table solved within inside lineFault listCall judgedList linesOf numbersOf originsOf wishFault linesFault
+    startedAs blankLines blankOrigins blankSession
     originsFor fitting batchFault worked fedWith resumed startedWith threesOf without lowered withdrawalFault withdrawnAs
 withdrawal-cases = refl

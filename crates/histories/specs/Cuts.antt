@@ -29,7 +29,8 @@ pub record Admitted (b : Batch) : Type 0 where
 -- each batch is whole lines, or empty, and brings no origins or three numbers a line
 pub data WholeLines : List Batch → Type 0 where
   none : WholeLines []
-  more : {b : Batch} {bs : List Batch} → length (b .numbers) % 4 ≡ 0 → originsFault (length (linesOf (b .numbers))) (b .brought) ≡ fine →
+  more : {b : Batch} {bs : List Batch} → length (b .numbers) % 4 ≡ 0 →
+      originsFault (length (linesOf (b .numbers))) (b .brought) ≡ fine →
       WholeLines bs → WholeLines (b ∷ bs)
 
 -- the numbers of the batches, one behind the other

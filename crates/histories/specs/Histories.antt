@@ -43,10 +43,22 @@ nothingYet rigid = record { lines = []; origins = []; rigid = rigid }
 -- down one", and "the rigid count is one less if the index was below it"; a change takes several out, by their indices as the
 -- lines stand, the rigid count is one less for each index below it, and the batch comes behind what is left
 abbrev pub standingAfter : Standing → Operation → Standing
-standingAfter g (batch b) = record { lines = g .lines ++ linesOf (b .numbers); origins = g .origins ++ arriving b; rigid = g .rigid }
-standingAfter g (withdrawal i) = record { lines = without i (g .lines); origins = without i (g .origins); rigid = lowered i (g .rigid) }
+standingAfter g (batch b) = record {
+  lines = g .lines ++ linesOf (b .numbers);
+  origins = g .origins ++ arriving b;
+  rigid = g .rigid;
+}
+standingAfter g (withdrawal i) = record {
+  lines = without i (g .lines);
+  origins = without i (g .origins);
+  rigid = lowered i (g .rigid);
+}
 standingAfter g (change is b) =
-    record { lines = withoutAll is (g .lines) ++ linesOf (b .numbers); origins = withoutAll is (g .origins) ++ arriving b; rigid = loweredBy is (g .rigid) }
+    record {
+      lines = withoutAll is (g .lines) ++ linesOf (b .numbers);
+      origins = withoutAll is (g .origins) ++ arriving b;
+      rigid = loweredBy is (g .rigid);
+    }
 
 abbrev pub standingAfterAll : Standing → List Operation → Standing
 standingAfterAll g [] = g
@@ -57,8 +69,8 @@ pub data Ascending (count : ℕ) : ℕ → List ℕ → Type 0 where
   ascended : {low : ℕ} → Ascending count low []
   ascends : {low i : ℕ} {is : List ℕ} → low ≤ i → i < count → Ascending count (i + 1) is → Ascending count low (i ∷ is)
 
--- a batch of whole admitted lines that fits the lines then standing; an index below their count; ascending indices below it, and a
--- batch that fits what they leave
+-- a batch of whole admitted lines that fits the lines then standing; an index below their count; ascending indices
+-- below it, and a batch that fits what they leave
 pub data Fits : Standing → Operation → Type 0 where
   batch-fits : {g : Standing} {b : Batch} → Admitted b →
       length (g .lines) + length (linesOf (b .numbers)) ≤ mostLines → Fits g (batch b)

@@ -1,4 +1,5 @@
--- A wall changed by its name, the kind and place of its lines' origins (docs/changes/change.md): what stands then. Definitions only. Assumes nothing.
+-- A wall changed by its name, the kind and place of its lines' origins (docs/changes/change.md): what stands then.
+-- Definitions only. Assumes nothing.
 use Prim.Native.Nat.{ℕ, _+_}
 use mathlib.Core.Path.{_≡_}
 use mathlib.Core.Bool.{Bool, true, false}
@@ -34,9 +35,12 @@ module _ {A : Type 0} where
 -- after a change by origin
 pub record WallGone (s : Session) (kind place : ℕ) (b : Batch) : Type 0 where
   -- the lines of other origins stand, and the batch's behind them, each with its origin;
-  pub lines-are : linesIn (originChangedBy s kind place b .fed .session) ≡ othersOf kind place (originsIn s) (linesIn s) ++ linesOf (b .numbers)
-  pub origins-are : originsIn (originChangedBy s kind place b .fed .session) ≡ othersOf kind place (originsIn s) (originsIn s) ++ arriving b
+  pub lines-are : linesIn (originChangedBy s kind place b .fed .session) ≡ othersOf kind place (originsIn s) (linesIn s)
+      ++ linesOf (b .numbers)
+  pub origins-are : originsIn (originChangedBy s kind place b .fed .session)
+      ≡ othersOf kind place (originsIn s) (originsIn s) ++ arriving b
   -- before the batch's own no origin has the kind and place;
   pub none-left : All (IsOther kind place) (othersOf kind place (originsIn s) (originsIn s))
   -- and as many lines went as are told
-  pub all-told : length (othersOf kind place (originsIn s) (linesIn s)) + originChangedBy s kind place b .withdrawn ≡ length (linesIn s)
+  pub all-told : length (othersOf kind place (originsIn s) (linesIn s)) + originChangedBy s kind place b .withdrawn
+      ≡ length (linesIn s)

@@ -41,18 +41,28 @@ module _ (rs : List Entry) (r : Entry) where
   pub one-more : length (rs ++ (r ∷ [])) ≡ length rs + 1
   one-more = length-append rs (r ∷ [])
 
-  pub entries-more : entries (rs ++ (r ∷ [])) 0 (entriesFor (length rs + 1)) ≡ entries rs 0 (entriesFor (length rs)) ++ newEntry (length rs + 1) (sizes (rs ++ (r ∷ []))) (fallbacks (rs ++ (r ∷ [])))
+  pub entries-more : entries (rs ++ (r ∷ [])) 0 (entriesFor (length rs + 1)) ≡ entries rs 0 (entriesFor (length rs))
+      ++ newEntry (length rs + 1) (sizes (rs ++ (r ∷ []))) (fallbacks (rs ++ (r ∷ [])))
   unfolding newEntry if_then_else_
   entries-more = go (ℕ-discrete ((length rs + 1) % 64) 0)
     where
-      go : Dec ((length rs + 1) % 64 ≡ 0) → entries (rs ++ (r ∷ [])) 0 (entriesFor (length rs + 1)) ≡ entries rs 0 (entriesFor (length rs)) ++ newEntry (length rs + 1) (sizes (rs ++ (r ∷ []))) (fallbacks (rs ++ (r ∷ [])))
+      go : Dec ((length rs + 1) % 64 ≡ 0) → entries (rs ++ (r ∷ [])) 0 (entriesFor (length rs + 1))
+          ≡ entries rs 0 (entriesFor (length rs)) ++ newEntry (length rs + 1) (sizes (rs ++ (r ∷ [])))
+          (fallbacks (rs ++ (r ∷ [])))
       go (yes p) =
           let all = rs ++ (r ∷ []) in
           let n = length rs / 64 + 1 in
           let more : (length rs + 1) / 64 + 1 ≡ n + 1 = omega arith in
           let last : 64 * (0 + n) ≡ length all = omega (arith, one-more) in
-          rw (more, entries-snoc all 0 n, entries-stay rs (r ∷ []) 0 n (omega arith), entry-end all (0 + n) last, eq-eqb ((length rs + 1) % 64) 0 p)
+          rw (
+            more,
+            entries-snoc all 0 n,
+            entries-stay rs (r ∷ []) 0 n (omega arith),
+            entry-end all (0 + n) last,
+            eq-eqb ((length rs + 1) % 64) 0 p,
+          )
       go (no p) =
           let n = length rs / 64 + 1 in
           let same : (length rs + 1) / 64 + 1 ≡ n = omega arith in
-          rw (same, entries-stay rs (r ∷ []) 0 n (omega arith), ne-eqb ((length rs + 1) % 64) 0 p) (sym (append-nil (entries rs 0 n)))
+          rw (same, entries-stay rs (r ∷ []) 0 n (omega arith), ne-eqb ((length rs + 1) % 64) 0 p)
+          (sym (append-nil (entries rs 0 n)))

@@ -32,11 +32,14 @@ unfoldable pub shortIndex : List ℕ
 shortIndex = 0 ∷ 0 ∷ 0 ∷ 17 ∷ 1 ∷ 0 ∷ 0 ∷ 0 ∷ 22 ∷ 0 ∷ 0 ∷ 0 ∷ 2 ∷ 0 ∷ 0 ∷ 0 ∷ 0 ∷ 0 ∷ 0 ∷ 0 ∷ 0 ∷ []
 
 unfoldable pub longIndex : List ℕ
-longIndex = 0 ∷ 0 ∷ 0 ∷ 25 ∷ 1 ∷ 0 ∷ 0 ∷ 1 ∷ 0 ∷ 0 ∷ 0 ∷ 0 ∷ 64 ∷ 0 ∷ 0 ∷ 0 ∷ 0 ∷ 0 ∷ 0 ∷ 0 ∷ 0 ∷ 0 ∷ 0 ∷ 1 ∷ 0 ∷ 0 ∷ 0 ∷ 0 ∷ 0 ∷ []
+longIndex = 0 ∷ 0 ∷ 0 ∷ 25 ∷ 1 ∷ 0 ∷ 0 ∷ 1 ∷ 0 ∷ 0 ∷ 0 ∷ 0 ∷ 64 ∷ 0 ∷ 0 ∷ 0 ∷ 0 ∷ 0 ∷ 0 ∷ 0 ∷ 0 ∷ 0 ∷ 0 ∷ 1 ∷ 0 ∷ 0 ∷ 0
+    ∷ 0 ∷ 0 ∷ []
 
 -- what computing needs
 unfoldable pub computed : Unit {0}
-unfolding splitting wordBytes each recordsOf sizes isFallback fallbacks newEntry entryWith entryOf entries head indexOf laidOver putOver builtUpTo builtOver withRecord completed extentFault partOver endFault endUpTo endOver startOf wholesOf wholesFrom foundWhole waits storeFault storedOver short long emptyIndex shortIndex longIndex
+unfolding splitting wordBytes each recordsOf sizes isFallback fallbacks newEntry entryWith entryOf entries head indexOf
+    laidOver putOver builtUpTo builtOver withRecord completed extentFault partOver endFault endUpTo endOver startOf
+    wholesOf wholesFrom foundWhole waits storeFault storedOver short long emptyIndex shortIndex longIndex
 computed = tt
 
 -- ---- builds
@@ -88,7 +91,8 @@ unfolding computed
 the-end = refl
 
 -- the 64th record completes an entry, which has its room or is refused
-entry-completed : partOver refusedScene (extent 252 63 0) (replicate 9 9) ≡ standing (built.Whole 4 8 (extent 256 64 0)) (0 ∷ 0 ∷ 1 ∷ 0 ∷ 0 ∷ 0 ∷ 0 ∷ 0 ∷ 9 ∷ [])
+entry-completed : partOver refusedScene (extent 252 63 0) (replicate 9 9)
+    ≡ standing (built.Whole 4 8 (extent 256 64 0)) (0 ∷ 0 ∷ 1 ∷ 0 ∷ 0 ∷ 0 ∷ 0 ∷ 0 ∷ 9 ∷ [])
 unfolding computed
 entry-completed = refl
 

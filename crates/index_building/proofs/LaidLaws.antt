@@ -15,9 +15,11 @@ module _ (bytes l : List ℕ) (h : length bytes ≤ length l) where
   behind-laid : (k : ℕ) → drop (length bytes + k) (laidOver bytes l) ≡ drop (length bytes + k) l
   unfolding laidOver
   behind-laid k =
-      sym (drop-drop k (length bytes) (bytes ++ drop (length bytes) l)) ∙ ap (drop k) (drop-at bytes (drop (length bytes) l) (length bytes) refl) ∙ drop-drop k (length bytes) l
+      sym (drop-drop k (length bytes) (bytes ++ drop (length bytes) l))
+      ∙ ap (drop k) (drop-at bytes (drop (length bytes) l) (length bytes) refl) ∙ drop-drop k (length bytes) l
 
-  pub laid-sets : (vs : List ℕ) (at : ℕ) → at ≡ length bytes → length bytes + length vs ≤ length l → sets (laidOver bytes l) at vs ≡ laidOver (bytes ++ vs) l
+  pub laid-sets : (vs : List ℕ) (at : ℕ) → at ≡ length bytes → length bytes + length vs ≤ length l →
+      sets (laidOver bytes l) at vs ≡ laidOver (bytes ++ vs) l
   unfolding laidOver
   laid-sets vs at e f =
       let fits : at + length vs ≤ length (laidOver bytes l) = omega (arith, laid-length) in

@@ -29,7 +29,8 @@ module _ (l : List Entry) where
   pub entries-length : (j n : ℕ) → length (entries l j n) ≡ 8 * n
   unfolding entries
   entries-length j zero = refl
-  entries-length j (suc n) = length-append (entryOf l j) (entries l (suc j) n) ∙ omega (arith, one-length j, entries-length (suc j) n)
+  entries-length j (suc n) =
+      length-append (entryOf l j) (entries l (suc j) n) ∙ omega (arith, one-length j, entries-length (suc j) n)
 
   pub index-length : (logLength : ℕ) → length (indexOf logLength l) ≡ indexLength (length l)
   unfolding indexOf

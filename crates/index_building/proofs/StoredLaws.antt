@@ -59,7 +59,8 @@ module _ (l : List ℕ) (total count fell : ℕ) where
 
   ends-length : length (endsOf total count fell) ≡ 13 + length (newEntry count total fell)
   unfolding endsOf
-  ends-length = length-append (head total count) (newEntry count total fell) ∙ ap (λ (n : ℕ). n + length (newEntry count total fell)) (head-length total count)
+  ends-length = length-append (head total count) (newEntry count total fell)
+      ∙ ap (λ (n : ℕ). n + length (newEntry count total fell)) (head-length total count)
 
   module _ (log : total ≤ greatest) where
     pub ends-many : greatest < count → standing (index.Refused 4) l ≡ endsOver l total count fell
@@ -75,11 +76,24 @@ module _ (l : List ℕ) (total count fell : ℕ) where
         ends-laid : sets (sets l 0 (head total count)) 13 (newEntry count total fell) ≡ laidOver (endsOf total count fell) l
         unfolding endsOf
         ends-laid =
-            sym (sets-append l 0 (head total count) (newEntry count total fell) ∙ ap (λ (n : ℕ). sets (sets l 0 (head total count)) (0 + n) (newEntry count total fell)) (head-length total count))
-            ∙ nothing-laid (head total count ++ newEntry count total fell) l (omega (arith, ends-length, new-short count total fell))
+            sym (sets-append l 0 (head total count) (newEntry count total fell)
+            ∙ ap (λ (n : ℕ). sets (sets l 0 (head total count)) (0 + n) (newEntry count total fell))
+            (head-length total count))
+            ∙ nothing-laid (head total count ++ newEntry count total fell) l
+            (omega (arith, ends-length, new-short count total fell))
 
-        pub ends-done : (m out : List ℕ) (end : ℕ) → m ≡ sets l 0 (head total count) → out ≡ sets m 13 (newEntry count total fell) →
+        pub ends-done : (m out : List ℕ) (end : ℕ) → m ≡ sets l 0 (head total count) →
+            out ≡ sets m 13 (newEntry count total fell) →
             end ≡ 13 + length (newEntry count total fell) → standing (index.Length end) out ≡ endsOver l total count fell
         unfolding endsOver endsFault
         ends-done m out end p q e =
-            rw (le-leb total greatest log, le-leb count greatest records, le-leb 21 (length l) room, q, p, ends-laid, e, ← ends-length)
+            rw (
+              le-leb total greatest log,
+              le-leb count greatest records,
+              le-leb 21 (length l) room,
+              q,
+              p,
+              ends-laid,
+              e,
+              ← ends-length,
+            )

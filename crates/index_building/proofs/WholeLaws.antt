@@ -37,7 +37,13 @@ extentOf p = extent (sizes p) (length p) (fallbacks p)
 
 extent-more : (p : List Entry) (e : Entry) → extentOf (p ++ (e ∷ [])) ≡ withRecord (extentOf p) e
 unfolding withRecord sizes fallbacks
-extent-more p e = rw (sizes-append p (e ∷ []), fallbacks-append p (e ∷ []), one-more p e, add-zero (sizeOf e), add-zero (fallback e))
+extent-more p e = rw (
+  sizes-append p (e ∷ []),
+  fallbacks-append p (e ∷ []),
+  one-more p e,
+  add-zero (sizeOf e),
+  add-zero (fallback e),
+)
 
 abbrev allEntries : List Entry → List ℕ
 allEntries p = entries p 0 (entriesFor (length p))
@@ -50,7 +56,8 @@ entries-completed p (e ∷ l) =
     let old = allEntries p in
     let new = newEntry (length p + 1) (sizes q) (fallbacks q) in
     ap allEntries (sym (append-assoc p (e ∷ []) l)) ∙ entries-completed q l
-    ∙ ap (λ (x : List ℕ). x ++ completed (extentOf q) l) (ap (λ (n : ℕ). entries q 0 (entriesFor n)) (one-more p e) ∙ entries-more p e)
+    ∙ ap (λ (x : List ℕ). x ++ completed (extentOf q) l) (ap (λ (n : ℕ). entries q 0 (entriesFor n)) (one-more p e)
+    ∙ entries-more p e)
     ∙ append-assoc old new (completed (extentOf q) l)
     ∙ ap (λ (n : ℕ). old ++ (newEntry n (sizes q) (fallbacks q) ++ completed (extentOf q) l)) (sym (one-more p e))
     ∙ ap (λ (x : Extent). old ++ (entryHere x ++ completed x l)) (extent-more p e)
@@ -58,7 +65,8 @@ entries-completed p (e ∷ l) =
 pub index-completed : (logLength : ℕ) (l : List Entry) → indexOf logLength l ≡ startOf logLength (length l) ++ completed atStart l
 unfolding indexOf startOf entries entryOf sizes fallbacks
 index-completed logLength l =
-    ap (λ (x : List ℕ). head logLength (length l) ++ x) (entries-completed [] l ∙ ap (λ (x : List ℕ). x ++ completed atStart l) (append-nil (entryWith 0 0)))
+    ap (λ (x : List ℕ). head logLength (length l) ++ x) (entries-completed [] l
+    ∙ ap (λ (x : List ℕ). x ++ completed atStart l) (append-nil (entryWith 0 0)))
     ∙ sym (append-assoc (head logLength (length l)) (entryWith 0 0) (completed atStart l))
 
 -- ---- what a build tells, by the records as far as whole ones reach
@@ -75,19 +83,23 @@ module _ (most : ℕ) (log buffer : List ℕ) where
   unfolding builtUpTo
   built-wholes = by-records (recordsOf log) ∙ tells-wholes (refusedOver buffer) fromRecords log
 
-  bad-by : (w : Wholes) (r : ℕ) → progress.Fault r ≡ progressBy 0 atStart w → refusedOver buffer r ≡ tellsPart fromRecords (refusedOver buffer) (length log) w
+  bad-by : (w : Wholes) (r : ℕ) → progress.Fault r ≡ progressBy 0 atStart w → refusedOver buffer r
+      ≡ tellsPart fromRecords (refusedOver buffer) (length log) w
   bad-by (reached l used) r e = absurd (let z : _≡_ {A = ℕ} 0 1 = cc in omega arith)
   bad-by (stopped n place) r e = let f : r ≡ n = cc in rw f
 
-  pub build-bad : (r : ℕ) → progress.Fault r ≡ progressBy 0 atStart (wholesOf log) → standing (index.Refused r) buffer ≡ builtUpTo most log buffer
+  pub build-bad : (r : ℕ) → progress.Fault r ≡ progressBy 0 atStart (wholesOf log) → standing (index.Refused r) buffer
+      ≡ builtUpTo most log buffer
   build-bad r e = bad-by (wholesOf log) r e ∙ sym built-wholes
 
-  left-by : (w : Wholes) (used : ℕ) (x : Extent) → progress.Whole used x ≡ progressBy 0 atStart w → used < length log → refusedOver buffer 2 ≡ tellsPart fromRecords (refusedOver buffer) (length log) w
+  left-by : (w : Wholes) (used : ℕ) (x : Extent) → progress.Whole used x ≡ progressBy 0 atStart w → used < length log →
+      refusedOver buffer 2 ≡ tellsPart fromRecords (refusedOver buffer) (length log) w
   unfolding if_then_else_
   left-by (stopped n place) used x e h = absurd (let z : _≡_ {A = ℕ} 0 1 = cc in omega arith)
   left-by (reached l u) used x e h = let f : used ≡ 0 + u = cc in rw (lt-ltb u (length log) (omega arith))
 
-  pub build-left : (used : ℕ) (x : Extent) → progress.Whole used x ≡ progressBy 0 atStart (wholesOf log) → used < length log → standing (index.Refused 2) buffer ≡ builtUpTo most log buffer
+  pub build-left : (used : ℕ) (x : Extent) → progress.Whole used x ≡ progressBy 0 atStart (wholesOf log) →
+      used < length log → standing (index.Refused 2) buffer ≡ builtUpTo most log buffer
   build-left used x e h = left-by (wholesOf log) used x e h ∙ sym built-wholes
 
 -- what nothing has, a log of a machine fits behind
@@ -95,7 +107,8 @@ pub start-fits : (n : ℕ) → n ≤ most64 → extentFault n atStart ≡ fine
 unfolding extentFault
 start-fits n h = rw (zero-add n, le-leb n most64 h)
 
-ends-by : (log : List ℕ) (used : ℕ) (x : Extent) (w : Wholes) → wholesOf log ≡ w → progress.Whole used x ≡ progressBy 0 atStart w → length log ≤ used → progressBy 0 atStart w ≡ progress.Whole (length log) x
+ends-by : (log : List ℕ) (used : ℕ) (x : Extent) (w : Wholes) → wholesOf log ≡ w → progress.Whole used x
+    ≡ progressBy 0 atStart w → length log ≤ used → progressBy 0 atStart w ≡ progress.Whole (length log) x
 ends-by log used x (stopped n place) p e h = absurd (let z : _≡_ {A = ℕ} 0 1 = cc in omega arith)
 ends-by log used x (reached l u) p e h =
     let f : used ≡ 0 + u = cc in
@@ -103,7 +116,8 @@ ends-by log used x (reached l u) p e h =
     sym e ∙ ap (λ (n : ℕ). progress.Whole n x) same
 
 -- records that leave no byte reach the log's end
-pub ends-there : (log : List ℕ) (used : ℕ) (x : Extent) → progress.Whole used x ≡ progressBy 0 atStart (wholesOf log) → length log ≤ used → progressBy 0 atStart (wholesOf log) ≡ progress.Whole (length log) x
+pub ends-there : (log : List ℕ) (used : ℕ) (x : Extent) → progress.Whole used x ≡ progressBy 0 atStart (wholesOf log) →
+    length log ≤ used → progressBy 0 atStart (wholesOf log) ≡ progress.Whole (length log) x
 ends-there log used x e h = ends-by log used x (wholesOf log) refl e h
 
 -- a log whose records reach its end
@@ -112,7 +126,8 @@ pub record Reached (log : List ℕ) (x : Extent) : Type 0 where
   pub there : wholesOf log ≡ reached list (length log)
   pub extends : x ≡ extent (length log) (length list) (fallbacks list)
 
-reached-by : (log : List ℕ) (x : Extent) (w : Wholes) → wholesOf log ≡ w → progressBy 0 atStart w ≡ progress.Whole (length log) x → Reached log x
+reached-by : (log : List ℕ) (x : Extent) (w : Wholes) → wholesOf log ≡ w → progressBy 0 atStart w
+    ≡ progress.Whole (length log) x → Reached log x
 reached-by log x (stopped n place) p e = absurd (let z : _≡_ {A = ℕ} 0 1 = cc in omega arith)
 reached-by log x (reached l u) p e =
     let f : 0 + u ≡ length log = cc in
@@ -126,7 +141,8 @@ reached-by log x (reached l u) p e =
       extends = sym k ∙ extent-fold atStart l ∙ rw (bytes, zero-add (length l), zero-add (fallbacks l));
     }
 
-pub reached-end : (log : List ℕ) (x : Extent) → progressBy 0 atStart (wholesOf log) ≡ progress.Whole (length log) x → Reached log x
+pub reached-end : (log : List ℕ) (x : Extent) → progressBy 0 atStart (wholesOf log) ≡ progress.Whole (length log) x →
+    Reached log x
 reached-end log x e = reached-by log x (wholesOf log) refl e
 
 module _ (most : ℕ) (log buffer : List ℕ) (x : Extent) (w : Reached log x) where
@@ -152,7 +168,10 @@ module _ (most : ℕ) (log buffer : List ℕ) (x : Extent) (w : Reached log x) w
   module _ (fits : x .bytes ≤ most) where
     pub build-short : length buffer < indexLength (x .records) → standing (index.Refused 10) buffer ≡ builtUpTo most log buffer
     unfolding putOver
-    build-short h = sym (told ∙ rw (le-leb (length log) most (omega (arith, bytes-told)), lt-leb (length (indexOf (length log) (w .list))) (length buffer) (omega (arith, needed))))
+    build-short h = sym (told ∙ rw (
+      le-leb (length log) most (omega (arith, bytes-told)),
+      lt-leb (length (indexOf (length log) (w .list))) (length buffer) (omega (arith, needed)),
+    ))
 
     abbrev rest : List ℕ
     rest = completedBy atStart (wholesOf log)
@@ -161,21 +180,38 @@ module _ (most : ℕ) (log buffer : List ℕ) (x : Extent) (w : Reached log x) w
     whole-index = sym (index-completed (length log) (w .list) ∙ rw (← bytes-told, ← records-told, w .there))
 
     pub rest-length : 21 + length rest ≡ indexLength (x .records)
-    rest-length = omega (arith, start-length (x .bytes) (x .records), sym (length-append (startOf (x .bytes) (x .records)) rest) ∙ ap length whole-index ∙ needed)
+    rest-length = omega (
+      arith,
+      start-length (x .bytes) (x .records),
+      sym (length-append (startOf (x .bytes) (x .records)) rest) ∙ ap length whole-index ∙ needed,
+    )
 
     pub rest-whole : isWhole (wholesOf log) ≡ true
     rest-whole = ap isWhole (w .there)
 
-    pub build-done : indexLength (x .records) ≤ length buffer → (n : ℕ) → n ≡ indexLength (x .records) → (m out : List ℕ) → m ≡ sets buffer 0 (startOf (x .bytes) (x .records)) → out ≡ sets m 21 rest →
+    pub build-done : indexLength (x .records) ≤ length buffer → (n : ℕ) → n ≡ indexLength (x .records) →
+        (m out : List ℕ) → m ≡ sets buffer 0 (startOf (x .bytes) (x .records)) → out ≡ sets m 21 rest →
         standing (index.Length n) out ≡ builtUpTo most log buffer
     unfolding putOver
     build-done room n size m out e f =
         let first = startOf (x .bytes) (x .records) in
         let laid : out ≡ laidOver (indexOf (length log) (w .list)) buffer =
-        f ∙ ap (λ (v : List ℕ). sets v 21 rest) (e ∙ nothing-laid first buffer (omega (arith, start-length (x .bytes) (x .records), rest-length)))
-        ∙ laid-sets first buffer (omega (arith, start-length (x .bytes) (x .records), rest-length)) rest 21 (sym (start-length (x .bytes) (x .records))) (omega (arith, start-length (x .bytes) (x .records), rest-length))
+        f ∙ ap (λ (v : List ℕ). sets v 21 rest) (e
+        ∙ nothing-laid first buffer (omega (arith, start-length (x .bytes) (x .records), rest-length)))
+        ∙ laid-sets first buffer (omega (arith, start-length (x .bytes) (x .records), rest-length)) rest 21
+        (sym (start-length (x .bytes) (x .records))) (omega (
+          arith,
+          start-length (x .bytes) (x .records),
+          rest-length,
+        ))
         ∙ ap (λ (v : List ℕ). laidOver v buffer) whole-index in
-        sym (told ∙ rw (le-leb (length log) most (omega (arith, bytes-told)), le-leb (length (indexOf (length log) (w .list))) (length buffer) (omega (arith, needed)), ← laid, needed, ← size))
+        sym (told ∙ rw (
+          le-leb (length log) most (omega (arith, bytes-told)),
+          le-leb (length (indexOf (length log) (w .list))) (length buffer) (omega (arith, needed)),
+          ← laid,
+          needed,
+          ← size,
+        ))
 
 -- ---- the end of a log that came in parts
 
@@ -194,9 +230,14 @@ module _ (most left : ℕ) (x : Extent) (buffer : List ℕ) where
 
     pub end-short : length buffer < 21 → standing (index.Refused 10) buffer ≡ endUpTo most left x buffer
     unfolding endUpTo putOver
-    end-short h = rw (← e, lt-leb (length (startOf (x .bytes) (x .records))) (length buffer) (omega (arith, start-length (x .bytes) (x .records))))
+    end-short h = rw (
+      ← e,
+      lt-leb (length (startOf (x .bytes) (x .records))) (length buffer)
+          (omega (arith, start-length (x .bytes) (x .records))),
+    )
 
-    pub end-done : 21 ≤ length buffer → (out : List ℕ) → out ≡ sets buffer 0 (startOf (x .bytes) (x .records)) → standing (index.Length 21) out ≡ endUpTo most left x buffer
+    pub end-done : 21 ≤ length buffer → (out : List ℕ) → out ≡ sets buffer 0 (startOf (x .bytes) (x .records)) →
+        standing (index.Length 21) out ≡ endUpTo most left x buffer
     unfolding endUpTo putOver
     end-done h out p =
         let first = startOf (x .bytes) (x .records) in

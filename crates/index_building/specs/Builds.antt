@@ -1,5 +1,5 @@
--- A build: of a log that is lent whole; and of one that comes in parts, by a step over each and an end (02, T-10). Definitions only.
--- Assumes nothing.
+-- A build: of a log that is lent whole; and of one that comes in parts, by a step over each and an end (02, T-10).
+-- Definitions only. Assumes nothing.
 use Prim.Native.Nat.{ℕ, _+_}
 use mathlib.Core.List.{List, [], _∷_, _++_, foldl}
 use lib.Dec.{eqb, leb}
@@ -19,8 +19,8 @@ use Rattle.index_building.specs.Indexes.{greatest, startOf, newEntry, in
 
 -- ---- a log lent whole
 
--- "1 or 2 at a bad record, 4 if a number of the index would pass 4,294,967,295, 10 if the index does not fit the buffer". The greatest
--- number is an argument: offsets, count and fallbacks are no greater than the log's length
+-- "1 or 2 at a bad record, 4 if a number of the index would pass 4,294,967,295, 10 if the index does not fit the
+-- buffer". The greatest number is an argument: offsets, count and fallbacks are no greater than the log's length
 abbrev pub builtBy : ℕ → List ℕ → List ℕ → Records → Standing IndexWritten
 builtBy most log buffer (refusedAt r place) = refusedOver buffer r
 builtBy most log buffer (whole l) =
@@ -76,7 +76,8 @@ progressBy at x (stopped r place) = progress.Fault r
 -- the bytes of the part that are used, those of the entries, and how far it came; or the first bad record's number
 abbrev pub partBy : Extent → List ℕ → Wholes → Standing PartBuilt
 partBy x buffer (stopped r place) = standing (built.Refused r) buffer
-partBy x buffer (reached l used) = putOver built.Refused (built.Whole used (length (completed x l)) (foldl withRecord x l)) (completed x l) buffer
+partBy x buffer (reached l used) =
+    putOver built.Refused (built.Whole used (length (completed x l)) (foldl withRecord x l)) (completed x l) buffer
 
 unfoldable pub partOver : List ℕ → Extent → List ℕ → Standing PartBuilt
 partOver part x buffer =

@@ -92,7 +92,8 @@ laidOver bytes buffer = bytes ++ drop (length bytes) buffer
 -- bytes that are put there, or 10 where they do not fit, which leaves everything
 unfoldable pub putOver : {A : Type 0} → (ℕ → A) → A → List ℕ → List ℕ → Standing A
 putOver refused told bytes buffer =
-    unlessFault (λ r. standing (refused r) buffer) (must (leb (length bytes) (length buffer)) 10) (standing told (laidOver bytes buffer))
+    unlessFault (λ r. standing (refused r) buffer) (must (leb (length bytes) (length buffer)) 10)
+    (standing told (laidOver bytes buffer))
 
 abbrev pub putIndex : List ℕ → List ℕ → Standing IndexWritten
 putIndex bytes buffer = putOver index.Refused (index.Length (length bytes)) bytes buffer

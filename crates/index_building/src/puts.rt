@@ -35,7 +35,8 @@ pub(crate) fn put_new_entry(
     before: u64,
 ) -> usize
     requires { ⌜ at + length (newEntry records offset before) ≤ length (now buffer) ⌝ }
-    ensures { λ r. ⌜ (now (buffer .exit) ≡ sets (now (buffer .entry)) at (newEntry records offset before)) × (r ≡ at + length (newEntry records offset before)) ⌝ }
+    ensures { λ r. ⌜ (now (buffer .exit) ≡ sets (now (buffer .entry)) at (newEntry records offset before))
+        × (r ≡ at + length (newEntry records offset before)) ⌝ }
 {
     if records % 64 == 0 {
         put_entry(buffer, at, offset, before);

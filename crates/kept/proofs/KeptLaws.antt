@@ -20,21 +20,33 @@ module _ (from i : ℕ) (l : List ℕ) (fits : from + suc i ≤ length l) where
   unmoved : getD (shifted from i l) (from + i) 0 ≡ getD (drop from l) i 0
   unmoved =
       let place : from + i ≡ length (take i (drop from l)) + from = rw moved (add-comm from i) in
-      rw (place, getD-append-add (take i (drop from l)) (drop i l) from 0, getD-drop i l from 0, getD-drop from l i 0) (ap (λ (n : ℕ). getD l n 0) (add-comm i from))
+      rw (place, getD-append-add (take i (drop from l)) (drop i l) from 0, getD-drop i l from 0, getD-drop from l i 0)
+      (ap (λ (n : ℕ). getD l n 0) (add-comm i from))
 
   pub shift-next : set (shifted from i l) i (getD (shifted from i l) (from + i) 0) ≡ shifted from (i + 1) l
   shift-next =
       let there : i < length (shifted from i l) = rw (length-append, moved, length-drop) (omega arith) in
       let next : i < length (drop from l) = rw length-drop (omega arith) in
       let behind : drop (suc i) (shifted from i l) ≡ drop (suc i) l =
-      rw (← add-one) (sym (drop-drop 1 i (shifted from i l)) ∙ rw (drop-at (take i (drop from l)) (drop i l) i moved) (drop-drop 1 i l)) in
-      rw (set-split (shifted from i l) i (getD (shifted from i l) (from + i) 0) there, unmoved, take-at (take i (drop from l)) (drop i l) i moved, behind, add-one, take-suc (drop from l) i 0 next, append-assoc)
+      rw (← add-one) (sym (drop-drop 1 i (shifted from i l))
+      ∙ rw (drop-at (take i (drop from l)) (drop i l) i moved) (drop-drop 1 i l)) in
+      rw (
+        set-split (shifted from i l) i (getD (shifted from i l) (from + i) 0) there,
+        unmoved,
+        take-at (take i (drop from l)) (drop i l) i moved,
+        behind,
+        add-one,
+        take-suc (drop from l) i 0 next,
+        append-assoc,
+      )
 
 -- the places of a buffer
-pub kept-there : (from end : ℕ) (l : List ℕ) → from ≤ end → end ≤ length l → keptOver from end l ≡ kept (end - from) (shifted from (end - from) l)
+pub kept-there : (from end : ℕ) (l : List ℕ) → from ≤ end → end ≤ length l → keptOver from end l
+    ≡ kept (end - from) (shifted from (end - from) l)
 unfolding keptOver if_then_else_
 kept-there from end l h k = rw (le-ltb end from h, le-ltb (length l) end k)
 
 -- a read behind what is kept leaves it as it is
 pub kept-stays : (n : ℕ) (l part : List ℕ) → n ≤ length l → take n (putMid n (length l - n) l part) ≡ take n l
-kept-stays n l part h = take-append-le n (take n l) (part ++ postOf n (length l - n) l) (rw (length-take-le n l h) (omega arith)) ∙ take-all n (take n l) (rw (length-take-le n l h) (omega arith))
+kept-stays n l part h = take-append-le n (take n l) (part ++ postOf n (length l - n) l)
+    (rw (length-take-le n l h) (omega arith)) ∙ take-all n (take n l) (rw (length-take-le n l h) (omega arith))

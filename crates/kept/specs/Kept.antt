@@ -19,4 +19,5 @@ shifted from n l = take n (drop from l) ++ drop n l
 
 -- those between two places of the buffer
 unfoldable pub keptOver : ℕ → ℕ → List ℕ → Kept
-keptOver from end l = if ltb end from then kept 0 l else (if ltb (length l) end then kept 0 l else kept (end - from) (shifted from (end - from) l))
+keptOver from end l = if ltb end from then kept 0 l else (if ltb (length l) end then kept 0 l else kept (end - from)
+    (shifted from (end - from) l))

@@ -55,15 +55,20 @@ module _ (s : Scene) (walls : List Origin) where
 
 data PassKnown (s : Scene) : Outcome → Origin → Type 0 where
   pass-solving : {p : Vec2} {n : ℕ} → PassKnown s (stands (solving p) noLine n) unknown
-  pass-relaxing : {p : Vec2} {depth : Float} {f : Failure} {n : ℕ} {o : Origin} → NeighbourOf s o → PassKnown s (stands (relaxing p depth) (failedLine f) n) o
-  pass-rigid : {k : ℕ} {p : Vec2} {f : Failure} {n : ℕ} {o : Origin} → EdgeOf s o → PassKnown s (stands (rigidFailure k p) (failedLine f) n) o
+  pass-relaxing : {p : Vec2} {depth : Float} {f : Failure} {n : ℕ} {o : Origin} → NeighbourOf s o →
+      PassKnown s (stands (relaxing p depth) (failedLine f) n) o
+  pass-rigid : {k : ℕ} {p : Vec2} {f : Failure} {n : ℕ} {o : Origin} → EdgeOf s o →
+      PassKnown s (stands (rigidFailure k p) (failedLine f) n) o
   pass-refused : {r : ℕ} → PassKnown s (refusal r) unknown
 
-placed-known : (s : Scene) (walls : List Origin) → All (EdgeOf s) walls → (rigid n : ℕ) → length walls ≡ rigid → n ≤ rigid + s .neighbours →
+placed-known : (s : Scene) (walls : List Origin) → All (EdgeOf s) walls → (rigid n : ℕ) → length walls ≡ rigid →
+    n ≤ rigid + s .neighbours →
     {o : Outcome} → Placed rigid n o → PassKnown s o (failedOrigin (walls ++ neighboursFrom 0 (s .neighbours)) o)
 placed-known s walls edges rigid n long few none-failed = pass-solving
-placed-known s walls edges rigid n long few (beyond-rigid {f = f} above below) = pass-relaxing (neighbour-behind s walls (f .index) (omega arith) (omega arith))
-placed-known s walls edges rigid n long few (among-rigid {f} under below) = pass-rigid (edge-at s walls edges (f .index) (omega arith))
+placed-known s walls edges rigid n long few (beyond-rigid {f = f} above below) =
+    pass-relaxing (neighbour-behind s walls (f .index) (omega arith) (omega arith))
+placed-known s walls edges rigid n long few (among-rigid {f} under below) =
+    pass-rigid (edge-at s walls edges (f .index) (omega arith))
 placed-known s walls edges rigid n long few none-stands = pass-refused
 
 module _ (s : Scene) (velocity : Vec2) where
@@ -74,7 +79,9 @@ module _ (s : Scene) (velocity : Vec2) where
   walls = edgeOrigins agent (s .margin) (s .horizon) (s .vertices) 0 0 (headsIn s)
 
   solved-known : (a : Answer) → edgesAt s velocity ≡ a →
-      PassKnown s (solvedOver (s .wish) (s .limit) (neighboursIn s) a) (failedOrigin (walls ++ neighboursFrom 0 (s .neighbours)) (solvedOver (s .wish) (s .limit) (neighboursIn s) a))
+      PassKnown s (solvedOver (s .wish) (s .limit) (neighboursIn s) a)
+      (failedOrigin (walls ++ neighboursFrom 0 (s .neighbours))
+      (solvedOver (s .wish) (s .limit) (neighboursIn s) a))
   solved-known (refused r) e = pass-refused
   solved-known (lines l) e =
       let few : length (l ++ neighboursIn s) ≤ length l + s .neighbours =
@@ -107,15 +114,18 @@ pub failed-known : (s : Scene) → Known s (sceneOutcome s) (sceneOrigin s)
 unfolding sceneOutcome sceneOrigin
 failed-known s = go (sceneFault s)
   where
-    go : (f : Fault) → Known s (unlessFault refusedScene f (firstPass s (passAt s (s .agent .velocity)))) (unlessFault (λ (r : ℕ). unknown) f (passOrigin s (lastVelocity s (passAt s (s .agent .velocity)))))
+    go : (f : Fault) → Known s (unlessFault refusedScene f (firstPass s (passAt s (s .agent .velocity))))
+        (unlessFault (λ (r : ℕ). unknown) f (passOrigin s (lastVelocity s (passAt s (s .agent .velocity)))))
     go fine = first-known s (pass-known s (s .agent .velocity)) refl
     go (fault r) = refused-known
 
 -- "(0, 0, 0), which no failed line of a scene has"
-no-unknown : (s : Scene) (o : Origin) {code : ℕ} {p : Vec2} {f : Failure} {n : ℕ} → Known s (outcome code p (failedLine f) n) o → o ≡ unknown → ⊥
+no-unknown : (s : Scene) (o : Origin) {code : ℕ} {p : Vec2} {f : Failure} {n : ℕ} →
+    Known s (outcome code p (failedLine f) n) o → o ≡ unknown → ⊥
 no-unknown s o (relaxed-first (neighbour-of h)) e = let k : _≡_ {A = ℕ} 2 0 = ap (λ (x : Origin). x .kind) e in omega arith
 no-unknown s o (relaxed-again (neighbour-of h)) e = let k : _≡_ {A = ℕ} 2 0 = ap (λ (x : Origin). x .kind) e in omega arith
 no-unknown s o (failed-again (edge-of h k)) e = let k : _≡_ {A = ℕ} 1 0 = ap (λ (x : Origin). x .kind) e in omega arith
 
-pub never-unknown : (s : Scene) {code : ℕ} {p : Vec2} {f : Failure} {n : ℕ} → sceneOutcome s ≡ outcome code p (failedLine f) n → sceneOrigin s ≡ unknown → ⊥
+pub never-unknown : (s : Scene) {code : ℕ} {p : Vec2} {f : Failure} {n : ℕ} →
+    sceneOutcome s ≡ outcome code p (failedLine f) n → sceneOrigin s ≡ unknown → ⊥
 never-unknown s e = no-unknown s (sceneOrigin s) (rw e at (failed-known s))

@@ -12,7 +12,8 @@ use Rattle.dodgy_2d.specs.Outcomes.{SceneOutcome, outcome, refusedScene}
 
 -- an edge, by its left vertex, of an obstacle of the scene
 pub data EdgeOf (s : Scene) : Origin → Type 0 where
-  edge-of : {place left : ℕ} → place < s .obstacles → left < edgeCount (getD (s .kinds) place 0) (getD (s .counts) place 0) → EdgeOf s (edgeOrigin place left)
+  edge-of : {place left : ℕ} → place < s .obstacles →
+      left < edgeCount (getD (s .kinds) place 0) (getD (s .counts) place 0) → EdgeOf s (edgeOrigin place left)
 
 -- a neighbour of the scene
 pub data NeighbourOf (s : Scene) : Origin → Type 0 where

@@ -35,7 +35,8 @@ pub record Lent (total n : ℕ) (ks cs : List ℕ) (xs : List Float) : Type 0 wh
   pub vertices : 2 * vertexTotal n cs ≤ length xs
   pub few : total + vertexTotal n cs ≤ 192
 
-pub all-lent : (total n : ℕ) (ks cs : List ℕ) (xs : List Float) → total ≤ 192 → lentFault total n ks cs xs ≡ fine → Lent total n ks cs xs
+pub all-lent : (total n : ℕ) (ks cs : List ℕ) (xs : List Float) → total ≤ 192 → lentFault total n ks cs xs ≡ fine →
+    Lent total n ks cs xs
 unfolding lentFault ownFault vertexTotal
 all-lent total zero ks cs xs h e = record { kinds = omega arith; counts = omega arith; vertices = omega arith; few = omega arith }
 all-lent total (suc n) ks cs xs h e =
@@ -54,10 +55,12 @@ all-lent total (suc n) ks cs xs h e =
       few = omega (arith, rest .few);
     }
 
--- the obstacle at i, behind `total` vertices that are there: it has room for its vertices, they are there, and the obstacles behind it pass
+-- the obstacle at i, behind `total` vertices that are there: it has room for its vertices, they are there, and the
+-- obstacles behind it pass
 module _ (ks cs : List ℕ) (xs : List Float) (n i total : ℕ) where
   pub next-passes : i < n → 2 * total ≤ length xs → lentLeft ks cs xs n i total ≡ fine
-      → (total + getD cs i 0 ≤ 192) × (2 * (total + getD cs i 0) ≤ length xs) × (lentLater ks cs xs n i total (getD cs i 0) ≡ fine)
+      → (total + getD cs i 0 ≤ 192) × (2 * (total + getD cs i 0) ≤ length xs)
+      × (lentLater ks cs xs n i total (getD cs i 0) ≡ fine)
   next-passes h t e =
       let both = ⊳-fine (here ks cs xs n i total) (sym (lent-more ks cs xs n i total h) ∙ e) in
       let room = rw (front-of cs i) at (own-room total (drop i ks) (drop i cs) (drop (2 * total) xs) (both .0)) in
@@ -72,7 +75,8 @@ pub record Exact (n : ℕ) (ks cs : List ℕ) (xs : List Float) : Type 0 where
   pub vertices : length xs ≡ 2 * vertexTotal n cs
   pub most : vertexTotal n cs ≤ 192
 
-pub exactly : (n : ℕ) (ks cs : List ℕ) (xs : List Float) → layoutFault n ks cs xs ≡ fine → leftFault n (vertexTotal n cs) ks cs xs ≡ fine → Exact n ks cs xs
+pub exactly : (n : ℕ) (ks cs : List ℕ) (xs : List Float) → layoutFault n ks cs xs ≡ fine →
+    leftFault n (vertexTotal n cs) ks cs xs ≡ fine → Exact n ks cs xs
 unfolding layoutFault leftFault
 exactly n ks cs xs e f =
     let a = ⊳-fine (must (leb n mostObstacles) 4) e in

@@ -32,7 +32,8 @@ module _ (ks : List ℕ) (i : ℕ) where
   kind-missing h = rw (drop-of-length-le ks h)
 
 module _ (total kind : ℕ) (cs : List ℕ) (i : ℕ) where
-  pub count-there : i < length cs → countFault total kind (drop i cs) ≡ (must (roomFor total (getD cs i 0)) 4 ⊳ must (not (isEmptyOpen kind (getD cs i 0))) 5)
+  pub count-there : i < length cs → countFault total kind (drop i cs)
+      ≡ (must (roomFor total (getD cs i 0)) 4 ⊳ must (not (isEmptyOpen kind (getD cs i 0))) 5)
   unfolding countFault
   count-there h = rw (drop-cons cs i 0 h)
 
@@ -41,7 +42,8 @@ module _ (total kind : ℕ) (cs : List ℕ) (i : ℕ) where
   count-missing h = rw (drop-of-length-le cs h)
 
 -- a count that passes leaves room for its vertices
-pub count-room : (total kind : ℕ) (cs : List ℕ) → countFault total kind cs ≡ fine → (ownCount cs ≤ 64) × (total + ownCount cs ≤ 192)
+pub count-room : (total kind : ℕ) (cs : List ℕ) → countFault total kind cs ≡ fine →
+    (ownCount cs ≤ 64) × (total + ownCount cs ≤ 192)
 unfolding countFault
 count-room total kind [] e = absurd (no-fault 2 (sym e))
 count-room total kind (c ∷ cs) e = room-within total c (must-fine (roomFor total c) 4 (⊳-fine (must (roomFor total c) 4) e .0))
@@ -97,7 +99,8 @@ module _ (ks cs : List ℕ) (xs : List Float) (n i total : ℕ) where
       rw e
 
 -- an obstacle that passes leaves room for its vertices
-pub own-room : (total : ℕ) (ks cs : List ℕ) (xs : List Float) → ownFault total ks cs xs ≡ fine → (ownCount cs ≤ 64) × (total + ownCount cs ≤ 192)
+pub own-room : (total : ℕ) (ks cs : List ℕ) (xs : List Float) → ownFault total ks cs xs ≡ fine →
+    (ownCount cs ≤ 64) × (total + ownCount cs ≤ 192)
 unfolding ownFault
 own-room total ks cs xs e =
     let k = ⊳-fine (kindFault ks) e in
@@ -105,7 +108,8 @@ own-room total ks cs xs e =
     count-room total (ownKind ks) cs (c .0)
 
 -- and its vertices are there, behind those before it
-pub own-there : (total : ℕ) (ks cs : List ℕ) (xs : List Float) → 2 * total ≤ length xs → ownFault total ks cs (drop (2 * total) xs) ≡ fine → 2 * (total + ownCount cs) ≤ length xs
+pub own-there : (total : ℕ) (ks cs : List ℕ) (xs : List Float) → 2 * total ≤ length xs →
+    ownFault total ks cs (drop (2 * total) xs) ≡ fine → 2 * (total + ownCount cs) ≤ length xs
 unfolding ownFault
 own-there total ks cs xs h e =
     let k = ⊳-fine (kindFault ks) e in
@@ -124,7 +128,8 @@ module _ (ks cs : List ℕ) (xs : List Float) (n : ℕ) where
   unfolding layoutIn layoutFault
   told-fault r h e = rw (le-leb n mostObstacles h, e)
 
-  pub told-total : (t : ℕ) → n ≤ mostObstacles → lentFault 0 n ks cs xs ≡ fine → vertexTotal n cs ≡ t → layout.Vertices t ≡ layoutIn n ks cs xs
+  pub told-total : (t : ℕ) → n ≤ mostObstacles → lentFault 0 n ks cs xs ≡ fine → vertexTotal n cs ≡ t →
+      layout.Vertices t ≡ layoutIn n ks cs xs
   unfolding layoutIn layoutFault
   told-total t h e f = rw (le-leb n mostObstacles h, e, f)
 

@@ -1,5 +1,6 @@
--- Obstacles lent as numbers, and their first fault in the order of a scene's fields (02, T-01 "Refusals: 2 to 7 as in the reader's field order, 2 meaning fewer or
--- more numbers lent than the counts say", T-08 and T-11). Each list is what is left of what was lent. Definitions only. Assumes nothing.
+-- Obstacles lent as numbers, and their first fault in the order of a scene's fields (02, T-01 "Refusals: 2 to 7 as in
+-- the reader's field order, 2 meaning fewer or more numbers lent than the counts say", T-08 and T-11). Each list is
+-- what is left of what was lent. Definitions only. Assumes nothing.
 use Prim.Native.Nat.{ℕ, zero, suc, _+_, _*_}
 use mathlib.Core.Bool.{not}
 use mathlib.Core.List.{List, [], _∷_}
@@ -39,7 +40,8 @@ ownFault total ks cs xs = kindFault ks ⊳ countFault total (ownKind ks) cs ⊳ 
 -- obstacle by obstacle, as many as n
 unfoldable pub lentFault : ℕ → ℕ → List ℕ → List ℕ → List Float → Fault
 lentFault total zero ks cs xs = fine
-lentFault total (suc n) ks cs xs = ownFault total ks cs xs ⊳ lentFault (total + ownCount cs) n (drop 1 ks) (drop 1 cs) (drop (2 * ownCount cs) xs)
+lentFault total (suc n) ks cs xs =
+    ownFault total ks cs xs ⊳ lentFault (total + ownCount cs) n (drop 1 ks) (drop 1 cs) (drop (2 * ownCount cs) xs)
 
 -- the count of obstacles (4), then the obstacles
 unfoldable pub layoutFault : ℕ → List ℕ → List ℕ → List Float → Fault

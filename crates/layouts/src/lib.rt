@@ -1,4 +1,5 @@
-// Obstacles that are lent as numbers: their count, one kind and one vertex count each, and two numbers a vertex, obstacle behind obstacle (02, T-01 and T-08).
+// Obstacles that are lent as numbers: their count, one kind and one vertex count each, and two numbers a vertex,
+// obstacle behind obstacle (02, T-01 and T-08).
 use admission::Head;
 use admission::Judged;
 use admission::fault_unless;
@@ -16,9 +17,10 @@ pub enum Layout {
     Fault(u8),
 }
 
-// Judges lent obstacles in the order of a scene's fields. Refused: more than 16 obstacles (4); then for each obstacle no kind lent for it (2), its kind (3),
-// no count lent for it (2), more than 64 vertices or more than 192 with those before it (4), an open one with none (5); then for each of its vertices each
-// component, not lent (2), not finite or out of range (6), then a vertex that is the one before it again (14); behind a closed one's last that it is the first
+// Judges lent obstacles in the order of a scene's fields. Refused: more than 16 obstacles (4); then for each obstacle
+// no kind lent for it (2), its kind (3), no count lent for it (2), more than 64 vertices or more than 192 with those
+// before it (4), an open one with none (5); then for each of its vertices each component, not lent (2), not finite or
+// out of range (6), then a vertex that is the one before it again (14); behind a closed one's last that it is the first
 // again (14). What is lent beyond the counts is not looked at: `judge_leftovers` tells it.
 pub fn judge_layout(obstacles: usize, kinds: &[u8], counts: &[u8], vertices: &[f32]) -> Layout
     ensures { λ r. ⌜ r ≡ layoutIn obstacles (now (kinds .entry)) (now (counts .entry)) (now (vertices .entry)) ⌝ }
@@ -82,7 +84,8 @@ fn judge_kind(kinds: &[u8], i: usize) -> Judged
     Judged::Fault(2)
 }
 
-// The vertex count at an index, of an obstacle with this kind behind `total` vertices: not lent (2), too many (4), open with none (5).
+// The vertex count at an index, of an obstacle with this kind behind `total` vertices: not lent (2), too many (4), open
+// with none (5).
 fn judge_count(total: usize, kind: u8, counts: &[u8], i: usize) -> Judged
     ensures { λ r. ⌜ faultOf r ≡ countFault total kind (drop i (now (counts .entry))) ⌝ }
 {
@@ -98,7 +101,8 @@ fn judge_count(total: usize, kind: u8, counts: &[u8], i: usize) -> Judged
 // The obstacle at an index, behind `total` vertices that are there: its kind, its count, its vertices.
 fn judge_obstacle(i: usize, total: usize, kinds: &[u8], counts: &[u8], vertices: &[f32]) -> Judged
     requires { ⌜ 2 * total ≤ length (now vertices) ⌝ }
-    ensures { λ r. ⌜ faultOf r ≡ ownFault total (drop i (now (kinds .entry))) (drop i (now (counts .entry))) (drop (2 * total) (now (vertices .entry))) ⌝ }
+    ensures { λ r. ⌜ faultOf r ≡ ownFault total (drop i (now (kinds .entry))) (drop i (now (counts .entry)))
+        (drop (2 * total) (now (vertices .entry))) ⌝ }
 {
     let kind = judge_kind(kinds, i);
     let Judged::Fine = kind else {

@@ -1,4 +1,5 @@
--- Enums of the code there and back: what one says can be turned back, so two answers that one promise allows are the same. Assumes nothing.
+-- Enums of the code there and back: what one says can be turned back, so two answers that one promise allows are the
+-- same. Assumes nothing.
 use mathlib.Core.Path.{_≡_, refl}
 use Rattle.arithmetic.proofs.Agree.{agree-read}
 use Rattle.pass_2d.proofs.Agreement.{failure-back, failure-there}
@@ -33,5 +34,6 @@ answer-back : (a : Answer) → answerAs (outcomeOf a) ≡ a
 answer-back (answer.Stands p f n) = rw (phase-back p, failed-back f)
 answer-back (answer.Refused r) = refl
 
-pub answers-agree : {one other : Answer} {promised : Outcome} → outcomeOf one ≡ promised → outcomeOf other ≡ promised → one ≡ other
+pub answers-agree : {one other : Answer} {promised : Outcome} → outcomeOf one ≡ promised → outcomeOf other ≡ promised →
+    one ≡ other
 answers-agree = agree-read outcomeOf answerAs answer-back

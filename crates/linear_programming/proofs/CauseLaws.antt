@@ -35,7 +35,8 @@ solved-caused o k p n (solves {q}) = unfailed-caused (judged-unfailed o q (n + k
 solved-caused o k p n (stops h by) = caused-failed by
 solved-caused o k p n stops-refused = caused-refused
 
-line-caused : (o : Objective) (limit : Float) (e : List Line) (own : Line) (s : Pass) → Caused s → Caused (passLine o limit e own s)
+line-caused : (o : Objective) (limit : Float) (e : List Line) (own : Line) (s : Pass) → Caused s →
+    Caused (passLine o limit e own s)
 unfolding passLine
 line-caused o limit e own s (caused-feasible {p} {n}) =
     if-all Caused _ caused-feasible (solved-caused o (length e) p (n + 1) (rw zero-add at (line-solves o limit own e)))
@@ -44,7 +45,8 @@ line-caused o limit e own s caused-refused = caused-refused
 
 pass-caused : (o : Objective) (limit : Float) (l : List Line) → Caused (pass o limit l)
 unfolding pass
-pass-caused o limit l = walk-keeps (passLine o limit) Caused (line-caused o limit) [] l _ (unfailed-caused (judged-unfailed o _ 0))
+pass-caused o limit l =
+    walk-keeps (passLine o limit) Caused (line-caused o limit) [] l _ (unfailed-caused (judged-unfailed o _ 0))
 
 -- ---- a whole list
 
@@ -62,11 +64,13 @@ module _ (rigid : ℕ) (limit : Float) (l : List Line) where
   unfolding afterPass
   after-tells caused-feasible = tells-none
   after-tells (caused-failed {f} {p} {n} by) =
-      if-all Tells _ (tells by) (relaxed-tells f by (walk (relaxLine rigid limit) (take (f .index) l) (drop (f .index) l) (relaxed p 0ᶠ n)))
+      if-all Tells _ (tells by) (relaxed-tells f by (walk (relaxLine rigid limit) (take (f .index) l)
+      (drop (f .index) l) (relaxed p 0ᶠ n)))
   after-tells caused-refused = tells-refusal
 
   -- the circle, or a line before the failed one
-  pub cause-earlier : (wish : Vec2) {ph : Phase} {f : Failure} {n : ℕ} → wholeList rigid wish limit l ≡ stands ph (failedLine f) n → Earlier (f .index) (f .cause)
+  pub cause-earlier : (wish : Vec2) {ph : Phase} {f : Failure} {n : ℕ} → wholeList rigid wish limit l
+      ≡ stands ph (failedLine f) n → Earlier (f .index) (f .cause)
   unfolding wholeList
   cause-earlier wish e = told (rw e at (after-tells (pass-caused (toward wish) limit l)))
     where

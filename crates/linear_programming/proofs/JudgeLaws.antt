@@ -11,6 +11,7 @@ pub ⟫-assoc : (f g : Fault) (o : Outcome) → ((f ⊳ g) ⟫ o) ≡ (f ⟫ (g 
 ⟫-assoc (fault r) g o = refl
 
 -- what stands was not refused: each rule before it passed
-pub ⟫-stands : (f : Fault) {o : Outcome} {ph : Phase} {k : Failed} {n : ℕ} → (f ⟫ o) ≡ stands ph k n → (f ≡ fine) × (o ≡ stands ph k n)
+pub ⟫-stands : (f : Fault) {o : Outcome} {ph : Phase} {k : Failed} {n : ℕ} → (f ⟫ o) ≡ stands ph k n →
+    (f ≡ fine) × (o ≡ stands ph k n)
 ⟫-stands fine e = (refl, e)
 ⟫-stands (fault r) e = let z : _≡_ {A = ℕ} 0 1 = cc in absurd (omega arith)

@@ -1,5 +1,6 @@
--- The rules, line by line: how a list stands after one line more, from how it stood before, and the law that this is the whole-list rules over the
--- longer list (`batch-whole`). Both walk the 2D pass alike up to the line that fails; from there both are relaxation. Assumes nothing.
+-- The rules, line by line: how a list stands after one line more, from how it stood before, and the law that this is
+-- the whole-list rules over the longer list (`batch-whole`). Both walk the 2D pass alike up to the line that fails;
+-- from there both are relaxation. Assumes nothing.
 use Prim.Native.Nat.{ℕ}
 use mathlib.Core.Path.{_≡_, refl, sym}
 use mathlib.Core.Bool.{Bool, true, false}
@@ -31,8 +32,10 @@ entered rigid limit earlier own (refused r) = refusal r
 
 -- one line, by the phase that the earlier ones left
 unfoldable pub advance : ℕ → Vec2 → Float → List Line → Line → Outcome → Outcome
-advance rigid wish limit earlier own (stands (solving p) f n) = entered rigid limit earlier own (passLine (toward wish) limit earlier own (feasible p n))
-advance rigid wish limit earlier own (stands (relaxing p depth) f n) = relaxedOutcome f (relaxLine rigid limit earlier own (relaxed p depth n))
+advance rigid wish limit earlier own (stands (solving p) f n) =
+    entered rigid limit earlier own (passLine (toward wish) limit earlier own (feasible p n))
+advance rigid wish limit earlier own (stands (relaxing p depth) f n) =
+    relaxedOutcome f (relaxLine rigid limit earlier own (relaxed p depth n))
 advance rigid wish limit earlier own (stands (rigidFailure k p) f n) = stands (rigidFailure k p) f n
 advance rigid wish limit earlier own (refusal r) = refusal r
 
@@ -43,7 +46,8 @@ feed rigid wish limit earlier lines s = walk (advance rigid wish limit) earlier 
 module _ (rigid : ℕ) (wish : Vec2) (limit : Float) where
   -- ---- what is over stays, and relaxation goes on as relaxation
 
-  pub feed-rigid : (k : ℕ) (p : Vec2) (f : Failed) (n : ℕ) (e l : List Line) → feed rigid wish limit e l (stands (rigidFailure k p) f n) ≡ stands (rigidFailure k p) f n
+  pub feed-rigid : (k : ℕ) (p : Vec2) (f : Failed) (n : ℕ) (e l : List Line) →
+      feed rigid wish limit e l (stands (rigidFailure k p) f n) ≡ stands (rigidFailure k p) f n
   unfolding feed advance
   feed-rigid k p f n = walk-stays (advance rigid wish limit) (stands (rigidFailure k p) f n) (λ e x. refl)
 
@@ -51,12 +55,14 @@ module _ (rigid : ℕ) (wish : Vec2) (limit : Float) where
   unfolding feed advance
   feed-refusal r = walk-stays (advance rigid wish limit) (refusal r) (λ e x. refl)
 
-  advance-relaxed : (f : Failed) (e : List Line) (own : Line) (s : Relaxed) → advance rigid wish limit e own (relaxedOutcome f s) ≡ relaxedOutcome f (relaxLine rigid limit e own s)
+  advance-relaxed : (f : Failed) (e : List Line) (own : Line) (s : Relaxed) →
+      advance rigid wish limit e own (relaxedOutcome f s) ≡ relaxedOutcome f (relaxLine rigid limit e own s)
   unfolding advance relaxLine
   advance-relaxed f e own (relaxed p depth n) = refl
   advance-relaxed f e own (relaxRefused r) = refl
 
-  pub feed-relaxed : (f : Failed) (e l : List Line) (s : Relaxed) → feed rigid wish limit e l (relaxedOutcome f s) ≡ relaxedOutcome f (walk (relaxLine rigid limit) e l s)
+  pub feed-relaxed : (f : Failed) (e l : List Line) (s : Relaxed) → feed rigid wish limit e l (relaxedOutcome f s)
+      ≡ relaxedOutcome f (walk (relaxLine rigid limit) e l s)
   unfolding feed
   feed-relaxed f = walk-through (relaxLine rigid limit) (advance rigid wish limit) (relaxedOutcome f) (advance-relaxed f)
 
@@ -65,14 +71,16 @@ module _ (rigid : ℕ) (wish : Vec2) (limit : Float) where
   -- line x has failed, be it rigid (b) or not
   from-failed : (b : Bool) (k : ℕ) (f : Failed) (p : Vec2) (n : ℕ) (e : List Line) (x : Line) (xs : List Line) →
       (if b then stands (rigidFailure k p) f n else relaxedOutcome f (walk (relaxLine rigid limit) e (x ∷ xs) (relaxed p 0ᶠ n)))
-      ≡ feed rigid wish limit (e ++ (x ∷ [])) xs (if b then stands (rigidFailure k p) f n else relaxedOutcome f (relaxLine rigid limit e x (relaxed p 0ᶠ n)))
+      ≡ feed rigid wish limit (e ++ (x ∷ [])) xs (if b then stands (rigidFailure k p) f n else relaxedOutcome f
+      (relaxLine rigid limit e x (relaxed p 0ᶠ n)))
   unfolding if_then_else_
   from-failed true k f p n e x xs = sym (feed-rigid k p f n (e ++ (x ∷ [])) xs)
   from-failed false k f p n e x xs = sym (feed-relaxed f (e ++ (x ∷ [])) xs (relaxLine rigid limit e x (relaxed p 0ᶠ n)))
 
   -- from what line x left, q, both go on alike
   from-line : (e : List Line) (x : Line) (xs : List Line) →
-      ((p : Vec2) (n : ℕ) → afterPass rigid limit ((e ++ (x ∷ [])) ++ xs) (walk (passLine (toward wish) limit) (e ++ (x ∷ [])) xs (feasible p n))
+      ((p : Vec2) (n : ℕ) → afterPass rigid limit ((e ++ (x ∷ [])) ++ xs)
+      (walk (passLine (toward wish) limit) (e ++ (x ∷ [])) xs (feasible p n))
       ≡ feed rigid wish limit (e ++ (x ∷ [])) xs (stands (solving p) noLine n)) →
       {q : Pass} → FailsAt (length e) q →
       afterPass rigid limit (e ++ x ∷ xs) (walk (passLine (toward wish) limit) (e ++ (x ∷ [])) xs q)
@@ -80,19 +88,28 @@ module _ (rigid : ℕ) (wish : Vec2) (limit : Float) where
   unfolding afterPass entered
   from-line e x xs ih (still {p} {n}) = rw append-snoc at (ih p n)
   from-line e x xs ih (there {f} {p} {n} h) =
-      rw (pass-failed (toward wish) limit f p n (e ++ (x ∷ [])) xs, take-at e (x ∷ xs) (f .index) (sym h), drop-at e (x ∷ xs) (f .index) (sym h))
+      rw (
+        pass-failed (toward wish) limit f p n (e ++ (x ∷ [])) xs,
+        take-at e (x ∷ xs) (f .index) (sym h),
+        drop-at e (x ∷ xs) (f .index) (sym h),
+      )
       (from-failed (ltb (f .index) rigid) (f .index) (failedLine f) p n e x xs)
-  from-line e x xs ih (never {r}) = rw (pass-refused (toward wish) limit r (e ++ (x ∷ [])) xs, feed-refusal r (e ++ (x ∷ [])) xs) refl
+  from-line e x xs ih (never {r}) = rw (
+    pass-refused (toward wish) limit r (e ++ (x ∷ [])) xs,
+    feed-refusal r (e ++ (x ∷ [])) xs,
+  ) refl
 
   -- from any line of the 2D pass on
   pub pass-feed : (e l : List Line) (p : Vec2) (n : ℕ) →
-      afterPass rigid limit (e ++ l) (walk (passLine (toward wish) limit) e l (feasible p n)) ≡ feed rigid wish limit e l (stands (solving p) noLine n)
+      afterPass rigid limit (e ++ l) (walk (passLine (toward wish) limit) e l (feasible p n))
+      ≡ feed rigid wish limit e l (stands (solving p) noLine n)
   unfolding afterPass feed advance
   pass-feed e [] p n = refl
   pass-feed e (x ∷ xs) p n = from-line e x xs (pass-feed (e ++ (x ∷ [])) xs) (pass-fails (toward wish) limit e x p n)
 
   start-feed : (l : List Line) {q : Pass} → Unfailed q →
-      afterPass rigid limit l (walk (passLine (toward wish) limit) [] l q) ≡ feed rigid wish limit [] l (afterPass rigid limit [] q)
+      afterPass rigid limit l (walk (passLine (toward wish) limit) [] l q)
+      ≡ feed rigid wish limit [] l (afterPass rigid limit [] q)
   unfolding afterPass
   start-feed l (unfailed-feasible {p} {n}) = pass-feed [] l p n
   start-feed l (unfailed-refused {r}) = rw (pass-refused (toward wish) limit r [] l, feed-refusal r [] l) refl
@@ -102,7 +119,14 @@ module _ (rigid : ℕ) (wish : Vec2) (limit : Float) where
   unfolding wholeList pass
   whole-feed l = start-feed l (judged-unfailed (toward wish) (start (toward wish) limit) 0)
 
-  -- A batch fed to what the lines before it left ends as the whole list does: phase, point, penetration, failed line, probes and refusal are all in the outcome.
-  pub batch-whole : (l m : List Line) → feed rigid wish limit l m (wholeList rigid wish limit l) ≡ wholeList rigid wish limit (l ++ m)
+  -- A batch fed to what the lines before it left ends as the whole list does: phase, point, penetration, failed line,
+  -- probes and refusal are all in the outcome.
+  pub batch-whole : (l m : List Line) → feed rigid wish limit l m (wholeList rigid wish limit l)
+      ≡ wholeList rigid wish limit (l ++ m)
   unfolding feed
-  batch-whole l m = rw (whole-feed (l ++ m), whole-feed l, walk-append (advance rigid wish limit) [] l m (wholeList rigid wish limit [])) refl
+  batch-whole l m = rw (
+    whole-feed (l ++ m),
+    whole-feed l,
+    walk-append (advance rigid wish limit) [] l m
+        (wholeList rigid wish limit []),
+  ) refl

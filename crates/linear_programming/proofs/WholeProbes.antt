@@ -35,11 +35,14 @@ module _ (rigid : ℕ) (wish : Vec2) (limit : Float) (lines : List Line) where
   after-solving : (q : Pass) → pass (toward wish) limit lines ≡ q → Solving (length lines) (afterPass rigid limit lines q)
   unfolding afterPass
   after-solving (feasible p n) e = in-solving (pass-probes (toward wish) limit lines e)
-  after-solving (failed f p n) e = if-all (Solving (length lines)) _ in-rigid (relaxed-solving (length lines) (failedLine f) (walk (relaxLine rigid limit) (take (f .index) lines) (drop (f .index) lines) (relaxed p 0ᶠ n)))
+  after-solving (failed f p n) e = if-all (Solving (length lines)) _ in-rigid
+      (relaxed-solving (length lines) (failedLine f) (walk (relaxLine rigid limit) (take (f .index) lines)
+      (drop (f .index) lines) (relaxed p 0ᶠ n)))
   after-solving (refused r) e = in-refusal
 
   -- 01: "A list of n lines that never fails takes n to n(n+1)/2 probes."
-  pub whole-probes : {p : Vec2} {f : Failed} {n : ℕ} → wholeList rigid wish limit lines ≡ stands (solving p) f n → (length lines ≤ n) × (2 * n ≤ length lines * (length lines + 1))
+  pub whole-probes : {p : Vec2} {f : Failed} {n : ℕ} → wholeList rigid wish limit lines ≡ stands (solving p) f n →
+      (length lines ≤ n) × (2 * n ≤ length lines * (length lines + 1))
   unfolding wholeList
   whole-probes e = counted (rw e at (after-solving _ refl))
     where
@@ -58,7 +61,8 @@ relaxed-totals f (counts-relaxed h) = totals h
 relaxed-totals f counts-relaxed-none = totals-none
 
 module _ (rigid : ℕ) (limit : Float) where
-  after-totals : (lines : List Line) → length lines ≤ mostLines → {q : Pass} → Takes (length lines) q → Totals 16777216 (afterPass rigid limit lines q)
+  after-totals : (lines : List Line) → length lines ≤ mostLines → {q : Pass} → Takes (length lines) q →
+      Totals 16777216 (afterPass rigid limit lines q)
   unfolding afterPass
   after-totals lines short (takes {n = n} a b) = totals {n = n} (omega (arith, bound-grows mostLines (length lines) n short b))
   after-totals lines short (takes-failed {f} {p} {n} b) =
@@ -66,13 +70,16 @@ module _ (rigid : ℕ) (limit : Float) where
       let whole = take-append-drop (f .index) lines in
       if-all (Totals 16777216) _ (totals (omega arith))
       (relaxed-totals (failedLine f) (looser {a = 32896 + 32896 * length lines} (omega arith)
-      (rw whole at (walk-counts rigid limit 32896 (take (f .index) lines) (drop (f .index) lines) (relaxed p 0ᶠ n) (rw whole short) (counts-relaxed most)))))
+      (rw whole at (walk-counts rigid limit 32896 (take (f .index) lines) (drop (f .index) lines) (relaxed p 0ᶠ n)
+      (rw whole short) (counts-relaxed most)))))
   after-totals lines short takes-none = totals-none
 
 -- at most 2 ^ 24, so no total comes near 2 ^ 32
-pub whole-fits : (rigid : ℕ) (wish : Vec2) (limit : Float) (lines : List Line) {ph : Phase} {f : Failed} {n : ℕ} → length lines ≤ mostLines → wholeList rigid wish limit lines ≡ stands ph f n → n ≤ 16777216
+pub whole-fits : (rigid : ℕ) (wish : Vec2) (limit : Float) (lines : List Line) {ph : Phase} {f : Failed} {n : ℕ} →
+    length lines ≤ mostLines → wholeList rigid wish limit lines ≡ stands ph f n → n ≤ 16777216
 unfolding wholeList
-whole-fits rigid wish limit lines short e = counted (rw e at (after-totals rigid limit lines short (pass-takes (toward wish) limit lines)))
+whole-fits rigid wish limit lines short e =
+    counted (rw e at (after-totals rigid limit lines short (pass-takes (toward wish) limit lines)))
   where
     counted : {b : ℕ} {ph : Phase} {f : Failed} {n : ℕ} → Totals b (stands ph f n) → n ≤ b
     counted (totals h) = h

@@ -1,4 +1,5 @@
--- 01, "What is admitted" and "Refusal numbers" for a line list: the first fault in order is told. Definitions only. Assumes nothing.
+-- 01, "What is admitted" and "Refusal numbers" for a line list: the first fault in order is told. Definitions only.
+-- Assumes nothing.
 use Prim.Native.Nat.{ℕ, _%_}
 use mathlib.Core.List.{List}
 use lib.ListN.{length}

@@ -1,4 +1,5 @@
--- The rules taken up again: a list whose first lines have been worked, and left a phase and a failed line. Definitions only. Assumes nothing.
+-- The rules taken up again: a list whose first lines have been worked, and left a phase and a failed line. Definitions
+-- only. Assumes nothing.
 use Prim.Native.Nat.{ℕ, _+_}
 use mathlib.Core.List.{List}
 use lib.ListN.{take, drop}
@@ -25,7 +26,8 @@ resumed rigid wish limit lines from (rigidFailure k p) f = stands (rigidFailure 
 
 -- the first `count` of the lines, which are too many beyond 256
 unfoldable pub resumedCall : ℕ → Vec2 → Float → List Line → ℕ → ℕ → Phase → Failed → Outcome
-resumedCall rigid wish limit lines count from ph f = must (leb count mostLines) 4 ⟫ resumed rigid wish limit (take count lines) from ph f
+resumedCall rigid wish limit lines count from ph f =
+    must (leb count mostLines) 4 ⟫ resumed rigid wish limit (take count lines) from ph f
 
 -- the probes of the lines worked before
 abbrev pub addProbes : ℕ → Outcome → Outcome

@@ -78,7 +78,8 @@ pub(crate) fn resume(
     failed: FailedLine,
 ) -> Answer
     requires { ⌜ count ≤ mostLines ⌝ }
-    ensures { λ r. ⌜ outcomeOf r ≡ resumed rigid wish limit (take count (linesOf (now (lines .entry)))) from (phaseOf phase) (failedOf failed) ⌝ }
+    ensures { λ r. ⌜ outcomeOf r ≡ resumed rigid wish limit (take count (linesOf (now (lines .entry)))) from
+        (phaseOf phase) (failedOf failed) ⌝ }
 {
     match phase {
         Phase::Solving(x, y) => {

@@ -1,4 +1,5 @@
--- What computing with numbers and vectors opens, and the constants: antt computes that each bit pattern is the number that 01 gives. Assumes nothing.
+-- What computing with numbers and vectors opens, and the constants: antt computes that each bit pattern is the number
+-- that 01 gives. Assumes nothing.
 use Prim.Native.Nat.{ℕ}
 use mathlib.Core.Path.{_≡_, refl}
 use mathlib.Core.Bool.{false}
@@ -24,6 +25,7 @@ ratio a b = round binary32 false a b
 -- those of arithmetic, of vectors, and of lines
 pub constants :
     (0ᶠ ∷ 1ᶠ ∷ halfᶠ ∷ reach ∷ longest ∷ epsilon ∷ lineReach ∷ bandLow ∷ bandHigh ∷ [])
-    ≡ (ratio 0 1 ∷ ratio 1 1 ∷ ratio 1 2 ∷ ratio 65536 1 ∷ ratio 1024 1 ∷ ratio 1 100000 ∷ ratio 268435456 1 ∷ ratio 1023 1024 ∷ ratio 1025 1024 ∷ [])
+    ≡ (ratio 0 1 ∷ ratio 1 1 ∷ ratio 1 2 ∷ ratio 65536 1 ∷ ratio 1024 1 ∷ ratio 1 100000 ∷ ratio 268435456 1
+    ∷ ratio 1023 1024 ∷ ratio 1025 1024 ∷ [])
 unfolding computed
 constants = refl

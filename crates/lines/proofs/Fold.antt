@@ -52,7 +52,8 @@ fold-stays f t stays (x ∷ xs) = rw (stays x) (fold-stays f t stays xs)
 
 -- a fold over the first n elements, from the i-th on: one turn, a turn that ends it, and no turn left
 module _ {A S : Type 0} (f : S → A → S) (l : List A) (n i : ℕ) (fits : n ≤ length l) where
-  pub fold-on : (d : A) {s t : S} → i < n → f s (getD l i d) ≡ t → foldl f s (drop i (take n l)) ≡ foldl f t (drop (i + 1) (take n l))
+  pub fold-on : (d : A) {s t : S} → i < n → f s (getD l i d) ≡ t → foldl f s (drop i (take n l))
+      ≡ foldl f t (drop (i + 1) (take n l))
   fold-on d {s} {t} h e = rw (left-next l n i fits d h) (ap (λ (x : S). foldl f x (drop (i + 1) (take n l))) e)
 
   pub fold-stop : (d : A) {s t : S} → i < n → f s (getD l i d) ≡ t → ((x : A) → f t x ≡ t) → foldl f s (drop i (take n l)) ≡ t

@@ -16,7 +16,8 @@ faults-append (x ∷ xs) m = rw (faults-append xs m) (⊳-assoc (lineFault x) (l
 
 -- ---- the first n lines of a list, from the i-th on: a line that passes, one that does not, and none left
 module _ (l : List Line) (n i : ℕ) (fits : n ≤ length l) where
-  pub judged-on : (d : Line) → i < n → fine ≡ lineFault (getD l i d) → linesFault (drop i (take n l)) ≡ linesFault (drop (i + 1) (take n l))
+  pub judged-on : (d : Line) → i < n → fine ≡ lineFault (getD l i d) → linesFault (drop i (take n l))
+      ≡ linesFault (drop (i + 1) (take n l))
   unfolding linesFault
   judged-on d h e = rw (left-next l n i fits d h, ← e)
 

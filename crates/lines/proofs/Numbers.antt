@@ -37,10 +37,12 @@ module _ (b : List Float) (n : ℕ) (l : Line) (fits : 4 * n + 4 ≤ length b) w
   four = rw (length-append, front) (omega arith)
 
   pub stored-take : take (4 * (n + 1)) (sets b (4 * n) (fourOf l)) ≡ take (4 * n) b ++ fourOf l
-  stored-take = rw (sets-eq (fourOf l) b (4 * n) fits) (take-at (take (4 * n) b ++ fourOf l) (drop (4 * n + 4) b) (4 * (n + 1)) four)
+  stored-take = rw (sets-eq (fourOf l) b (4 * n) fits) (take-at (take (4 * n) b ++ fourOf l) (drop (4 * n + 4) b)
+      (4 * (n + 1)) four)
 
   pub stored-drop : drop (4 * (n + 1)) (sets b (4 * n) (fourOf l)) ≡ drop 4 (drop (4 * n) b)
-  stored-drop = rw (sets-eq (fourOf l) b (4 * n) fits) (drop-at (take (4 * n) b ++ fourOf l) (drop (4 * n + 4) b) (4 * (n + 1)) four ∙ sym (drop-drop 4 (4 * n) b))
+  stored-drop = rw (sets-eq (fourOf l) b (4 * n) fits) (drop-at (take (4 * n) b ++ fourOf l) (drop (4 * n + 4) b)
+      (4 * (n + 1)) four ∙ sym (drop-drop 4 (4 * n) b))
 
   pub stored-lines : linesOf (take (4 * (n + 1)) (sets b (4 * n) (fourOf l))) ≡ linesOf (take (4 * n) b) ++ (l ∷ [])
   unfolding linesOf

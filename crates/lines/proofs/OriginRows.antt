@@ -15,7 +15,8 @@ origins-long (x ∷ []) = refl
 origins-long (x ∷ y ∷ []) = refl
 origins-long (x ∷ y ∷ z ∷ r) = let h = origins-long r in omega arith
 
-pub three-get : (b : List ℕ) (i k : ℕ) → k ≡ 3 * i → k + 3 ≤ length b → getD (originsOf b) i unknown ≡ origin (getD b k 0) (getD b (k + 1) 0) (getD b (k + 2) 0)
+pub three-get : (b : List ℕ) (i k : ℕ) → k ≡ 3 * i → k + 3 ≤ length b → getD (originsOf b) i unknown
+    ≡ origin (getD b k 0) (getD b (k + 1) 0) (getD b (k + 2) 0)
 unfolding originsOf
 three-get [] i k e h = absurd (omega arith)
 three-get (x ∷ []) i k e h = absurd (omega arith)

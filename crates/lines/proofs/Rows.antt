@@ -66,7 +66,8 @@ four-set (w ∷ x ∷ y ∷ z ∷ r) (suc i) k p q s t e h =
     rw (f, add-one, add-two, add-three) (ap (λ ls. line (vec w x) (vec y z) ∷ ls) (rw (add-one, add-two, add-three) at ih))
 
 -- the numbers of the first n lines are those lines
-four-more : (n : ℕ) → ((r : List Float) → linesOf (take (4 * n) r) ≡ take n (linesOf r)) → (b : List Float) → linesOf (take (suc (suc (suc (suc (4 * n))))) b) ≡ take (suc n) (linesOf b)
+four-more : (n : ℕ) → ((r : List Float) → linesOf (take (4 * n) r) ≡ take n (linesOf r)) → (b : List Float) →
+    linesOf (take (suc (suc (suc (suc (4 * n))))) b) ≡ take (suc n) (linesOf b)
 unfolding linesOf
 four-more n h [] = refl
 four-more n h (w ∷ []) = refl

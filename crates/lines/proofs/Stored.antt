@@ -1,4 +1,5 @@
--- A line stored among numbers: where there is room its four numbers stand there and no other line changes; else nothing does. Assumes nothing.
+-- A line stored among numbers: where there is room its four numbers stand there and no other line changes; else nothing
+-- does. Assumes nothing.
 use Prim.Native.Nat.{ℕ, _+_, _*_, _≤_, _<_}
 use mathlib.Core.Path.{_≡_, refl}
 use mathlib.Core.List.{List, [], _∷_, _++_}
@@ -24,7 +25,8 @@ module _ (b : List Float) (i : ℕ) (l : Line) where
   stored-not h = simp (lt-leb (4 * i + 4) (length b) h)
 
   pub stored-line : 4 * i + 4 ≤ length b → linesOf (lineStored b i l) ≡ set (linesOf b) i l
-  stored-line h = rw (stored-sets h) (rw (add-one, add-two, add-three) at (four-set b i (4 * i) (l .point .x) (l .point .y) (l .direction .x) (l .direction .y) refl h))
+  stored-line h = rw (stored-sets h) (rw (add-one, add-two, add-three) at (four-set b i (4 * i) (l .point .x)
+      (l .point .y) (l .direction .x) (l .direction .y) refl h))
 
   -- behind the first i lines
   pub stored-next : 4 * i + 4 ≤ length b → take (i + 1) (linesOf (lineStored b i l)) ≡ take i (linesOf b) ++ (l ∷ [])

@@ -1,4 +1,5 @@
--- 01, "What is admitted" and "Refusal numbers" for a line and for lines: the first fault in order is told. Definitions only. Assumes nothing.
+-- 01, "What is admitted" and "Refusal numbers" for a line and for lines: the first fault in order is told. Definitions
+-- only. Assumes nothing.
 use mathlib.Core.List.{List, [], _∷_}
 use lib.Ieee.{Float}
 use Rattle.arithmetic.specs.Binary32.{bits, finite}

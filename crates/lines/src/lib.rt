@@ -1,5 +1,5 @@
-// A line, its origin, and lists of lines that are lent as numbers, four a line: the one place that reads a line, the one that stores it, and what is
-// admitted of it.
+// A line, its origin, and lists of lines that are lent as numbers, four a line: the one place that reads a line, the
+// one that stores it, and what is admitted of it.
 use admission::Judged;
 use admission::fault_unless;
 use admission::first_of;
@@ -41,8 +41,8 @@ impl Line {
     }
 }
 
-// Where a line comes from (02, T-06), in three whole numbers: its kind, then places counted from 0, an edge's obstacle and left vertex, or a neighbour's own
-// and 0. Nothing is judged of them: they are kept as they stand.
+// Where a line comes from (02, T-06), in three whole numbers: its kind, then places counted from 0, an edge's obstacle
+// and left vertex, or a neighbour's own and 0. Nothing is judged of them: they are kept as they stand.
 pub struct Origin {
     pub kind: u32,
     pub place: u32,

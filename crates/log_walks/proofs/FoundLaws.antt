@@ -46,10 +46,12 @@ module _ (s : List ℕ) (there : 0 < length s) where
   unfolding sizeIn
   sized-reply (said.outcome a) e =
       let z = outcome-size (take (sizeIn s) s) a e in
-      sized-entry {e = outcome a} {size = sizeIn s} (omega (arith, taken-size)) refl (omega (arith, taken-size, length-take (sizeIn s) s))
+      sized-entry {e = outcome a} {size = sizeIn s} (omega (arith, taken-size)) refl
+      (omega (arith, taken-size, length-take (sizeIn s) s))
   sized-reply (said.refusal n) e =
       let z = refusal-size (take (sizeIn s) s) n e in
-      sized-entry {e = refusal n} {size = sizeIn s} (omega (arith, taken-size)) refl (omega (arith, taken-size, length-take (sizeIn s) s))
+      sized-entry {e = refusal n} {size = sizeIn s} (omega (arith, taken-size)) refl
+      (omega (arith, taken-size, length-take (sizeIn s) s))
   sized-reply (said.unreadable n) e = sized-bad there
 
 pub sized : (s : List ℕ) → Sized s (foundIn s)
@@ -57,7 +59,8 @@ unfolding foundIn
 sized [] = sized-end refl
 sized (x ∷ s) = sized-reply (x ∷ s) (omega arith) (answerIn (take (sizeIn (x ∷ s)) (x ∷ s))) refl
 
-entry-of : (s : List ℕ) (f : Found) → Sized s f → (e : Entry) (size : ℕ) → f ≡ entry e size → (size ≡ sizeOf e) × (size ≡ sizeIn s) × (size ≤ length s)
+entry-of : (s : List ℕ) (f : Found) → Sized s f → (e : Entry) (size : ℕ) → f ≡ entry e size →
+    (size ≡ sizeOf e) × (size ≡ sizeIn s) × (size ≤ length s)
 entry-of s ended t e size p = absurd (let z : _≡_ {A = ℕ} 0 1 = cc in omega arith)
 entry-of s (bad r) t e size p = absurd (let z : _≡_ {A = ℕ} 0 1 = cc in omega arith)
 entry-of s (entry e′ size′) (sized-entry a b c) e size p =
@@ -66,7 +69,8 @@ entry-of s (entry e′ size′) (sized-entry a b c) e size p =
     (rw (← f, ← g) a, rw (← g) b, rw (← g) c)
 
 -- a record that was found has its size, which it names, and lies within the bytes
-pub entry-found : (s : List ℕ) (e : Entry) (size : ℕ) → foundIn s ≡ entry e size → (size ≡ sizeOf e) × (size ≡ sizeIn s) × (size ≤ length s)
+pub entry-found : (s : List ℕ) (e : Entry) (size : ℕ) → foundIn s ≡ entry e size → (size ≡ sizeOf e) × (size ≡ sizeIn s)
+    × (size ≤ length s)
 entry-found s e size p = entry-of s (foundIn s) (sized s) e size p
 
 pub size-within : (e : Entry) → (4 ≤ sizeOf e) × (sizeOf e ≤ longestAnswer)
@@ -159,7 +163,9 @@ behind-alike n k s t h f a =
     let all : take (n + (k - n)) s ≡ take (n + (k - n)) t = rw whole (a .bytes) in
     let there : n ≤ length t = omega (arith, ap length (a .bytes), length-take k s, length-take k t) in
     record {
-      bytes = sym (drop-at (take n s) (take (k - n) (drop n s)) n (length-take-le n s h)) ∙ ap (drop n) (sym (take-add n (k - n) s) ∙ all ∙ take-add n (k - n) t) ∙ drop-at (take n t) (take (k - n) (drop n t)) n (length-take-le n t there);
+      bytes = sym (drop-at (take n s) (take (k - n) (drop n s)) n (length-take-le n s h))
+          ∙ ap (drop n) (sym (take-add n (k - n) s) ∙ all ∙ take-add n (k - n) t)
+          ∙ drop-at (take n t) (take (k - n) (drop n t)) n (length-take-le n t there);
       ends = λ e. let m : length t ≤ k = a .ends (omega (arith, length-drop n s, e)) in omega (arith, length-drop n t);
     }
 

@@ -49,20 +49,24 @@ none-from left place (x ∷ s) h = absurd (omega arith)
 
 -- ---- a limit that is no smaller than the bytes does not matter, nor does the place
 
-module _ (s : List ℕ) (one two : ℕ → Wholes) (same : (size : ℕ) → 4 ≤ size → size ≤ length s → unplaced (one size) ≡ unplaced (two size)) where
+module _ (s : List ℕ) (one two : ℕ → Wholes) (same : (size : ℕ) → 4 ≤ size → size ≤ length s → unplaced (one size)
+    ≡ unplaced (two size)) where
   onward-enough : (p q : ℕ) (f : Found) → foundWhole s ≡ f → unplaced (onwardWhole p one f) ≡ unplaced (onwardWhole q two f)
   onward-enough p q ended h = refl
   onward-enough p q (bad n) h = refl
   onward-enough p q (entry e size) h =
       let z = whole-entry s e size h in
-      unplaced-ahead e size (one size) ∙ ap (aheadWhole e size) (same size (omega (arith, z, size-within e)) (z .1)) ∙ sym (unplaced-ahead e size (two size))
+      unplaced-ahead e size (one size) ∙ ap (aheadWhole e size) (same size (omega (arith, z, size-within e)) (z .1))
+      ∙ sym (unplaced-ahead e size (two size))
 
 pub enough : (a b p q : ℕ) (s : List ℕ) → length s ≤ a → length s ≤ b → unplaced (wholesFrom a p s) ≡ unplaced (wholesFrom b q s)
 unfolding wholesFrom
 enough zero b p q s h k = ap unplaced (none-from zero p s (omega arith) ∙ sym (none-from b q s (omega arith)))
-enough (suc a) b p q s h k = go (λ size l m. enough a (b - 1) (p + 1) (q + 1) (drop size s) (omega (arith, length-drop size s)) (omega (arith, length-drop size s))) (ℕ-discrete (length s) 0)
+enough (suc a) b p q s h k = go (λ size l m. enough a (b - 1) (p + 1) (q + 1) (drop size s)
+    (omega (arith, length-drop size s)) (omega (arith, length-drop size s))) (ℕ-discrete (length s) 0)
   where
-    go : ((size : ℕ) → 4 ≤ size → size ≤ length s → unplaced (wholesFrom a (p + 1) (drop size s)) ≡ unplaced (wholesFrom (b - 1) (q + 1) (drop size s))) →
+    go : ((size : ℕ) → 4 ≤ size → size ≤ length s → unplaced (wholesFrom a (p + 1) (drop size s))
+        ≡ unplaced (wholesFrom (b - 1) (q + 1) (drop size s))) →
         Dec (length s ≡ 0) → unplaced (wholesFrom (suc a) p s) ≡ unplaced (wholesFrom b q s)
     go rest (yes z) = ap unplaced (none-from (suc a) p s z ∙ sym (none-from b q s z))
     go rest (no z) =
@@ -70,7 +74,8 @@ enough (suc a) b p q s h k = go (λ size l m. enough a (b - 1) (p + 1) (q + 1) (
         onward-enough s _ _ rest p q (foundWhole s) refl ∙ ap (λ (n : ℕ). unplaced (wholesFrom n q s)) e
 
 -- the records by the first of them
-module _ (s : List ℕ) (one : ℕ → Wholes) (same : (size : ℕ) → 4 ≤ size → size ≤ length s → unplaced (one size) ≡ wholesOf (drop size s)) where
+module _ (s : List ℕ) (one : ℕ → Wholes) (same : (size : ℕ) → 4 ≤ size → size ≤ length s → unplaced (one size)
+    ≡ wholesOf (drop size s)) where
   first-by : (f : Found) → foundWhole s ≡ f → unplaced (onwardWhole 0 one f) ≡ onwardWhole 0 (λ size. wholesOf (drop size s)) f
   first-by ended h = refl
   first-by (bad n) h = refl
@@ -82,7 +87,8 @@ pub first-whole : (s : List ℕ) → wholesOf s ≡ onwardWhole 0 (λ size. whol
 unfolding wholesOf wholesFrom
 first-whole [] = rw none-found
 first-whole (x ∷ s) =
-    first-by (x ∷ s) _ (λ size l m. enough (length s) (length (drop size (x ∷ s))) 1 0 (drop size (x ∷ s)) (omega (arith, length-drop size (x ∷ s))) (omega arith))
+    first-by (x ∷ s) _ (λ size l m. enough (length s) (length (drop size (x ∷ s))) 1 0 (drop size (x ∷ s))
+    (omega (arith, length-drop size (x ∷ s))) (omega arith))
     (foundWhole (x ∷ s)) refl
 
 -- ---- a record of a part that is passed
@@ -95,7 +101,8 @@ pub record Passes (part : List ℕ) (at behind more : ℕ) : Type 0 where
   pub walks : wholesOf (drop at part) ≡ aheadWhole one (behind - at) (wholesOf (drop behind part))
 
 module _ (part : List ℕ) (at : ℕ) where
-  by-found : {f : Found} → foundWhole (drop at part) ≡ f → wholesOf (drop at part) ≡ onwardWhole 0 (λ size. wholesOf (drop size (drop at part))) f
+  by-found : {f : Found} → foundWhole (drop at part) ≡ f → wholesOf (drop at part)
+      ≡ onwardWhole 0 (λ size. wholesOf (drop size (drop at part))) f
   by-found e = first-whole (drop at part) ∙ ap (onwardWhole 0 (λ size. wholesOf (drop size (drop at part)))) e
 
   pub part-passed : (behind m : ℕ) → passed.Record behind m ≡ passedBy (wholeAt part at) → Passes part at behind m
@@ -134,10 +141,14 @@ data MeasuredBy (s : List ℕ) : Wholes → Type 0 where
   measured : {l : List Entry} {used : ℕ} → Measured s l used → MeasuredBy s (reached l used)
   none-measured : {n place : ℕ} → MeasuredBy s (stopped n place)
 
-measured-ahead : (s : List ℕ) (e : Entry) (size : ℕ) → size ≡ sizeOf e → (w : Wholes) → MeasuredBy (drop size s) w → MeasuredBy s (aheadWhole e size w)
+measured-ahead : (s : List ℕ) (e : Entry) (size : ℕ) → size ≡ sizeOf e → (w : Wholes) → MeasuredBy (drop size s) w →
+    MeasuredBy s (aheadWhole e size w)
 unfolding sizes
 measured-ahead s e size h (reached l used) (measured m) =
-    measured {l = e ∷ l} {used = size + used} (record { bytes = omega (arith, m .bytes); behind = ap foundWhole (sym (drop-drop used size s)) ∙ m .behind })
+    measured {l = e ∷ l} {used = size + used} (record {
+      bytes = omega (arith, m .bytes);
+      behind = ap foundWhole (sym (drop-drop used size s)) ∙ m .behind;
+    })
 measured-ahead s e size h (stopped n place) none-measured = none-measured
 
 module _ (s : List ℕ) (place : ℕ) (more : ℕ → Wholes) (rest : (size : ℕ) → MeasuredBy (drop size s) (more size)) where
@@ -151,7 +162,8 @@ measured-from : (left place : ℕ) (s : List ℕ) → MeasuredBy s (wholesFrom l
 unfolding wholesFrom sizes
 measured-from zero place [] = measured {l = []} {used = 0} (record { bytes = refl; behind = none-found })
 measured-from zero place (x ∷ s) = none-measured
-measured-from (suc left) place s = measured-by s place _ (λ size. measured-from left (place + 1) (drop size s)) (foundWhole s) refl
+measured-from (suc left) place s =
+    measured-by s place _ (λ size. measured-from left (place + 1) (drop size s)) (foundWhole s) refl
 
 measured-of : {s : List ℕ} {l : List Entry} {used : ℕ} → MeasuredBy s (reached l used) → Measured s l used
 measured-of (measured m) = m
@@ -189,15 +201,18 @@ tellsPart good refuse n (reached l used) = if ltb used n then refuse 2 else good
 tellsPart good refuse n (stopped r place) = refuse r
 
 module _ {C : Type 0} (refuse : ℕ → C) where
-  tells-ahead : (good : List Entry → C) (e : Entry) (q : Records) → tells good refuse (ahead e q) ≡ tells (λ m. good (e ∷ m)) refuse q
+  tells-ahead : (good : List Entry → C) (e : Entry) (q : Records) → tells good refuse (ahead e q)
+      ≡ tells (λ m. good (e ∷ m)) refuse q
   tells-ahead good e (whole m) = refl
   tells-ahead good e (refusedAt n place) = refl
 
-  tells-all : (good : List Entry → C) (l : List Entry) (q : Records) → tells good refuse (aheadAll l q) ≡ tells (λ m. good (l ++ m)) refuse q
+  tells-all : (good : List Entry → C) (l : List Entry) (q : Records) → tells good refuse (aheadAll l q)
+      ≡ tells (λ m. good (l ++ m)) refuse q
   tells-all good [] q = refl
   tells-all good (e ∷ l) q = tells-ahead good e (aheadAll l q) ∙ tells-all (λ m. good (e ∷ m)) l q
 
-  pub tells-same : (one two : List Entry → C) → ((m : List Entry) → one m ≡ two m) → (q : Records) → tells one refuse q ≡ tells two refuse q
+  pub tells-same : (one two : List Entry → C) → ((m : List Entry) → one m ≡ two m) → (q : Records) →
+      tells one refuse q ≡ tells two refuse q
   tells-same one two same (whole m) = same m
   tells-same one two same (refusedAt n place) = refl
 
@@ -207,11 +222,13 @@ module _ {C : Type 0} (refuse : ℕ → C) where
     closing-tells n place (stopped r p) = refl
     closing-tells n place (reached l used) = go (ltb used n)
       where
-        go : (b : Bool) → tells good refuse (aheadAll l (if b then refusedAt 2 (place + length l) else whole [])) ≡ (if b then refuse 2 else good l)
+        go : (b : Bool) → tells good refuse (aheadAll l (if b then refusedAt 2 (place + length l) else whole []))
+            ≡ (if b then refuse 2 else good l)
         go true = tells-all good l (refusedAt 2 (place + length l))
         go false = tells-all good l (whole []) ∙ ap good (append-nil l)
 
-    tells-from : (left place : ℕ) (s : List ℕ) → length s ≤ left → tells good refuse (recordsFrom left place s) ≡ tellsPart good refuse (length s) (wholesOf s)
+    tells-from : (left place : ℕ) (s : List ℕ) → length s ≤ left → tells good refuse (recordsFrom left place s)
+        ≡ tellsPart good refuse (length s) (wholesOf s)
     unfolding wholesOf
     tells-from left place s h =
         ap (tells good refuse) (closed left place s) ∙ closing-tells (length s) place (wholesFrom left place s)
@@ -221,7 +238,8 @@ module _ {C : Type 0} (refuse : ℕ → C) where
     unfolding recordsOf recordsIn
     tells-wholes s = tells-from (length s) 0 s (omega arith)
 
-  limit-free : (good : List Entry → C) (left place : ℕ) (s : List ℕ) → length s ≤ left → tells good refuse (recordsFrom left place s) ≡ tells good refuse (recordsOf s)
+  limit-free : (good : List Entry → C) (left place : ℕ) (s : List ℕ) → length s ≤ left →
+      tells good refuse (recordsFrom left place s) ≡ tells good refuse (recordsOf s)
   limit-free good left place s h = tells-from good left place s h ∙ sym (tells-wholes good s)
 
   -- ---- however a log is cut
@@ -239,13 +257,24 @@ module _ {C : Type 0} (refuse : ℕ → C) where
     same-wholes = enough all (length s) 0 0 s (omega (arith, length-append s more)) (omega arith)
 
     -- the records of a part, then those of what it leaves with more behind it
-    pub cut-tells : {l : List Entry} {used : ℕ} → wholesOf s ≡ reached l used → tells good refuse (recordsOf (s ++ more)) ≡ tells (λ m. good (l ++ m)) refuse (recordsOf (drop used s ++ more))
+    pub cut-tells : {l : List Entry} {used : ℕ} → wholesOf s ≡ reached l used →
+        tells good refuse (recordsOf (s ++ more)) ≡ tells (λ m. good (l ++ m)) refuse (recordsOf (drop used s ++ more))
     cut-tells {l} {used} e =
         let m = measures s e in
         let rest = drop used s ++ more in
-        let short : length rest ≤ all - length l = omega (arith, length-append (drop used s) more, length-append s more, length-drop used s, m .bytes, few l, few-behind s e .0) in
+        let short : length rest ≤ all - length l =
+        omega (
+          arith,
+          length-append (drop used s) more,
+          length-append s more,
+          length-drop used s,
+          m .bytes,
+          few l,
+          few-behind s e .0,
+        ) in
         joined ∙ ap (λ (w : Wholes). tells good refuse (joinedTo all 0 s more w)) (placed (wholesFrom all 0 s) (same-wholes ∙ e))
-        ∙ tells-all good l (recordsFrom (all - length l) (0 + length l) rest) ∙ limit-free (λ m. good (l ++ m)) (all - length l) (0 + length l) rest short
+        ∙ tells-all good l (recordsFrom (all - length l) (0 + length l) rest)
+        ∙ limit-free (λ m. good (l ++ m)) (all - length l) (0 + length l) rest short
 
     stopped-tells : (w : Wholes) {r : ℕ} → unplaced w ≡ stopped r 0 → tells good refuse (joinedTo all 0 s more w) ≡ refuse r
     stopped-tells (reached l used) e = absurd (let z : _≡_ {A = ℕ} 0 1 = cc in omega arith)

@@ -20,7 +20,8 @@ use Rattle.log_walks.proofs.WalkLaws.{one-fallback}
 -- the bytes are these records, one behind the other
 pub data Splits : List ℕ → List Entry → Type 0 where
   none : Splits [] []
-  next : {s : List ℕ} {e : Entry} {l : List Entry} → foundIn s ≡ entry e (sizeOf e) → sizeOf e ≤ length s → Splits (drop (sizeOf e) s) l → Splits s (e ∷ l)
+  next : {s : List ℕ} {e : Entry} {l : List Entry} → foundIn s ≡ entry e (sizeOf e) → sizeOf e ≤ length s →
+      Splits (drop (sizeOf e) s) l → Splits s (e ∷ l)
 
 pub first-found : {s : List ℕ} {e : Entry} {l : List Entry} → Splits s (e ∷ l) → foundIn s ≡ entry e (sizeOf e)
 first-found (next p k t) = p
@@ -28,7 +29,8 @@ first-found (next p k t) = p
 -- ---- the list of records
 
 -- a record in front of others
-ahead-whole : {C : Type 0} (e : Entry) (q : Records) {l : List Entry} → ahead e q ≡ whole l → ((t : List Entry) → q ≡ whole t → e ∷ t ≡ l → C) → C
+ahead-whole : {C : Type 0} (e : Entry) (q : Records) {l : List Entry} → ahead e q ≡ whole l →
+    ((t : List Entry) → q ≡ whole t → e ∷ t ≡ l → C) → C
 ahead-whole e (whole t) p go = go t refl cc
 ahead-whole e (refusedAt n place) p go = absurd (let z : _≡_ {A = ℕ} 0 1 = cc in omega arith)
 
@@ -36,7 +38,8 @@ no-records : (s : List ℕ) (l : List Entry) → length s ≡ 0 → whole [] ≡
 no-records [] l h e = let f : [] ≡ l = cc in rw (← f) none
 no-records (x ∷ s) l h e = absurd (omega arith)
 
-module _ (place : ℕ) (s : List ℕ) (more : ℕ → Records) (rest : (size : ℕ) (l : List Entry) → more size ≡ whole l → Splits (drop size s) l) where
+module _ (place : ℕ) (s : List ℕ) (more : ℕ → Records) (rest : (size : ℕ) (l : List Entry) → more size ≡ whole l →
+    Splits (drop size s) l) where
   first-of : (f : Found) → foundIn s ≡ f → Sized s f → (l : List Entry) → onward place more f ≡ whole l → Splits s l
   first-of ended p (sized-end h) l e = no-records s l h e
   first-of (bad n) p h l e = absurd (let z : _≡_ {A = ℕ} 0 1 = cc in omega arith)
@@ -49,7 +52,8 @@ splits-from : (left place : ℕ) (s : List ℕ) (l : List Entry) → recordsFrom
 unfolding recordsFrom
 splits-from zero place [] l e = no-records [] l refl e
 splits-from zero place (x ∷ s) l e = absurd (let z : _≡_ {A = ℕ} 0 1 = cc in omega arith)
-splits-from (suc left) place s l e = first-of place s _ (λ size t f. splits-from left (place + 1) (drop size s) t f) (foundIn s) refl (sized s) l e
+splits-from (suc left) place s l e =
+    first-of place s _ (λ size t f. splits-from left (place + 1) (drop size s) t f) (foundIn s) refl (sized s) l e
 
 pub splits : (s : List ℕ) (l : List Entry) → recordsOf s ≡ whole l → Splits s l
 unfolding recordsOf recordsIn
@@ -82,14 +86,17 @@ unfolding recordsOf recordsIn
 records-there {s} {l} t = recorded (length s) 0 t (omega (arith, few l, all-bytes t))
 
 -- n records on
-pub splits-behind : (n : ℕ) {s : List ℕ} {l : List Entry} → Splits s l → n ≤ length l → Splits (drop (sizes (take n l)) s) (drop n l)
+pub splits-behind : (n : ℕ) {s : List ℕ} {l : List Entry} → Splits s l → n ≤ length l →
+    Splits (drop (sizes (take n l)) s) (drop n l)
 unfolding sizes
 splits-behind zero t h = t
 splits-behind (suc n) none h = absurd (omega arith)
-splits-behind (suc n) (next {s} {e} {l} p k t) h = rw (← drop-drop (sizes (take n l)) (sizeOf e) s) (splits-behind n t (omega arith))
+splits-behind (suc n) (next {s} {e} {l} p k t) h =
+    rw (← drop-drop (sizes (take n l)) (sizeOf e) s) (splits-behind n t (omega arith))
 
 -- a walk meets the records one by one
-pub walked-whole : (n : ℕ) {s : List ℕ} {l : List Entry} → Splits s l → n ≤ length l → walked n s ≡ met.Count (fallbacks (take n l))
+pub walked-whole : (n : ℕ) {s : List ℕ} {l : List Entry} → Splits s l → n ≤ length l →
+    walked n s ≡ met.Count (fallbacks (take n l))
 unfolding walked fallbacks
 walked-whole zero t h = refl
 walked-whole (suc n) none h = absurd (omega arith)
@@ -121,15 +128,18 @@ fallbacks-few (e ∷ l) = omega (arith, fallbacks-few l, one-fallback e, size-wi
 
 -- ---- two logs, one behind the other
 
-found-stays : (s u : List ℕ) (e : Entry) → foundIn s ≡ entry e (sizeOf e) → sizeOf e ≤ length s → foundIn (s ++ u) ≡ entry e (sizeOf e)
+found-stays : (s u : List ℕ) (e : Entry) → foundIn s ≡ entry e (sizeOf e) → sizeOf e ≤ length s →
+    foundIn (s ++ u) ≡ entry e (sizeOf e)
 found-stays s u e p h =
     let z = entry-found s e (sizeOf e) p in
     sym (same-start (sizeOf e) s (s ++ u) (sym (take-append-le (sizeOf e) s u h)) h (omega arith)) ∙ p
 
-pub splits-append : {s : List ℕ} {l : List Entry} {u : List ℕ} {m : List Entry} → Splits s l → Splits u m → Splits (s ++ u) (l ++ m)
+pub splits-append : {s : List ℕ} {l : List Entry} {u : List ℕ} {m : List Entry} → Splits s l → Splits u m →
+    Splits (s ++ u) (l ++ m)
 splits-append none v = v
 splits-append {u = u} {m = m} (next {s} {e} {l} p k t) v =
-    next {l = l ++ m} (found-stays s u e p k) (omega (arith, length-append s u)) (rw (drop-append-le (sizeOf e) s u k) (splits-append t v))
+    next {l = l ++ m} (found-stays s u e p k) (omega (arith, length-append s u))
+    (rw (drop-append-le (sizeOf e) s u k) (splits-append t v))
 
 -- ---- bytes that are one record
 

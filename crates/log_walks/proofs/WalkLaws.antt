@@ -19,7 +19,8 @@ use Rattle.log_walks.proofs.FoundLaws.{Sized, sized-end, sized, entry-f
 
 -- ---- what a walk rests on
 
-module _ (n k : ℕ) (s t : List ℕ) (a : Alike k s t) (next : (j : ℕ) (u v : List ℕ) → Alike j u v → reach n u ≤ j → walked n u ≡ walked n v) where
+module _ (n k : ℕ) (s t : List ℕ) (a : Alike k s t) (next : (j : ℕ) (u v : List ℕ) → Alike j u v → reach n u ≤ j →
+    walked n u ≡ walked n v) where
   onward-alike : (f : Found) → foundIn s ≡ f → Sized s f → reachBy (ownBytes s) (λ size. reach n (drop size s)) f ≤ k →
       onward (λ size. walked n (drop size s)) f ≡ walked (suc n) t
   unfolding walked
@@ -29,7 +30,8 @@ module _ (n k : ℕ) (s t : List ℕ) (a : Alike k s t) (next : (j : ℕ) (u v :
       let own = own-entry s x size e in
       let z = entry-found s x size e in
       let f = sym (found-alike k s t a (omega arith)) ∙ e in
-      rw f (ap (more (fallback x)) (next (k - size) (drop size s) (drop size t) (behind-alike size k s t (z .2) (omega arith) a) (omega arith)))
+      rw f (ap (more (fallback x)) (next (k - size) (drop size s) (drop size t)
+      (behind-alike size k s t (z .2) (omega arith) a) (omega arith)))
 
 -- bytes behind those that it reaches do not change it
 pub walked-alike : (n k : ℕ) (s t : List ℕ) → Alike k s t → reach n s ≤ k → walked n s ≡ walked n t
@@ -37,7 +39,8 @@ unfolding walked reach
 walked-alike zero k s t a h = refl
 walked-alike (suc n) k s t a h = onward-alike n k s t a (walked-alike n) (foundIn s) refl (sized s) h
 
-reach-by : (n : ℕ) (s : List ℕ) → ((u : List ℕ) → reach n u ≤ longestAnswer * n) → (f : Found) → reachBy (ownBytes s) (λ size. reach n (drop size s)) f ≤ longestAnswer * suc n
+reach-by : (n : ℕ) (s : List ℕ) → ((u : List ℕ) → reach n u ≤ longestAnswer * n) → (f : Found) →
+    reachBy (ownBytes s) (λ size. reach n (drop size s)) f ≤ longestAnswer * suc n
 reach-by n s next ended = omega arith
 reach-by n s next (bad r) = omega (arith, own-most s)
 reach-by n s next (entry e size) = omega (arith, own-most s, next (drop size s))
@@ -52,7 +55,10 @@ reach-most (suc n) s = reach-by n s (reach-most n) (foundIn s)
 pub stretch-walked : (n : ℕ) (s : List ℕ) → walked n (take (longestAnswer * n) s) ≡ walked n s
 stretch-walked n s =
     let k = longestAnswer * n in
-    sym (walked-alike n k s (take k s) (record { bytes = sym (take-take k k s (omega arith)); ends = λ h. rw length-take (omega arith) }) (reach-most n s))
+    sym (walked-alike n k s (take k s) (record {
+      bytes = sym (take-take k k s (omega arith));
+      ends = λ h. rw length-take (omega arith);
+    }) (reach-most n s))
 
 -- ---- a record that is passed
 
@@ -170,10 +176,12 @@ more-found : {C : Type 0} (k m : ℕ) (f : Met) → more k f ≡ met.Count m →
 more-found k m (met.Count j) e go = go j refl cc
 more-found k m (met.Fault r) e go = absurd (let z : _≡_ {A = ℕ} 0 1 = cc in omega arith)
 
-onward-few : (n : ℕ) (next : ℕ → Met) → ((size j : ℕ) → next size ≡ met.Count j → j ≤ n) → (f : Found) (m : ℕ) → onward next f ≡ met.Count m → m ≤ suc n
+onward-few : (n : ℕ) (next : ℕ → Met) → ((size j : ℕ) → next size ≡ met.Count j → j ≤ n) → (f : Found) (m : ℕ) →
+    onward next f ≡ met.Count m → m ≤ suc n
 onward-few n next few ended m e = absurd (let z : _≡_ {A = ℕ} 0 1 = cc in omega arith)
 onward-few n next few (bad r) m e = absurd (let z : _≡_ {A = ℕ} 0 1 = cc in omega arith)
-onward-few n next few (entry x size) m e = more-found (fallback x) m (next size) e λ j p q. omega (arith, few size j p, one-fallback x)
+onward-few n next few (entry x size) m e =
+    more-found (fallback x) m (next size) e λ j p q. omega (arith, few size j p, one-fallback x)
 
 pub walked-few : (n : ℕ) (s : List ℕ) (m : ℕ) → walked n s ≡ met.Count m → m ≤ n
 unfolding walked

@@ -1,5 +1,5 @@
--- The records of a log and of a part of one, with no limit: each has a byte at least, so that as many as there are bytes are never
--- too few (02, T-10). Definitions only. Assumes nothing.
+-- The records of a log and of a part of one, with no limit: each has a byte at least, so that as many as there are
+-- bytes are never too few (02, T-10). Definitions only. Assumes nothing.
 use mathlib.Core.Bool.{Bool, true, false}
 use mathlib.Core.List.{List}
 use Prim.Native.Nat.{ℕ}

@@ -1,4 +1,5 @@
--- A walk over some records from the start of the bytes, and how many bytes it rests on (02, T-10). Definitions only. Assumes nothing.
+-- A walk over some records from the start of the bytes, and how many bytes it rests on (02, T-10). Definitions only.
+-- Assumes nothing.
 use Prim.Native.Nat.{ℕ, zero, suc, _+_}
 use mathlib.Core.List.{List}
 use lib.Dec.{leb}

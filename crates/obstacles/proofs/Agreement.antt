@@ -11,5 +11,6 @@ admitted-back (admitted-line.Kept l) = refl
 admitted-back admitted-line.Nothing = refl
 admitted-back (admitted-line.Refused r) = refl
 
-pub admitted-agree : {one other : AdmittedLine} {promised : Admitted} → admittedOf one ≡ promised → admittedOf other ≡ promised → one ≡ other
+pub admitted-agree : {one other : AdmittedLine} {promised : Admitted} → admittedOf one ≡ promised →
+    admittedOf other ≡ promised → one ≡ other
 admitted-agree = agree-read admittedOf admittedAs admitted-back

@@ -10,7 +10,8 @@ use Rattle.obstacles.specs.Doubled.{doubled, follows, lastOf, closes}
 use Rattle.obstacles.specs.Obstacles.{admitted, addEdge, linesUpTo, edgeCount, endsOf, obstacleLines, obstacleCall}
 
 unfoldable pub faultsComputed : Unit {0}
-unfolding within inside vectorFault agentFault isKind roomFor isEmptyOpen headFault numberFault componentsFault eqOf doubled follows vertexFault verticesFault
+unfolding within inside vectorFault agentFault isKind roomFor isEmptyOpen headFault numberFault componentsFault eqOf
+    doubled follows vertexFault verticesFault
     verticesOf lastOf closes outlineFault obstacleFault
 faultsComputed = tt
 

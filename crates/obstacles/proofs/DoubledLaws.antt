@@ -25,7 +25,8 @@ closes-none kind n [] e h = refl
 closes-none kind n (v ∷ vs) e h = absurd (omega arith)
 
 -- the last of n vertices and the first
-pub closes-pair : (kind n : ℕ) (vs : List Vec2) → length vs ≡ n → 0 < n → closes kind vs ≡ (eqb kind openKind || not (doubled (vertexAt vs (n - 1)) (vertexAt vs 0)))
+pub closes-pair : (kind n : ℕ) (vs : List Vec2) → length vs ≡ n → 0 < n →
+    closes kind vs ≡ (eqb kind openKind || not (doubled (vertexAt vs (n - 1)) (vertexAt vs 0)))
 unfolding closes
 closes-pair kind n [] e h = absurd (omega arith)
 closes-pair kind n (v ∷ vs) e h =

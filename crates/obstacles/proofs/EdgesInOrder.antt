@@ -1,5 +1,5 @@
--- The edges in order: one edge more, a refusal that stays; every answer refuses with 9 or has few lines, all admitted; and the lines are those of the edges
--- that are told beside them. Assumes nothing.
+-- The edges in order: one edge more, a refusal that stays; every answer refuses with 9 or has few lines, all admitted;
+-- and the lines are those of the edges that are told beside them. Assumes nothing.
 use Prim.Native.Nat.{ℕ, zero, suc, _+_, _-_, _/_, _≤_, _<_}
 use mathlib.Core.Path.{_≡_, refl, ap}
 use mathlib.Core.List.{List, [], _∷_, _++_, append-nil}
@@ -29,7 +29,8 @@ pub data FewAdmitted (n : ℕ) : Answer → Type 0 where
   refuses : {r : ℕ} → r ≡ 9 → FewAdmitted n (refused r)
   few-admitted : {ls : List Line} → length ls ≤ n → linesFault ls ≡ fine → FewAdmitted n (lines ls)
 
-behind-few-admitted : (n : ℕ) (ls : List Line) (e : EdgeLine) → length ls ≤ n → linesFault ls ≡ fine → FewAdmitted (suc n) (behind ls (admitted e))
+behind-few-admitted : (n : ℕ) (ls : List Line) (e : EdgeLine) → length ls ≤ n → linesFault ls ≡ fine →
+    FewAdmitted (suc n) (behind ls (admitted e))
 unfolding admitted linesFault
 behind-few-admitted n ls nothing few all = few-admitted {ls = ls} (omega arith) all
 behind-few-admitted n ls (made l) few all =
@@ -56,11 +57,13 @@ module _ (agent : Agent) (kind n : ℕ) (vs : List Vec2) (margin horizon : Float
   edge i ls = admitted (lineForEdge agent (edgeAt kind n vs i) margin horizon ls)
 
   -- an edge's line that is asked for alone is its line
-  pub alone-edge : (xs : List Float) (i : ℕ) (ls : List Line) → length xs / 2 ≡ n → verticesOf xs ≡ vs → i < edgeCount kind n → lineAlone agent kind xs i margin horizon ls ≡ edge i ls
+  pub alone-edge : (xs : List Float) (i : ℕ) (ls : List Line) → length xs / 2 ≡ n → verticesOf xs ≡ vs →
+      i < edgeCount kind n → lineAlone agent kind xs i margin horizon ls ≡ edge i ls
   unfolding lineAlone if_then_else_
   alone-edge xs i ls e f h = rw (e, f, lt-ltb i (edgeCount kind n) h)
 
-  pub add-kept : (i : ℕ) (ls : List Line) (l : Line) → upTo i ≡ lines ls → kept l ≡ edge i ls → upTo (i + 1) ≡ lines (ls ++ (l ∷ []))
+  pub add-kept : (i : ℕ) (ls : List Line) (l : Line) → upTo i ≡ lines ls → kept l ≡ edge i ls →
+      upTo (i + 1) ≡ lines (ls ++ (l ∷ []))
   unfolding linesUpTo addEdge
   add-kept i ls l e h = rw (add-one, e, ← h)
 
@@ -74,7 +77,8 @@ module _ (agent : Agent) (kind n : ℕ) (vs : List Vec2) (margin horizon : Float
   stays r (suc d) k e = rw (suc-add, stays r d k e)
 
   -- a line that is not admitted refuses the whole obstacle
-  pub add-refused : (i m : ℕ) (ls : List Line) (r : ℕ) → upTo i ≡ lines ls → notAdmitted r ≡ edge i ls → i + 1 ≤ m → upTo m ≡ refused r
+  pub add-refused : (i m : ℕ) (ls : List Line) (r : ℕ) → upTo i ≡ lines ls → notAdmitted r ≡ edge i ls → i + 1 ≤ m →
+      upTo m ≡ refused r
   unfolding linesUpTo addEdge
   add-refused i m ls r e h k =
       let now : upTo (i + 1) ≡ refused r = rw (add-one, e, ← h) in
@@ -84,7 +88,8 @@ module _ (agent : Agent) (kind n : ℕ) (vs : List Vec2) (margin horizon : Float
   edge-few-admitted : (k : ℕ) (a : Answer) → FewAdmitted k a → FewAdmitted (suc k) (addEdge agent kind n vs margin horizon a k)
   unfolding addEdge
   edge-few-admitted k (refused r) (refuses e) = refuses e
-  edge-few-admitted k (lines ls) (few-admitted few all) = behind-few-admitted k ls (lineForEdge agent (edgeAt kind n vs k) margin horizon ls) few all
+  edge-few-admitted k (lines ls) (few-admitted few all) =
+      behind-few-admitted k ls (lineForEdge agent (edgeAt kind n vs k) margin horizon ls) few all
 
   up-to-few-admitted : (k : ℕ) → FewAdmitted k (upTo k)
   unfolding linesUpTo linesFault
@@ -101,7 +106,8 @@ module _ (agent : Agent) (kind n : ℕ) (vs : List Vec2) (margin horizon : Float
   abbrev madeUpTo : ℕ → List ℕ
   madeUpTo = makersUpTo agent kind n vs margin horizon
 
-  pub maker-kept : (i : ℕ) (ls : List Line) (l : Line) → upTo i ≡ lines ls → kept l ≡ edge i ls → madeUpTo (i + 1) ≡ madeUpTo i ++ (i ∷ [])
+  pub maker-kept : (i : ℕ) (ls : List Line) (l : Line) → upTo i ≡ lines ls → kept l ≡ edge i ls →
+      madeUpTo (i + 1) ≡ madeUpTo i ++ (i ∷ [])
   unfolding makersUpTo
   maker-kept i ls l e h = rw (add-one, e, ← h)
 
@@ -112,18 +118,21 @@ module _ (agent : Agent) (kind n : ℕ) (vs : List Vec2) (margin horizon : Float
   -- each line, behind those before it, is that of the edge told beside it
   pub data MadeBy : List Line → List ℕ → Type 0 where
     none-made : MadeBy [] []
-    one-made : {ls : List Line} {es : List ℕ} {l : Line} (i : ℕ) → MadeBy ls es → kept l ≡ edge i ls → MadeBy (ls ++ (l ∷ [])) (es ++ (i ∷ []))
+    one-made : {ls : List Line} {es : List ℕ} {l : Line} (i : ℕ) → MadeBy ls es → kept l ≡ edge i ls →
+        MadeBy (ls ++ (l ∷ [])) (es ++ (i ∷ []))
 
   data AnswerMade : Answer → List ℕ → Type 0 where
     refused-made : {r : ℕ} {es : List ℕ} → AnswerMade (refused r) es
     lines-made : {ls : List Line} {es : List ℕ} → MadeBy ls es → AnswerMade (lines ls) es
 
-  edge-made : (k : ℕ) (ls : List Line) (es : List ℕ) (a : Admitted) → a ≡ edge k ls → MadeBy ls es → AnswerMade (behind ls a) (es ++ maker k a)
+  edge-made : (k : ℕ) (ls : List Line) (es : List ℕ) (a : Admitted) → a ≡ edge k ls → MadeBy ls es →
+      AnswerMade (behind ls a) (es ++ maker k a)
   edge-made k ls es (kept l) e m = lines-made (one-made k m e)
   edge-made k ls es nothingKept e m = lines-made {ls = ls} {es = es ++ []} (rw (append-nil es) m)
   edge-made k ls es (notAdmitted r) e m = refused-made
 
-  next-made : (k : ℕ) (a : Answer) (es : List ℕ) → AnswerMade a es → AnswerMade (addEdge agent kind n vs margin horizon a k) (es ++ makerBehind agent kind n vs margin horizon a k)
+  next-made : (k : ℕ) (a : Answer) (es : List ℕ) → AnswerMade a es →
+      AnswerMade (addEdge agent kind n vs margin horizon a k) (es ++ makerBehind agent kind n vs margin horizon a k)
   unfolding addEdge
   next-made k (refused r) es refused-made = refused-made
   next-made k (lines ls) es (lines-made m) = edge-made k ls es (edge k ls) refl m
@@ -137,10 +146,12 @@ module _ (agent : Agent) (kind n : ℕ) (vs : List Vec2) (margin horizon : Float
   told-made (lines-made m) = m
 
   -- 02, T-06: the lines of an obstacle are those of the edges that are told beside them
-  pub lines-of-edges : {ls : List Line} → obstacleLines agent kind n vs margin horizon ≡ lines ls → MadeBy ls (obstacleEdges agent kind n vs margin horizon)
+  pub lines-of-edges : {ls : List Line} → obstacleLines agent kind n vs margin horizon ≡ lines ls →
+      MadeBy ls (obstacleEdges agent kind n vs margin horizon)
   unfolding obstacleLines obstacleEdges
   lines-of-edges e = told-made (rw e at (up-to-made (edgeCount kind n)))
 
   pub made-many : {ls : List Line} {es : List ℕ} → MadeBy ls es → length ls ≡ length es
   made-many none-made = refl
-  made-many (one-made {ls} {es} {l} i m e) = rw (length-append ls (l ∷ []), length-append es (i ∷ [])) (ap (λ (j : ℕ). j + 1) (made-many m))
+  made-many (one-made {ls} {es} {l} i m e) =
+      rw (length-append ls (l ∷ []), length-append es (i ∷ [])) (ap (λ (j : ℕ). j + 1) (made-many m))

@@ -1,4 +1,5 @@
--- Lent numbers that the lines so far fill, with zeros behind them: how they start, one line more, and the answer that they are. Assumes nothing.
+-- Lent numbers that the lines so far fill, with zeros behind them: how they start, one line more, and the answer that
+-- they are. Assumes nothing.
 use Prim.Native.Nat.{ℕ, zero, suc, _+_, _-_, _*_, _≤_, _<_}
 use mathlib.Core.Path.{_≡_, ap, _∙_}
 use mathlib.Core.List.{List, _++_}
@@ -44,14 +45,18 @@ filled-next b n l h f = record {
   size = length-sets b (4 * n) (fourOf l) ∙ f .size;
   rest =
       let k : 4 * n + 4 ≡ 4 * (n + 1) = omega arith in
-      stored-drop b n l (omega (arith, f .size)) ∙ ap (λ (x : List Float). drop 4 x) (f .rest) ∙ drop-drop 4 (4 * n) blankNumbers ∙ ap (λ (i : ℕ). drop i blankNumbers) k;
+      stored-drop b n l (omega (arith, f .size)) ∙ ap (λ (x : List Float). drop 4 x) (f .rest)
+      ∙ drop-drop 4 (4 * n) blankNumbers ∙ ap (λ (i : ℕ). drop i blankNumbers) k;
 }
 
-pub filled-answer : (b : List Float) (n : ℕ) → n ≤ 64 → Filled n b → _≡_ {A = ObstacleLines} (record { lines = b; count = n; judged = judgedAs fine }) (answerAs (lines (linesOf (take (4 * n) b))))
+pub filled-answer : (b : List Float) (n : ℕ) → n ≤ 64 → Filled n b →
+    _≡_ {A = ObstacleLines} (record { lines = b; count = n; judged = judgedAs fine })
+    (answerAs (lines (linesOf (take (4 * n) b))))
 unfolding blankNumbers
 filled-answer b n h f =
     let front : length (take (4 * n) b) ≡ 4 * n = length-take-le (4 * n) b (omega (arith, f .size)) in
     let many : length (linesOf (take (4 * n) b)) ≡ n = lines-long (take (4 * n) b) ∙ rw front (omega arith) in
     let same : numbersOf (linesOf (take (4 * n) b)) ≡ take (4 * n) b = numbers-back (take (4 * n) b) (rw front (omega arith)) in
-    let whole : take (4 * n) b ++ replicate (256 - 4 * n) 0ᶠ ≡ b = rw (← drop-replicate (4 * n) 256 0ᶠ, ← f .rest) (take-append-drop (4 * n) b) in
+    let whole : take (4 * n) b ++ replicate (256 - 4 * n) 0ᶠ ≡ b =
+    rw (← drop-replicate (4 * n) 256 0ᶠ, ← f .rest) (take-append-drop (4 * n) b) in
     rw (many, same, whole)

@@ -1,5 +1,5 @@
--- Lent vertices judged in order: a number that is there or missing, a vertex that passes or stops the walk; and what an obstacle without a fault has: few
--- vertices, all of them there, and nothing behind them. Assumes nothing.
+-- Lent vertices judged in order: a number that is there or missing, a vertex that passes or stops the walk; and what an
+-- obstacle without a fault has: few vertices, all of them there, and nothing behind them. Assumes nothing.
 use Prim.Native.Nat.{ℕ, zero, suc, _+_, _-_, _*_, _≤_, _<_}
 use mathlib.Core.Path.{_≡_, sym, _∙_}
 use mathlib.Core.Bool.{Bool, true, not}
@@ -80,7 +80,8 @@ module _ (xs : List Float) (n i : ℕ) (before : OuterVertex) where
       let f : 2 * (i + 1) ≡ 2 * i + 2 = omega arith in
       rw (e, f, ← drop-drop 2 (2 * i) xs)
 
-  pub vertex-on : (v : Vec2) → i < n → fine ≡ own → v ≡ frontOf (drop (2 * i) xs) → verticesFrom before i ≡ verticesFrom (onVertex before v) (i + 1)
+  pub vertex-on : (v : Vec2) → i < n → fine ≡ own → v ≡ frontOf (drop (2 * i) xs) → verticesFrom before i
+      ≡ verticesFrom (onVertex before v) (i + 1)
   vertex-on v h e f = vertex-more h ∙ rw (← e, ← f)
 
   pub vertex-stop : (r : ℕ) → i < n → fault r ≡ own → verticesFrom before i ≡ fault r
@@ -105,7 +106,8 @@ outline-lent h xs e = vertices-lent noneBefore (h .count) xs (⊳-fine (vertices
 -- ---- the obstacle
 
 -- a head without a fault passes each test
-pub head-passed : (total : ℕ) (h : Head) → headFault total h ≡ fine → (isKind (h .kind) ≡ true) × (roomFor total (h .count) ≡ true) × (not (isEmptyOpen (h .kind) (h .count)) ≡ true)
+pub head-passed : (total : ℕ) (h : Head) → headFault total h ≡ fine → (isKind (h .kind) ≡ true)
+    × (roomFor total (h .count) ≡ true) × (not (isEmptyOpen (h .kind) (h .count)) ≡ true)
 unfolding headFault
 head-passed total h e =
     let a = ⊳-fine (must (isKind (h .kind)) 3) e in

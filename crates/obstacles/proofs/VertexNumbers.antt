@@ -1,4 +1,5 @@
--- A list of numbers read by twos: which vertices it holds and how many, which stands in front, and how many a part of it has. Assumes nothing.
+-- A list of numbers read by twos: which vertices it holds and how many, which stands in front, and how many a part of
+-- it has. Assumes nothing.
 use Prim.Native.Nat.{ℕ, zero, suc, _+_, _*_, _/_, _≤_}
 use mathlib.Core.Path.{_≡_, refl, ap, _∙_}
 use mathlib.Core.List.{List, [], _∷_}
@@ -12,7 +13,8 @@ use Rattle.common.specs.Vectors.{vec}
 use Rattle.obstacles.specs.Vertices.{verticesOf, vertexAt}
 use Rattle.obstacles.specs.ObstacleFaults.{frontOf}
 
-pub vertex-nth : (b : List Float) (i k : ℕ) → k ≡ 2 * i → k + 2 ≤ length b → vertexAt (verticesOf b) i ≡ vec (getD b k nan) (getD b (k + 1) nan)
+pub vertex-nth : (b : List Float) (i k : ℕ) → k ≡ 2 * i → k + 2 ≤ length b → vertexAt (verticesOf b) i
+    ≡ vec (getD b k nan) (getD b (k + 1) nan)
 unfolding verticesOf
 vertex-nth [] i k e h = absurd (omega arith)
 vertex-nth (x ∷ []) i k e h = absurd (omega arith)
@@ -42,7 +44,9 @@ vertices-long (x ∷ y ∷ r) zero h = absurd (omega arith)
 vertices-long (x ∷ y ∷ r) (suc n) h = ap suc (vertices-long r n (omega arith))
 
 -- the numbers of count vertices from the vertex offset on are count vertices
-pub part-size : (b : List Float) (offset count : ℕ) → offset + count ≤ length b / 2 → length (take (2 * count) (drop (2 * offset) b)) / 2 ≡ count
+pub part-size : (b : List Float) (offset count : ℕ) → offset + count ≤ length b / 2 →
+    length (take (2 * count) (drop (2 * offset) b)) / 2 ≡ count
 part-size b offset count h =
-    let k : length (take (2 * count) (drop (2 * offset) b)) ≡ 2 * count = length-take-le (2 * count) (drop (2 * offset) b) (rw length-drop (omega arith)) in
+    let k : length (take (2 * count) (drop (2 * offset) b)) ≡ 2 * count =
+    length-take-le (2 * count) (drop (2 * offset) b) (rw length-drop (omega arith)) in
     rw k (omega arith)

@@ -1,5 +1,5 @@
--- What is admitted of an agent and of an obstacle whose vertices are lent as numbers: the first fault in the order of a record's fields (01, "What is admitted",
--- "Refusal numbers"; 02, T-11). Definitions only. Assumes nothing.
+-- What is admitted of an agent and of an obstacle whose vertices are lent as numbers: the first fault in the order of a
+-- record's fields (01, "What is admitted", "Refusal numbers"; 02, T-11). Definitions only. Assumes nothing.
 use Prim.Native.Nat.{ℕ, zero, suc, _*_}
 use mathlib.Core.Bool.{Bool, not}
 use mathlib.Core.List.{List, [], _∷_}
@@ -60,7 +60,8 @@ outlineFault h xs = verticesFault noneBefore (h .count) xs ⊳ must (closes (h .
 
 -- ---- the obstacle
 
--- "neither 1 (closed) nor 2 (open)": 3; "64 vertices each, 192 together", behind the total of the obstacles before it: 4; "open obstacle with no vertices": 5
+-- "neither 1 (closed) nor 2 (open)": 3; "64 vertices each, 192 together", behind the total of the obstacles before it:
+-- 4; "open obstacle with no vertices": 5
 unfoldable pub headFault : ℕ → Head → Fault
 headFault total h =
     must (isKind (h .kind)) 3

@@ -1,4 +1,5 @@
--- The lines of one obstacle: all its edges in order, alone and behind its faults (01, "Rules of the edges", "Refusal numbers"). Definitions only. Assumes nothing.
+-- The lines of one obstacle: all its edges in order, alone and behind its faults (01, "Rules of the edges", "Refusal
+-- numbers"). Definitions only. Assumes nothing.
 use Prim.Native.Nat.{ℕ, zero, suc, _-_, _/_}
 use mathlib.Core.List.{List, [], _∷_, _++_}
 use lib.Dec.{eqb, ltb}
@@ -42,15 +43,18 @@ behind ls (notAdmitted r) = refused r
 
 -- one edge more of n vertices: it sees the lines of the edges before it, and a refusal stays
 unfoldable pub addEdge : Agent → ℕ → ℕ → List Vec2 → Float → Float → Answer → ℕ → Answer
-addEdge agent kind n vs margin horizon (lines ls) i = behind ls (admitted (lineForEdge agent (edgeAt kind n vs i) margin horizon ls))
+addEdge agent kind n vs margin horizon (lines ls) i =
+    behind ls (admitted (lineForEdge agent (edgeAt kind n vs i) margin horizon ls))
 addEdge agent kind n vs margin horizon (refused r) i = refused r
 
 -- what the first k edges make
 unfoldable pub linesUpTo : Agent → ℕ → ℕ → List Vec2 → Float → Float → ℕ → Answer
 linesUpTo agent kind n vs margin horizon zero = lines []
-linesUpTo agent kind n vs margin horizon (suc k) = addEdge agent kind n vs margin horizon (linesUpTo agent kind n vs margin horizon k) k
+linesUpTo agent kind n vs margin horizon (suc k) =
+    addEdge agent kind n vs margin horizon (linesUpTo agent kind n vs margin horizon k) k
 
--- as many edges as vertices where the obstacle is closed, one less where it is open: "Closed with no vertices and open with one give no line"
+-- as many edges as vertices where the obstacle is closed, one less where it is open: "Closed with no vertices and open
+-- with one give no line"
 unfoldable pub edgeCount : ℕ → ℕ → ℕ
 edgeCount kind n = if eqb kind openKind then (n - 1) else n
 
@@ -75,14 +79,16 @@ maker i (notAdmitted r) = []
 
 -- the edge i behind what the edges before it made
 abbrev pub makerBehind : Agent → ℕ → ℕ → List Vec2 → Float → Float → Answer → ℕ → List ℕ
-makerBehind agent kind n vs margin horizon (lines ls) i = maker i (admitted (lineForEdge agent (edgeAt kind n vs i) margin horizon ls))
+makerBehind agent kind n vs margin horizon (lines ls) i =
+    maker i (admitted (lineForEdge agent (edgeAt kind n vs i) margin horizon ls))
 makerBehind agent kind n vs margin horizon (refused r) i = []
 
 -- the left vertices of those of the first k edges that make a line
 unfoldable pub makersUpTo : Agent → ℕ → ℕ → List Vec2 → Float → Float → ℕ → List ℕ
 makersUpTo agent kind n vs margin horizon zero = []
 makersUpTo agent kind n vs margin horizon (suc k) =
-    makersUpTo agent kind n vs margin horizon k ++ makerBehind agent kind n vs margin horizon (linesUpTo agent kind n vs margin horizon k) k
+    makersUpTo agent kind n vs margin horizon k ++ makerBehind agent kind n vs margin horizon
+    (linesUpTo agent kind n vs margin horizon k) k
 
 unfoldable pub obstacleEdges : Agent → ℕ → ℕ → List Vec2 → Float → Float → List ℕ
 obstacleEdges agent kind n vs margin horizon = makersUpTo agent kind n vs margin horizon (edgeCount kind n)
@@ -93,7 +99,8 @@ obstacleEdges agent kind n vs margin horizon = makersUpTo agent kind n vs margin
 unfoldable pub lineAlone : Agent → ℕ → List Float → ℕ → Float → Float → List Line → Admitted
 lineAlone agent kind xs i margin horizon ls =
     let n = length xs / 2 in
-    if ltb i (edgeCount kind n) then admitted (lineForEdge agent (edgeAt kind n (verticesOf xs) i) margin horizon ls) else nothingKept
+    if ltb i (edgeCount kind n) then admitted (lineForEdge agent (edgeAt kind n (verticesOf xs) i) margin horizon ls)
+    else nothingKept
 
 -- the agent's first fault, then the obstacle's, then its lines
 unfoldable pub obstacleCall : Agent → ℕ → List Float → ℕ → Float → Float → Answer

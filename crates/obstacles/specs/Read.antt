@@ -1,4 +1,5 @@
--- What each enum of the code says, in 01's values and numbers, and the struct that an answer is handed over in. Definitions only. Assumes nothing.
+-- What each enum of the code says, in 01's values and numbers, and the struct that an answer is handed over in.
+-- Definitions only. Assumes nothing.
 use Prim.Native.Nat.{_-_, _*_}
 use mathlib.Core.List.{List, _++_}
 use lib.ListN.{length, replicate}
@@ -30,7 +31,11 @@ blankNumbers = replicate 256 0ᶠ
 
 -- what the code hands over: the numbers of the lines with zeros behind them, and their count; zeros alone beside a refusal
 abbrev pub answerAs : Answer → ObstacleLines
-answerAs (lines ls) = record { lines = numbersOf ls ++ replicate (256 - 4 * length ls) 0ᶠ; count = length ls; judged = judgedAs fine }
+answerAs (lines ls) = record {
+  lines = numbersOf ls ++ replicate (256 - 4 * length ls) 0ᶠ;
+  count = length ls;
+  judged = judgedAs fine;
+}
 answerAs (refused r) = record { lines = blankNumbers; count = 0; judged = judgedAs (fault r) }
 
 -- the edges' lines in lent numbers, with what the loop over the edges says of them

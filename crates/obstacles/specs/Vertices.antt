@@ -1,5 +1,5 @@
--- An obstacle's vertices, which of them are convex, and its edges: `get_lines_for_agent_to_obstacle_const`, before the lines (01, "Rules of the edges").
--- Definitions only. Assumes nothing.
+-- An obstacle's vertices, which of them are convex, and its edges: `get_lines_for_agent_to_obstacle_const`, before the
+-- lines (01, "Rules of the edges"). Definitions only. Assumes nothing.
 use Prim.Native.Nat.{ℕ, _+_, _-_}
 use mathlib.Core.Bool.{Bool, _&&_, _||_}
 use mathlib.Core.List.{List, [], _∷_}

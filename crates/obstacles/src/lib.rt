@@ -1,4 +1,5 @@
-// The lines that an obstacle's edges ask an agent to keep to (the Rust's obstacles.rs), and what is admitted of an agent and of an obstacle.
+// The lines that an obstacle's edges ask an agent to keep to (the Rust's obstacles.rs), and what is admitted of an
+// agent and of an obstacle.
 use admission::Head;
 use admission::Judged;
 use admission::fault_unless;
@@ -43,10 +44,11 @@ pub(crate) enum AddedLines {
     Refused(u8),
 }
 
-// The lines that an obstacle asks an agent to keep to: its kind is 1 (closed) or 2 (open), it has `count` vertices, and the numbers are theirs, two a vertex.
-// Refused in the order of a record's fields: position, velocity, margin or horizon not finite or out of range (6), another kind (3), more than 64 vertices (4),
-// open with none (5), each vertex's component missing (2) or out of range (6), a vertex that is the one before it again, or the first again behind the last of a
-// closed one (14), numbers left over (2); then an edge whose line is not admitted (9).
+// The lines that an obstacle asks an agent to keep to: its kind is 1 (closed) or 2 (open), it has `count` vertices, and
+// the numbers are theirs, two a vertex. Refused in the order of a record's fields: position, velocity, margin or
+// horizon not finite or out of range (6), another kind (3), more than 64 vertices (4), open with none (5), each
+// vertex's component missing (2) or out of range (6), a vertex that is the one before it again, or the first again
+// behind the last of a closed one (14), numbers left over (2); then an edge whose line is not admitted (9).
 pub fn get_lines_for_agent_to_obstacle(
     agent: Agent,
     kind: u8,
@@ -81,9 +83,10 @@ pub fn edge_count(kind: u8, count: usize) -> usize
     count - 1
 }
 
-// The line of one edge alone, the one from a vertex to the next, for a caller that has judged agent and obstacle and asks edge by edge: every number is taken
-// as it is, every kind but 2 as closed, and an odd number at the end is passed over. The existing lines are those that the obstacle's edges before it made.
-// Nothing where there is no such edge; refused with 9 where the line is not admitted.
+// The line of one edge alone, the one from a vertex to the next, for a caller that has judged agent and obstacle and
+// asks edge by edge: every number is taken as it is, every kind but 2 as closed, and an odd number at the end is passed
+// over. The existing lines are those that the obstacle's edges before it made. Nothing where there is no such edge;
+// refused with 9 where the line is not admitted.
 pub fn get_line_alone(
     agent: Agent,
     kind: u8,
@@ -93,7 +96,8 @@ pub fn get_line_alone(
     horizon: f32,
     existing_lines: &[f32],
 ) -> AdmittedLine
-    ensures { λ r. ⌜ admittedOf r ≡ lineAlone agent kind (now (vertices .entry)) «left_index» margin horizon (linesOf (now («existing_lines» .entry))) ⌝ }
+    ensures { λ r. ⌜ admittedOf r ≡ lineAlone agent kind (now (vertices .entry)) «left_index» margin horizon
+        (linesOf (now («existing_lines» .entry))) ⌝ }
 {
     if left_index < edge_count(kind, vertices.len() / 2) {
         return obstacle::admitted_line(
@@ -115,7 +119,8 @@ pub enum EdgeEnds {
     Absent,
 }
 
-// The ends of the edge from a vertex to the next, for a caller that has judged the obstacle: numbers and kind are taken as `get_line_alone` takes them.
+// The ends of the edge from a vertex to the next, for a caller that has judged the obstacle: numbers and kind are taken
+// as `get_line_alone` takes them.
 pub fn edge_ends(kind: u8, vertices: &[f32], left_index: usize) -> EdgeEnds
     ensures { λ r. ⌜ r ≡ endsOf kind (now (vertices .entry)) «left_index» ⌝ }
 {
@@ -138,7 +143,8 @@ pub fn judge_vector(v: Vec2) -> Judged
     first_of(x, y)
 }
 
-// An agent with the margin that it keeps and the horizon: position, velocity, margin, horizon, each not finite or out of range (6).
+// An agent with the margin that it keeps and the horizon: position, velocity, margin, horizon, each not finite or out
+// of range (6).
 pub fn judge_agent(agent: Agent, margin: f32, horizon: f32) -> Judged
     ensures { λ r. ⌜ faultOf r ≡ agentFault agent margin horizon ⌝ }
 {
@@ -160,8 +166,9 @@ pub fn judge_head(total: usize, head: Head) -> Judged
     first_of(known, first_of(fits, some))
 }
 
-// An obstacle's vertices, the first of the numbers, two a vertex: each component missing (2), not finite or out of range (6), then a vertex that is the one
-// before it again (14); behind the last, in a closed obstacle, that it is the first again (14). Numbers behind them are not looked at.
+// An obstacle's vertices, the first of the numbers, two a vertex: each component missing (2), not finite or out of
+// range (6), then a vertex that is the one before it again (14); behind the last, in a closed obstacle, that it is the
+// first again (14). Numbers behind them are not looked at.
 pub fn judge_outline(head: Head, vertices: &[f32]) -> Judged
     ensures { λ r. ⌜ faultOf r ≡ outlineFault head (now (vertices .entry)) ⌝ }
 {
@@ -189,8 +196,8 @@ pub fn may_follow(previous: Outer, vertex: Vec2) -> bool
     }
 }
 
-// Whether an obstacle's last vertex may stand before its first, which in a closed obstacle it must not be again: so one of a single vertex may not. Every kind
-// but 2 is taken as closed, and an odd number at the end is passed over.
+// Whether an obstacle's last vertex may stand before its first, which in a closed obstacle it must not be again: so one
+// of a single vertex may not. Every kind but 2 is taken as closed, and an odd number at the end is passed over.
 pub fn may_close(kind: u8, vertices: &[f32]) -> bool
     ensures { λ r. ⌜ r ≡ closes kind (verticesOf (now (vertices .entry))) ⌝ }
 {

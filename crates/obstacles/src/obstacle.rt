@@ -16,7 +16,8 @@ ghost use Rattle.edges.specs.EdgeLines.{lineForEdge};
 ghost use Rattle.obstacles.specs.Obstacles.{admitted, obstacleLines, refused as refusedWith};
 ghost use Rattle.obstacles.specs.Read.{admittedOf, blankNumbers, addedOf, answerAs};
 
-// The line of the edge from a vertex to the next, behind the lines made earlier: refused with 9 where it breaks the admission of lines.
+// The line of the edge from a vertex to the next, behind the lines made earlier: refused with 9 where it breaks the
+// admission of lines.
 pub(crate) fn admitted_line(
     agent: Agent,
     kind: u8,
@@ -27,7 +28,9 @@ pub(crate) fn admitted_line(
     existing_lines: &[f32],
 ) -> AdmittedLine
     requires { ⌜ «left_index» < length (now vertices) / 2 ⌝ }
-    ensures { λ r. ⌜ admittedOf r ≡ admitted (lineForEdge agent (edgeAt kind (length (now (vertices .entry)) / 2) (verticesOf (now (vertices .entry))) «left_index») margin horizon (linesOf (now («existing_lines» .entry)))) ⌝ }
+    ensures { λ r. ⌜ admittedOf r ≡ admitted
+        (lineForEdge agent (edgeAt kind (length (now (vertices .entry)) / 2)
+        (verticesOf (now (vertices .entry))) «left_index») margin horizon (linesOf (now («existing_lines» .entry)))) ⌝ }
 {
     let edge = vertices::edge_at(kind, vertices, left_index);
     let made = edges::get_line_for_agent_to_edge(agent, edge, margin, horizon, existing_lines);
@@ -50,7 +53,9 @@ fn add_edges(
     lines: &mut [f32],
 ) -> AddedLines
     requires { ⌜ (length (now vertices) / 2 ≤ 64) × (now lines ≡ blankNumbers) ⌝ }
-    ensures { λ r. ⌜ addedOf r (now (lines .exit)) ≡ answerAs (obstacleLines agent kind (length (now (vertices .entry)) / 2) (verticesOf (now (vertices .entry))) margin horizon) ⌝ }
+    ensures { λ r. ⌜ addedOf r (now (lines .exit))
+        ≡ answerAs (obstacleLines agent kind (length (now (vertices .entry)) / 2)
+        (verticesOf (now (vertices .entry))) margin horizon) ⌝ }
 {
     let edges = edge_count(kind, vertices.len() / 2);
     let mut count = 0usize;
@@ -104,7 +109,8 @@ pub(crate) fn lines_for_edges(
     horizon: f32,
 ) -> ObstacleLines
     requires { ⌜ length (now vertices) / 2 ≤ 64 ⌝ }
-    ensures { λ r. ⌜ r ≡ answerAs (obstacleLines agent kind (length (now (vertices .entry)) / 2) (verticesOf (now (vertices .entry))) margin horizon) ⌝ }
+    ensures { λ r. ⌜ r ≡ answerAs (obstacleLines agent kind (length (now (vertices .entry)) / 2)
+        (verticesOf (now (vertices .entry))) margin horizon) ⌝ }
 {
     let mut lines = blank();
     match add_edges(agent, kind, vertices, margin, horizon, &mut lines) {

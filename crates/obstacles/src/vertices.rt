@@ -100,7 +100,8 @@ fn outer_vertex(kind: u8, vertices: &[f32], i: usize, end: usize, beyond: usize)
 // The edge from a vertex to the next.
 pub(crate) fn edge_at(kind: u8, vertices: &[f32], left_index: usize) -> Edge
     requires { ⌜ «left_index» < length (now vertices) / 2 ⌝ }
-    ensures { λ r. ⌜ edgeOf r ≡ edgeAt kind (length (now (vertices .entry)) / 2) (verticesOf (now (vertices .entry))) «left_index» ⌝ }
+    ensures { λ r. ⌜ edgeOf r ≡ edgeAt kind (length (now (vertices .entry)) / 2)
+        (verticesOf (now (vertices .entry))) «left_index» ⌝ }
 {
     let count = vertices.len() / 2;
     let right_index = next_index(count, left_index);

@@ -1,4 +1,5 @@
--- Enums of the code there and back: what one says can be turned back, so two answers that one promise allows are the same. Assumes nothing.
+-- Enums of the code there and back: what one says can be turned back, so two answers that one promise allows are the
+-- same. Assumes nothing.
 use mathlib.Core.Path.{_≡_, refl}
 use Rattle.arithmetic.proofs.Agree.{agree-read}
 use Rattle.one_line.specs.declared.Cause.{Cause as CauseCode}

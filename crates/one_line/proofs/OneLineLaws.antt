@@ -1,4 +1,5 @@
--- Laws of the one-line solve: each earlier line is looked at once, an empty interval stays empty, and the line that its cause names is an earlier one. Assumes nothing.
+-- Laws of the one-line solve: each earlier line is looked at once, an empty interval stays empty, and the line that its
+-- cause names is an earlier one. Assumes nothing.
 use Prim.Native.Nat.{ℕ, suc, _+_, _≤_, _<_}
 use mathlib.Core.Path.{_≡_, refl}
 use mathlib.Core.Bool.{Bool}
@@ -38,7 +39,8 @@ data Opens (i : ℕ) : Interval → Type 0 where
 open-count : {i n : ℕ} {l r : Float} → Opens i (between l r n) → n ≡ i
 open-count opens = refl
 
-unless-opens : (b : Bool) {cause : Cause} (left right : Float) (n : ℕ) → Earlier (n + 1) cause → Opens (n + 1) (unlessFails b cause left right n)
+unless-opens : (b : Bool) {cause : Cause} (left right : Float) (n : ℕ) → Earlier (n + 1) cause →
+    Opens (n + 1) (unlessFails b cause left right n)
 unfolding unlessFails
 unless-opens b left right n h = if-all (Opens (n + 1)) _ (shuts (le-refl _) h) opens
 
@@ -46,11 +48,13 @@ narrow-opens : (own it : Line) (i : ℕ) {s : Interval} → Opens i s → Opens 
 unfolding narrow cut
 narrow-opens own it i opens =
     let ends : Earlier (i + 1) (crossing i) = by-crossing {k = i} (omega arith) in
-    if-all (Opens (i + 1)) _ (unless-opens _ _ _ i (by-parallel {k = i} (omega arith))) (if-all (Opens (i + 1)) _ (unless-opens _ _ _ i ends) (unless-opens _ _ _ i ends))
+    if-all (Opens (i + 1)) _ (unless-opens _ _ _ i (by-parallel {k = i} (omega arith)))
+    (if-all (Opens (i + 1)) _ (unless-opens _ _ _ i ends) (unless-opens _ _ _ i ends))
 narrow-opens own it i (shuts {n} h by) = shuts {n = n} (omega arith) (earlier-on by)
 
 -- one line more
-pub looked-on : (own it : Line) (left right l r : Float) (n k : ℕ) → between l r k ≡ narrow own (between left right n) it → k ≡ n + 1
+pub looked-on : (own it : Line) (left right l r : Float) (n k : ℕ) →
+    between l r k ≡ narrow own (between left right n) it → k ≡ n + 1
 looked-on own it left right l r n k e = open-count (rw (← e) at (narrow-opens own it n {s = between left right n} opens))
 
 fold-opens : (own : Line) (l : List Line) (i : ℕ) (s : Interval) → Opens i s → Opens (i + length l) (foldl (narrow own) s l)
@@ -100,7 +104,8 @@ module _ (o : Objective) (limit : Float) (own : Line) (e : List Line) where
       none-looked (shuts l by) = (omega arith, none-earlier by)
 
   -- what the earlier lines leave of the chord is searched for the best value
-  pub narrowed : (l r : Float) (n : ℕ) (s : Interval) → between l r n ≡ chord limit own → s ≡ foldl (narrow own) (between l r 0) e → choose o own s ≡ oneLine o limit own e
+  pub narrowed : (l r : Float) (n : ℕ) (s : Interval) → between l r n ≡ chord limit own →
+      s ≡ foldl (narrow own) (between l r 0) e → choose o own s ≡ oneLine o limit own e
   unfolding oneLine
   narrowed l r n s h k =
       let z : n ≡ 0 = open-count (rw (← h) at (chord-opens limit own)) in

@@ -15,7 +15,8 @@ pub data Objective : Type 0 where
   toward : Vec2 → Objective
   along : Vec2 → Objective
 
--- what leaves nothing of a line: the circle, or the earlier line at an index, by its wrong side where it is parallel or by the ends that cross there
+-- what leaves nothing of a line: the circle, or the earlier line at an index, by its wrong side where it is parallel or
+-- by the ends that cross there
 pub data Cause : Type 0 where
   circle : Cause
   parallel : ℕ → Cause
@@ -26,7 +27,8 @@ pub data Interval : Type 0 where
   between : Float → Float → ℕ → Interval
   empty : ℕ → Cause → Interval
 
--- "a = line point · direction; disc = a·a + limit·limit − line point · line point; disc < 0 fails. Interval −a − √disc to −a + √disc"
+-- "a = line point · direction; disc = a·a + limit·limit − line point · line point; disc < 0 fails. Interval −a − √disc
+-- to −a + √disc"
 unfoldable pub chord : Float → Line → Interval
 chord limit own =
     let a = dotOf (own .point) (own .direction) in
@@ -38,12 +40,14 @@ chord limit own =
 unfoldable pub unlessFails : Bool → Cause → Float → Float → ℕ → Interval
 unlessFails b cause left right n = if b then empty (n + 1) cause else between left right (n + 1)
 
--- "t = num / det caps the right end if det ≥ 0, raises the left end if not; left > right fails". The line's index is the count of those looked at before it
+-- "t = num / det caps the right end if det ≥ 0, raises the left end if not; left > right fails". The line's index is
+-- the count of those looked at before it
 unfoldable pub cut : Float → Float → ℕ → Float → Float → Interval
 cut left right n det t =
     let capped = minOf right t in
     let raised = maxOf left t in
-    if 0ᶠ ≤ᶠ det then unlessFails (capped <ᶠ left) (crossing n) left capped n else unlessFails (right <ᶠ raised) (crossing n) raised right n
+    if 0ᶠ ≤ᶠ det then unlessFails (capped <ᶠ left) (crossing n) left capped n else unlessFails (right <ᶠ raised)
+    (crossing n) raised right n
 
 -- one earlier line narrows the interval on `own`. "|det| ≤ 0.00001: fails if num < 0, else skipped"
 unfoldable pub narrow : Line → Interval → Line → Interval

@@ -57,7 +57,8 @@ fn cut_at(left: f32, right: f32, looked: usize, direction_determinant: f32, t: f
     )
 }
 
-// One earlier line narrows the interval; one that is nearly parallel leaves it as it is, or fails where `line` lies on its wrong side.
+// One earlier line narrows the interval; one that is nearly parallel leaves it as it is, or fails where `line` lies on
+// its wrong side.
 fn narrow_by(line: Line, left: f32, right: f32, looked: usize, constraint: Line) -> Interval
     requires { ⌜ looked < 18446744073709551615 ⌝ }
     ensures { λ r. ⌜ intervalOf r ≡ narrow line (between left right looked) constraint ⌝ }

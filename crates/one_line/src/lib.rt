@@ -1,4 +1,5 @@
-// The one-line solve (01, "One-line solve"; the Rust's linear_programming.rs): the best value on a line within the circle and the earlier lines.
+// The one-line solve (01, "One-line solve"; the Rust's linear_programming.rs): the best value on a line within the
+// circle and the earlier lines.
 use common::Vec2;
 use lines::Line;
 ghost use mathlib.Core.Path.{_≡_};
@@ -15,7 +16,8 @@ pub enum OptimalValue {
     Direction(f32, f32),
 }
 
-// What left nothing of a line: the circle, or the earlier line at an index, by its wrong side where it is parallel or by the ends that crossed there.
+// What left nothing of a line: the circle, or the earlier line at an index, by its wrong side where it is parallel or
+// by the ends that crossed there.
 pub enum Cause {
     Circle,
     Parallel(usize),
@@ -35,8 +37,8 @@ pub enum AlongLine {
     Refuses,
 }
 
-// The best value on `line` within the circle and the first `count` lines, which are lent as numbers, four a line; or what left nothing of it. Refused
-// where the ends of what is left are not in order at the clamp to a point.
+// The best value on `line` within the circle and the first `count` lines, which are lent as numbers, four a line; or
+// what left nothing of it. Refused where the ends of what is left are not in order at the clamp to a point.
 pub fn solve_linear_program_along_line(
     line: Line,
     radius: f32,

@@ -1,4 +1,5 @@
--- A failure and a pass of the code there and back: what one says can be turned back, so two answers that one promise allows are the same. Assumes nothing.
+-- A failure and a pass of the code there and back: what one says can be turned back, so two answers that one promise
+-- allows are the same. Assumes nothing.
 use mathlib.Core.Path.{_≡_, refl}
 use Rattle.arithmetic.proofs.Agree.{agree-read}
 use Rattle.one_line.proofs.Agreement.{cause-back, cause-there}

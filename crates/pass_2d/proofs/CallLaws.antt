@@ -25,7 +25,8 @@ module _ (o : Objective) (limit : Float) (l : List Line) (short : length l ≤ m
   unfolding passCall if_then_else_
   few-called = rw (le-leb (length l) mostLines short)
 
-  pub few-resumed : (from : ℕ) (p : Vec2) → resumedPass o limit l from p ≡ walk (passLine o limit) (take from l) (drop from l) (feasible p 0)
+  pub few-resumed : (from : ℕ) (p : Vec2) → resumedPass o limit l from p
+      ≡ walk (passLine o limit) (take from l) (drop from l) (feasible p 0)
   unfolding resumedPass if_then_else_
   few-resumed from p = rw (le-leb (length l) mostLines short)
 
@@ -39,4 +40,5 @@ module _ (o : Objective) (limit : Float) (l : List Line) (short : length l ≤ m
       most (lp2d.Refused r) t = omega arith
 
   pub resumed-most : (from : ℕ) (p : Vec2) (a : LinearProgram2D) → passOf a ≡ resumedPass o limit l from p → probesOf a ≤ 65536
-  resumed-most from p a e = pass-most o limit (take from l) (drop from l) p a (rw (take-append-drop from l) short) (e ∙ few-resumed from p)
+  resumed-most from p a e =
+      pass-most o limit (take from l) (drop from l) p a (rw (take-append-drop from l) short) (e ∙ few-resumed from p)

@@ -1,4 +1,5 @@
--- Laws of a pass from any of its lines on: what ended stays, it fails at a line of the list, and each line counts at most 256 probes. Assumes nothing.
+-- Laws of a pass from any of its lines on: what ended stays, it fails at a line of the list, and each line counts at
+-- most 256 probes. Assumes nothing.
 use Prim.Native.Nat.{ℕ, _+_, _*_, _≤_, _<_}
 use mathlib.Core.Path.{_≡_, refl}
 use mathlib.Core.List.{List, [], _∷_, _++_}
@@ -28,7 +29,8 @@ module _ (o : Objective) (limit : Float) where
   pass-refused r = walk-stays (passLine o limit) (refused r) (λ e x. refl)
 
   -- from a starting point that is judged fine
-  pub started : (l : List Line) (p : Vec2) (n : ℕ) → feasible p n ≡ judged o (start o limit) 0 → walk (passLine o limit) [] l (feasible p 0) ≡ pass o limit l
+  pub started : (l : List Line) (p : Vec2) (n : ℕ) → feasible p n ≡ judged o (start o limit) 0 →
+      walk (passLine o limit) [] l (feasible p 0) ≡ pass o limit l
   unfolding pass
   started l p n h = rw (← h, judged-none o (start o limit) p n h)
 
@@ -59,7 +61,8 @@ solved-fails o k p n (at q m) = unfailed k (judged-unfailed o q (n + m))
 solved-fails o k p n (fails m cause) = there refl
 solved-fails o k p n refuses = never
 
-pub pass-fails : (o : Objective) (limit : Float) (e : List Line) (own : Line) (p : Vec2) (n : ℕ) → FailsAt (length e) (passLine o limit e own (feasible p n))
+pub pass-fails : (o : Objective) (limit : Float) (e : List Line) (own : Line) (p : Vec2) (n : ℕ) →
+    FailsAt (length e) (passLine o limit e own (feasible p n))
 unfolding passLine
 pass-fails o limit e own p n = if-all (FailsAt (length e)) _ still (solved-fails o (length e) p (n + 1) (oneLine o limit own e))
 
@@ -74,15 +77,18 @@ module _ (o : Objective) (limit : Float) where
       let k : length (e ++ (own ∷ [])) ≡ length e + 1 = length-append e (own ∷ []) in
       rw k (next (h (omega arith)) (omega arith))
     where
-      next : {t : Pass} → Counts (256 * length e) t → length e < mostLines → Counts (256 * (length e + 1)) (passLine o limit e own t)
+      next : {t : Pass} → Counts (256 * length e) t → length e < mostLines →
+          Counts (256 * (length e + 1)) (passLine o limit e own t)
       next (counts {p} {n} a) room = more-counted (omega arith) (pass-counts o limit e own p n)
       next (counts-failed {n = n} a) room = counts-failed {n = n} (omega arith)
       next counts-none room = counts-none
 
   -- what the code counts, from any point on
-  pub pass-most : (e l : List Line) (p : Vec2) (a : LinearProgram2D) → length (e ++ l) ≤ mostLines → passOf a ≡ walk (passLine o limit) e l (feasible p 0) → probesOf a ≤ 65536
+  pub pass-most : (e l : List Line) (p : Vec2) (a : LinearProgram2D) → length (e ++ l) ≤ mostLines →
+      passOf a ≡ walk (passLine o limit) e l (feasible p 0) → probesOf a ≤ 65536
   pass-most e l p a h eq =
-      most a (rw (← eq) at (walk-grows (passLine o limit) (λ i t. length i ≤ mostLines → Counts (256 * length i) t) line-counted e l (feasible p 0) (λ short. counts (omega arith)) h))
+      most a (rw (← eq) at (walk-grows (passLine o limit) (λ i t. length i ≤ mostLines →
+      Counts (256 * length i) t) line-counted e l (feasible p 0) (λ short. counts (omega arith)) h))
     where
       most : (a : LinearProgram2D) → Counts (256 * length (e ++ l)) (passOf a) → probesOf a ≤ 65536
       most (lp2d.Feasible p n) (counts b) = omega arith

@@ -45,11 +45,14 @@ solved-counts o j p n i (solves {q}) = judged-counts o q (n + (0 + i)) (n + i) (
 solved-counts o j p n i (stops {n = m} h by) = counts-failed {n = n + m} (omega arith)
 solved-counts o j p n i stops-refused = counts-none
 
-pub pass-counts : (o : Objective) (limit : Float) (e : List Line) (own : Line) (p : Vec2) (n : ℕ) → Counts (n + 1 + length e) (passLine o limit e own (feasible p n))
+pub pass-counts : (o : Objective) (limit : Float) (e : List Line) (own : Line) (p : Vec2) (n : ℕ) →
+    Counts (n + 1 + length e) (passLine o limit e own (feasible p n))
 unfolding passLine
-pass-counts o limit e own p n = if-all (Counts (n + 1 + length e)) _ (counts (omega arith)) (solved-counts o (length e) p (n + 1) (length e) (line-solves o limit own e))
+pass-counts o limit e own p n = if-all (Counts (n + 1 + length e)) _ (counts (omega arith))
+    (solved-counts o (length e) p (n + 1) (length e) (line-solves o limit own e))
 
-pub line-most : (o : Objective) (limit : Float) (e : List Line) (own : Line) (p q : Vec2) (n m : ℕ) → feasible q m ≡ passLine o limit e own (feasible p n) → m ≤ n + 1 + length e
+pub line-most : (o : Objective) (limit : Float) (e : List Line) (own : Line) (p q : Vec2) (n m : ℕ) →
+    feasible q m ≡ passLine o limit e own (feasible p n) → m ≤ n + 1 + length e
 line-most o limit e own p q n m h = counted (rw (← h) at (pass-counts o limit e own p n))
   where
     counted : {b : ℕ} → Counts b (feasible q m) → m ≤ b
@@ -72,28 +75,33 @@ judged-takes (along d) k p n a b = takes a b
 next-product : (k : ℕ) → (k + 1) * (k + 1 + 1) ≡ k * (k + 1) + 2 * (k + 1)
 next-product k = omega (arith, mul-add (k + 1) (k + 1) 1, add-mul k 1 (k + 1))
 
-solved-takes : (o : Objective) (j k : ℕ) (p : Vec2) (n : ℕ) → k ≤ n → 2 * n ≤ k * (k + 1) → {q : Found} → Solves (0 + k) q → Takes (k + 1) (solved o j p (n + 1) q)
+solved-takes : (o : Objective) (j k : ℕ) (p : Vec2) (n : ℕ) → k ≤ n → 2 * n ≤ k * (k + 1) → {q : Found} →
+    Solves (0 + k) q → Takes (k + 1) (solved o j p (n + 1) q)
 unfolding solved
 solved-takes o j k p n a b solves = judged-takes o (k + 1) _ (n + 1 + (0 + k)) (omega arith) (omega (arith, next-product k))
 solved-takes o j k p n a b (stops {n = m} h by) = takes-failed {n = n + 1 + m} (omega (arith, next-product k))
 solved-takes o j k p n a b stops-refused = takes-none
 
-line-takes : (o : Objective) (limit : Float) (e : List Line) (own : Line) (s : Pass) → Takes (length e) s → Takes (length (e ++ (own ∷ []))) (passLine o limit e own s)
+line-takes : (o : Objective) (limit : Float) (e : List Line) (own : Line) (s : Pass) → Takes (length e) s →
+    Takes (length (e ++ (own ∷ []))) (passLine o limit e own s)
 unfolding passLine
 line-takes o limit e own s h = rw (length-append e (own ∷ [])) (go h)
   where
     go : {t : Pass} → Takes (length e) t → Takes (length e + 1) (passLine o limit e own t)
     go (takes {p} {n} a b) =
-        if-all (Takes (length e + 1)) _ (takes (omega arith) (omega (arith, next-product (length e)))) (solved-takes o (length e) (length e) p n a b (line-solves o limit own e))
+        if-all (Takes (length e + 1)) _ (takes (omega arith) (omega (arith, next-product (length e))))
+        (solved-takes o (length e) (length e) p n a b (line-solves o limit own e))
     go (takes-failed {n = n} b) = takes-failed {n = n} (omega (arith, next-product (length e)))
     go takes-none = takes-none
 
 pub pass-takes : (o : Objective) (limit : Float) (lines : List Line) → Takes (length lines) (pass o limit lines)
 unfolding pass
-pass-takes o limit lines = walk-grows (passLine o limit) (λ l s. Takes (length l) s) (line-takes o limit) [] lines _ (judged-takes o 0 _ 0 (omega arith) (omega arith))
+pass-takes o limit lines = walk-grows (passLine o limit) (λ l s. Takes (length l) s) (line-takes o limit) [] lines _
+    (judged-takes o 0 _ 0 (omega arith) (omega arith))
 
 -- 01: "A list of n lines that never fails takes n to n(n+1)/2 probes."
-pub pass-probes : (o : Objective) (limit : Float) (lines : List Line) {p : Vec2} {n : ℕ} → pass o limit lines ≡ feasible p n → (length lines ≤ n) × (2 * n ≤ length lines * (length lines + 1))
+pub pass-probes : (o : Objective) (limit : Float) (lines : List Line) {p : Vec2} {n : ℕ} →
+    pass o limit lines ≡ feasible p n → (length lines ≤ n) × (2 * n ≤ length lines * (length lines + 1))
 pass-probes o limit lines e = bounds (rw e at (pass-takes o limit lines))
   where
     bounds : {k : ℕ} {p : Vec2} {n : ℕ} → Takes k (feasible p n) → (k ≤ n) × (2 * n ≤ k * (k + 1))

@@ -1,5 +1,5 @@
--- What a pass over lent lines tells: 4 beyond 256 of them, else how the pass over them stands, from the start or taken up again at a line. Definitions
--- only. Assumes nothing.
+-- What a pass over lent lines tells: 4 beyond 256 of them, else how the pass over them stands, from the start or taken
+-- up again at a line. Definitions only. Assumes nothing.
 use Prim.Native.Nat.{ℕ}
 use mathlib.Core.List.{List}
 use lib.ListN.{length, take, drop}

@@ -11,7 +11,8 @@ use Rattle.lines.specs.declared.Line.{Line}
 use Rattle.pass_2d.specs.Walk.{walk}
 use Rattle.one_line.specs.OneLine.{Objective, toward, along, Cause, Found, at, fails, refuses, oneLine}
 
--- "the wish, or, if its squared length > limit², its normalized form times the limit"; along a direction "its start is direction times limit"
+-- "the wish, or, if its squared length > limit², its normalized form times the limit"; along a direction "its start is
+-- direction times limit"
 unfoldable pub start : Objective → Float → Vec2
 start (toward wish) limit = if limit ⊗ limit <ᶠ lengthSquaredOf wish then mulOf (normalizeOf wish) limit else wish
 start (along d) limit = mulOf d limit

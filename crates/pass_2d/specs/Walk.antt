@@ -1,4 +1,5 @@
--- A list walked from its first element to its last: each step is told the elements before its own. Definition only. Assumes nothing.
+-- A list walked from its first element to its last: each step is told the elements before its own. Definition only.
+-- Assumes nothing.
 use mathlib.Core.List.{List, [], _∷_, _++_}
 
 module _ {A S : Type 0} where

@@ -1,5 +1,5 @@
-// The 2D pass (01, "Start" and "A line is met .."; the Rust's linear_programming.rs): the value nearest to a point, or farthest along a direction, that
-// meets the lines one by one, or the line that it fails at.
+// The 2D pass (01, "Start" and "A line is met .."; the Rust's linear_programming.rs): the value nearest to a point, or
+// farthest along a direction, that meets the lines one by one, or the line that it fails at.
 use common::Vec2;
 use lines::Line;
 use one_line::Cause;
@@ -33,8 +33,8 @@ pub fn is_finite_point(p: Vec2) -> bool
     arithmetic::is_finite(p.x) && arithmetic::is_finite(p.y)
 }
 
-// The pass over the first `count` lines, which are lent as numbers, four a line. Refused, in this order: more than 256 lines (4), a starting point toward a
-// wish that is not finite (9), the solve of a line (8, 9).
+// The pass over the first `count` lines, which are lent as numbers, four a line. Refused, in this order: more than 256
+// lines (4), a starting point toward a wish that is not finite (9), the solve of a line (8, 9).
 pub fn solve_linear_program_2d(
     lines: &[f32],
     count: usize,
@@ -55,8 +55,8 @@ pub fn solve_linear_program_2d(
     solve_2d::pass_from(lines, 0, given, radius, optimal_value, point)
 }
 
-// The pass taken up again at the line `from`, where the lines before it left `point`: how it stands after the first `count` lines, with the probes of those
-// from `from` on. Refused: more than 256 lines (4), the solve of a line (8, 9).
+// The pass taken up again at the line `from`, where the lines before it left `point`: how it stands after the first
+// `count` lines, with the probes of those from `from` on. Refused: more than 256 lines (4), the solve of a line (8, 9).
 pub fn resume_linear_program_2d(
     lines: &[f32],
     from: usize,
@@ -65,7 +65,8 @@ pub fn resume_linear_program_2d(
     optimal_value: OptimalValue,
     point: Vec2,
 ) -> LinearProgram2D
-    ensures { λ r. ⌜ passOf r ≡ resumedPass (objectiveOf «optimal_value») radius (take count (linesOf (now (lines .entry)))) from point ⌝ }
+    ensures { λ r. ⌜ passOf r ≡ resumedPass (objectiveOf «optimal_value») radius
+        (take count (linesOf (now (lines .entry)))) from point ⌝ }
 {
     let given = lines::count_given(lines, count);
     if given > Line::MOST {

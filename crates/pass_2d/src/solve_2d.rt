@@ -45,8 +45,8 @@ pub(crate) fn judge_point(optimal_value: OptimalValue, point: Vec2, probes: u32)
     }
 }
 
-// The line at an index, after the lines before it left `point`: met by it, or solved against the lines before it. Where that fails, the pass ends with the
-// index and the point before it.
+// The line at an index, after the lines before it left `point`: met by it, or solved against the lines before it. Where
+// that fails, the pass ends with the index and the point before it.
 fn pass_line(
     lines: &[f32],
     index: usize,
@@ -56,7 +56,9 @@ fn pass_line(
     probes: u32,
 ) -> LinearProgram2D
     requires { ⌜ (4 * index + 4 ≤ length (now lines)) × (index < mostLines) × (probes < 65536) ⌝ }
-    ensures { λ r. ⌜ passOf r ≡ passLine (objectiveOf «optimal_value») radius (take index (linesOf (now (lines .entry)))) (getD (linesOf (now (lines .entry))) index offLine) (feasible point probes) ⌝ }
+    ensures { λ r. ⌜ passOf r ≡ passLine (objectiveOf «optimal_value») radius
+        (take index (linesOf (now (lines .entry)))) (getD (linesOf (now (lines .entry))) index offLine)
+        (feasible point probes) ⌝ }
 {
     let line = lines::line_at(lines, index);
     if common::determinant(line.direction, point.sub(line.point)) > 0.0 {
@@ -89,7 +91,9 @@ pub(crate) fn pass_from(
     point: Vec2,
 ) -> LinearProgram2D
     requires { ⌜ (count ≤ mostLines) × (4 * count ≤ length (now lines)) ⌝ }
-    ensures { λ r. ⌜ passOf r ≡ walk (passLine (objectiveOf «optimal_value») radius) (take from (linesOf (now (lines .entry)))) (drop from (take count (linesOf (now (lines .entry))))) (feasible point 0) ⌝ }
+    ensures { λ r. ⌜ passOf r ≡ walk (passLine (objectiveOf «optimal_value») radius)
+        (take from (linesOf (now (lines .entry)))) (drop from (take count (linesOf (now (lines .entry)))))
+        (feasible point 0) ⌝ }
 {
     let mut best_value = point;
     let mut probes = 0u32;

@@ -8,7 +8,8 @@ use Rattle.linear_programming.specs.declared.FailedLine.{FailedLine}
 use Rattle.linear_programming.specs.declared.FailedLine.the-variants as failed-line
 use Rattle.plain_numbers.specs.Kinds.{causeKind, causeLine, causeIn, failedKind, failedIndex, failedCause, failedIn}
 
-failure-back : (index : ℕ) (c : Cause) → failedIn (causeKind c) index (causeLine c) ≡ failed-line.At (record { index = index; cause = c })
+failure-back : (index : ℕ) (c : Cause) → failedIn (causeKind c) index (causeLine c)
+    ≡ failed-line.At (record { index = index; cause = c })
 unfolding failedIn causeIn if_then_else_
 failure-back index cause.Circle = refl
 failure-back index (cause.Parallel k) = refl

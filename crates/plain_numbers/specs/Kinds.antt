@@ -47,10 +47,14 @@ failedCause (failed-line.At f) = causeLine (f .cause)
 
 -- and back: any other number is the last kind
 unfoldable pub phaseIn : ℕ → ℕ → Float → Float → Float → Phase
-phaseIn kind k x y depth = if eqb kind 0 then phase.Solving x y else (if eqb kind 1 then phase.Relaxing x y depth else phase.RigidFailure k x y)
+phaseIn kind k x y depth = if eqb kind 0 then phase.Solving x y else
+    (if eqb kind 1 then phase.Relaxing x y depth else phase.RigidFailure k x y)
 
 unfoldable pub causeIn : ℕ → ℕ → Cause
 causeIn kind k = if eqb kind 1 then cause.Circle else (if eqb kind 2 then cause.Parallel k else cause.Crossing k)
 
 unfoldable pub failedIn : ℕ → ℕ → ℕ → FailedLine
-failedIn kind index k = if eqb kind 0 then failed-line.NoLine else failed-line.At (record { index = index; cause = causeIn kind k })
+failedIn kind index k = if eqb kind 0 then failed-line.NoLine else failed-line.At (record {
+  index = index;
+  cause = causeIn kind k;
+})

@@ -31,12 +31,14 @@ use Rattle.records.specs.Steps.{put, putAt}
 
 -- ---- the reader's promise
 
-read-refused : (g : Got Numbered) (r : NumberedScene) (n : ℕ) → r ≡ numberedAs g → r .judged ≡ judged.Fault n → code.Refused n ≡ solvedIn g
+read-refused : (g : Got Numbered) (r : NumberedScene) (n : ℕ) → r ≡ numberedAs g → r .judged ≡ judged.Fault n →
+    code.Refused n ≡ solvedIn g
 read-refused (refused m) r n e j =
     cc
 read-refused (got s at) r n e j = absurd (no-fault n (ap faultOf (sym (ap (λ (x : NumberedScene). x .judged) e) ∙ j)))
 
-read-solved : (g : Got Numbered) (r : NumberedScene) → r ≡ numberedAs g → r .judged ≡ judged.Fine → sceneAnswerAs (sceneOutcome (r .scene)) (sceneOrigin (r .scene)) ≡ solvedIn g
+read-solved : (g : Got Numbered) (r : NumberedScene) → r ≡ numberedAs g → r .judged ≡ judged.Fine →
+    sceneAnswerAs (sceneOutcome (r .scene)) (sceneOrigin (r .scene)) ≡ solvedIn g
 read-solved (refused m) r e j = absurd (no-fault m (ap faultOf (sym j ∙ ap (λ (x : NumberedScene). x .judged) e)))
 read-solved (got x at) r e j = ap (λ (y : NumberedScene). sceneAnswerAs (sceneOutcome (y .scene)) (sceneOrigin (y .scene))) e
 
@@ -56,7 +58,8 @@ module _ (bytes buffer : List ℕ) where
   unfolding answerTo sceneAnswer if_then_else_
   no-room-solved h = rw (lt-leb longestAnswer (length buffer) h)
 
-  room-solved : longestAnswer ≤ length buffer → (a : SceneAnswer) → a ≡ solvedIn (sceneIn bytes) → (l : List ℕ) → l ≡ laidAnswer (ofOutcome (outcomeOf a)) buffer .contents → solved a l ≡ sceneAnswerTo bytes buffer
+  room-solved : longestAnswer ≤ length buffer → (a : SceneAnswer) → a ≡ solvedIn (sceneIn bytes) → (l : List ℕ) →
+      l ≡ laidAnswer (ofOutcome (outcomeOf a)) buffer .contents → solved a l ≡ sceneAnswerTo bytes buffer
   unfolding answerTo answered sceneAnswer if_then_else_
   room-solved h a e l f = rw (le-leb longestAnswer (length buffer) h, outcome-read (sceneIn bytes), ← e, f)
 
@@ -64,7 +67,8 @@ module _ (bytes buffer : List ℕ) where
     pub refused-solved : (n : ℕ) → r .judged ≡ judged.Fault n → solved (code.Refused n) buffer ≡ sceneAnswerTo bytes buffer
     refused-solved n j = room-solved h (code.Refused n) (read-refused (sceneIn bytes) r n read j) buffer refl
 
-    pub outcome-solved : r .judged ≡ judged.Fine → (a : SceneAnswer) → a ≡ sceneAnswerAs (sceneOutcome (r .scene)) (sceneOrigin (r .scene))
+    pub outcome-solved : r .judged ≡ judged.Fine → (a : SceneAnswer) →
+        a ≡ sceneAnswerAs (sceneOutcome (r .scene)) (sceneOrigin (r .scene))
         → (l : List ℕ) → l ≡ laidAnswer (ofOutcome (outcomeOf a)) buffer .contents → solved a l ≡ sceneAnswerTo bytes buffer
     outcome-solved j a e l f = room-solved h a (e ∙ read-solved (sceneIn bytes) r read j) l f
 
@@ -74,35 +78,43 @@ abbrev pub faultIn : SceneAnswer → Fault
 faultIn (code.Outcome outcome x y f n o) = fine
 faultIn (code.Refused r) = fault r
 
-laid-told : (a : SceneAnswer) (buffer : List ℕ) → longestAnswer ≤ length buffer → laidAnswer (ofOutcome (outcomeOf a)) buffer .told ≡ faultIn a
+laid-told : (a : SceneAnswer) (buffer : List ℕ) → longestAnswer ≤ length buffer →
+    laidAnswer (ofOutcome (outcomeOf a)) buffer .told ≡ faultIn a
 unfolding answerBytes bigEndian
-laid-told (code.Outcome outcome x y f n o) buffer h = ap (λ (w : Written). w .told) (laid-there (answerBytes (answerOf outcome (vec x y) (failedOf f) n)) buffer h)
+laid-told (code.Outcome outcome x y f n o) buffer h =
+    ap (λ (w : Written). w .told) (laid-there (answerBytes (answerOf outcome (vec x y) (failedOf f) n)) buffer h)
 laid-told (code.Refused r) buffer h = refl
 
 module _ (bytes buffer : List ℕ) where
-  told-by-room : (b : Bool) → leb longestAnswer (length buffer) ≡ b → answerTo bytes buffer .told ≡ faultIn (sceneAnswer bytes buffer)
+  told-by-room : (b : Bool) → leb longestAnswer (length buffer) ≡ b → answerTo bytes buffer .told
+      ≡ faultIn (sceneAnswer bytes buffer)
   unfolding answerTo answered sceneAnswer if_then_else_
-  told-by-room true e = rw (e, outcome-read (sceneIn bytes)) (laid-told (solvedIn (sceneIn bytes)) buffer (leb-true longestAnswer (length buffer) e))
+  told-by-room true e = rw (e, outcome-read (sceneIn bytes)) (laid-told (solvedIn (sceneIn bytes)) buffer
+      (leb-true longestAnswer (length buffer) e))
   told-by-room false e = rw e
 
   faults-told : answerTo bytes buffer .told ≡ faultIn (sceneAnswer bytes buffer)
   faults-told = told-by-room (leb longestAnswer (length buffer)) refl
 
-  pub forgotten : (a : SceneAnswer) (l : List ℕ) → solved a l ≡ sceneAnswerTo bytes buffer → written (faultIn a) l ≡ answerTo bytes buffer
+  pub forgotten : (a : SceneAnswer) (l : List ℕ) → solved a l ≡ sceneAnswerTo bytes buffer → written (faultIn a) l
+      ≡ answerTo bytes buffer
   forgotten a l e =
       ap (λ (s : Solved). written (faultIn (s .told)) (s .contents)) e
       ∙ ap (λ (f : Fault). written f (answerTo bytes buffer .contents)) (sym faults-told)
 
 -- ---- the reply's bytes
 
-laid-outcome : (a : Answered) (out l : List ℕ) → longestAnswer ≤ length out → written fine l ≡ laidAnswer a out → put longestAnswer l ≡ putAt 0 (replyBytes a) out
+laid-outcome : (a : Answered) (out l : List ℕ) → longestAnswer ≤ length out → written fine l ≡ laidAnswer a out →
+    put longestAnswer l ≡ putAt 0 (replyBytes a) out
 unfolding answerBytes bigEndian
 laid-outcome (answer a) out l h e = ap (λ (w : Written). put longestAnswer (w .contents)) (e ∙ laid-there (answerBytes a) out h)
 laid-outcome (refusal r) out l h e = absurd (no-fault r (ap (λ (w : Written). w .told) e))
 
-laid-refusal : (a : Answered) (n : ℕ) (f : Fault) (out l m : List ℕ) → longestAnswer ≤ length out → written (fault n) l ≡ laidAnswer a out → written f m ≡ laid (refusalBytes n) l → put 4 m ≡ putAt 0 (replyBytes a) out
+laid-refusal : (a : Answered) (n : ℕ) (f : Fault) (out l m : List ℕ) → longestAnswer ≤ length out → written (fault n) l
+    ≡ laidAnswer a out → written f m ≡ laid (refusalBytes n) l → put 4 m ≡ putAt 0 (replyBytes a) out
 unfolding answerBytes refusalBytes bigEndian
-laid-refusal (answer a) n f out l m h e w = absurd (no-fault n (sym (ap (λ (x : Written). x .told) (e ∙ laid-there (answerBytes a) out h))))
+laid-refusal (answer a) n f out l m h e w =
+    absurd (no-fault n (sym (ap (λ (x : Written). x .told) (e ∙ laid-there (answerBytes a) out h))))
 laid-refusal (refusal r) n f out l m h e w =
     let number : n ≡ r = (let z : _≡_ {A = Fault} (fault n) (fault r) = ap (λ (x : Written). x .told) e in cc) in
     let same : l ≡ out = ap (λ (x : Written). x .contents) e in
@@ -114,7 +126,8 @@ module _ (bytes out l : List ℕ) (h : longestAnswer ≤ length out) where
   unfolding replyTo
   replied e = laid-outcome (answered bytes) out l h (e ∙ some-room bytes out h)
 
-  pub replied-refusal : (n : ℕ) (f : Fault) (m : List ℕ) → written (fault n) l ≡ answerTo bytes out → written f m ≡ laid (refusalBytes n) l → put 4 m ≡ putAt 0 (replyTo bytes) out
+  pub replied-refusal : (n : ℕ) (f : Fault) (m : List ℕ) → written (fault n) l ≡ answerTo bytes out →
+      written f m ≡ laid (refusalBytes n) l → put 4 m ≡ putAt 0 (replyTo bytes) out
   unfolding replyTo
   replied-refusal n f m e w = laid-refusal (answered bytes) n f out l m h (e ∙ some-room bytes out h) w
 
@@ -136,12 +149,15 @@ answer-untouched (refusal r) buffer = told-untouched r buffer
 
 answered-untouched : (bytes buffer : List ℕ) → Untouched buffer (answerTo bytes buffer)
 unfolding answerTo
-answered-untouched bytes buffer = if-all (Untouched buffer) (leb longestAnswer (length buffer)) (answer-untouched (answered bytes) buffer) (told-untouched 10 buffer)
+answered-untouched bytes buffer = if-all (Untouched buffer) (leb longestAnswer (length buffer))
+    (answer-untouched (answered bytes) buffer) (told-untouched 10 buffer)
 
 -- Where a record is refused, the buffer holds what it held.
-pub refused-untouched : (bytes buffer : List ℕ) (n : ℕ) → answerTo bytes buffer .told ≡ fault n → answerTo bytes buffer .contents ≡ buffer
+pub refused-untouched : (bytes buffer : List ℕ) (n : ℕ) → answerTo bytes buffer .told ≡ fault n →
+    answerTo bytes buffer .contents ≡ buffer
 refused-untouched bytes buffer n e = answered-untouched bytes buffer .stays n e
 
 -- So it does where the answer with its failure is a refusal.
-pub refused-scene-untouched : (bytes buffer : List ℕ) (n : ℕ) → sceneAnswer bytes buffer ≡ code.Refused n → sceneAnswerTo bytes buffer .contents ≡ buffer
+pub refused-scene-untouched : (bytes buffer : List ℕ) (n : ℕ) → sceneAnswer bytes buffer ≡ code.Refused n →
+    sceneAnswerTo bytes buffer .contents ≡ buffer
 refused-scene-untouched bytes buffer n e = refused-untouched bytes buffer n (faults-told bytes buffer ∙ ap faultIn e)

@@ -18,6 +18,8 @@ module _ (left : ℕ) (out : List ℕ) where
   unfolding lastAnswer if_then_else_
   nothing-left e = rw (eq-eqb left 0 e)
 
-  pub some-left : (left ≡ 0 → ⊥) → longestAnswer ≤ length out → (f : Fault) (l : List ℕ) → written f l ≡ laid (refusalBytes 2) out → put 4 l ≡ putAt 0 (lastAnswer left) out
+  pub some-left : (left ≡ 0 → ⊥) → longestAnswer ≤ length out → (f : Fault) (l : List ℕ) →
+      written f l ≡ laid (refusalBytes 2) out → put 4 l ≡ putAt 0 (lastAnswer left) out
   unfolding lastAnswer if_then_else_ refusalBytes bigEndian
-  some-left some h f l w = rw (ne-eqb left 0 some) (ap (λ (x : Written). put 4 (x .contents)) (w ∙ laid-there (refusalBytes 2) out (omega arith)))
+  some-left some h f l w = rw (ne-eqb left 0 some) (ap (λ (x : Written). put 4 (x .contents)) (w
+      ∙ laid-there (refusalBytes 2) out (omega arith)))

@@ -77,9 +77,12 @@ module _ (s out : List ℕ) (p : Place) (room : longestAnswer ≤ length out - p
         same =
             ap (after (p .used) (take (p .put) out)) e
             ∙ after-after (p .used) k (take (p .put) out) r _
-            ∙ ap (λ (l : List ℕ). after (p .used + k) (take (p .put) out ++ r) (worked (bytes (length out - p .put - length r)) skip l)) (drop-drop k (p .used) s)
+            ∙ ap (λ (l : List ℕ). after (p .used + k) (take (p .put) out ++ r)
+            (worked (bytes (length out - p .put - length r)) skip l)) (drop-drop k (p .used) s)
             ∙ ap (λ (n : ℕ). after (p .used + k) (take (p .put) out ++ r) (worked (bytes n) skip (drop (p .used + k) s))) left
-            ∙ ap (λ (x : List ℕ). after (p .used + k) x (worked (bytes (length (putAt (p .put) r out .contents) - (p .put + length r))) skip (drop (p .used + k) s))) (sym (put-front (p .put) r out fit));
+            ∙ ap (λ (x : List ℕ). after (p .used + k) x
+            (worked (bytes (length (putAt (p .put) r out .contents) - (p .put + length r))) skip
+            (drop (p .used + k) s))) (sym (put-front (p .put) r out fit));
       }
 
   -- bytes skipped
@@ -95,26 +98,33 @@ module _ (s out : List ℕ) (p : Place) (room : longestAnswer ≤ length out - p
         fits = omega arith;
         sized = refl;
         behind = refl;
-        same = ap (after (p .used) (take (p .put) out)) e ∙ after-after (p .used) k (take (p .put) out) [] _ ∙ rw (append-nil, drop-drop);
+        same = ap (after (p .used) (take (p .put) out)) e ∙ after-after (p .used) k (take (p .put) out) [] _
+            ∙ rw (append-nil, drop-drop);
       }
 
   module _ (q : Part) (e : partIn (p .skip) (drop (p .used) s) ≡ q) where
     with-part : leftAt s out p ≡ onward worked (bytes (length out - p .put)) (p .skip) (drop (p .used) s) q
     unfolding if_then_else_
-    with-part = work-on (bytes (length out - p .put)) (p .skip) (drop (p .used) s) ∙ rw (le-leb longestAnswer (length out - p .put) room, e)
+    with-part = work-on (bytes (length out - p .put)) (p .skip) (drop (p .used) s)
+        ∙ rw (le-leb longestAnswer (length out - p .put) room, e)
 
-  by-part : (q : Part) → Lies (p .skip) (drop (p .used) s) q → partIn (p .skip) (drop (p .used) s) ≡ q → Does s out p (stepBy s out p q)
+  by-part : (q : Part) → Lies (p .skip) (drop (p .used) s) q → partIn (p .skip) (drop (p .used) s) ≡ q →
+      Does s out p (stepBy s out p q)
   unfolding refusalBytes bigEndian
   by-part cutShort (none few) e = halts (with-part cutShort e)
   by-part (skipped k) (skips one fits there) e = advances (skipped-advance k one there (with-part (skipped k) e))
-  by-part (overlong n) (names z two far f) e = advances (answered-advance 2 n (refusalBytes 4) (omega arith) two (omega arith) (with-part (overlong n) e))
-  by-part (whole k) (holds z two near there f) e = advances (answered-advance k 0 (replyTo (take k (drop (p .used) s))) (omega arith) there (reply-length (take k (drop (p .used) s))) (with-part (whole k) e))
+  by-part (overlong n) (names z two far f) e =
+      advances (answered-advance 2 n (refusalBytes 4) (omega arith) two (omega arith) (with-part (overlong n) e))
+  by-part (whole k) (holds z two near there f) e =
+      advances (answered-advance k 0 (replyTo (take k (drop (p .used) s))) (omega arith) there
+      (reply-length (take k (drop (p .used) s))) (with-part (whole k) e))
 
 pub does : (s out : List ℕ) (p : Place) → p .used ≤ length s → Does s out p (stepOver s out p)
 unfolding stepOver if_then_else_
 does s out p h =
     if-case (Does s out p) (leb longestAnswer (length out - p .put))
-    (λ room. by-part s out p (leb-true longestAnswer (length out - p .put) room) h (partIn (p .skip) (drop (p .used) s)) (lies (p .skip) (drop (p .used) s)) refl)
+    (λ room. by-part s out p (leb-true longestAnswer (length out - p .put) room) h (partIn (p .skip) (drop (p .used) s))
+    (lies (p .skip) (drop (p .used) s)) refl)
     (λ full. halts (work-on (bytes (length out - p .put)) (p .skip) (drop (p .used) s) ∙ rw full))
 
 -- ---- the end of the loop
@@ -125,7 +135,8 @@ drop-more m n a b h e =
     rw all at (sym (drop-drop (n - m) m a) ∙ ap (drop (n - m)) e ∙ drop-drop (n - m) m b)
 
 -- where nothing is left to work, what was done is what the whole work comes to
-finished : (s out held : List ℕ) (skip : ℕ) (p : Place) → p .put ≤ length held → drop (p .put) held ≡ drop (p .put) out → worked (bytes (length out)) skip s ≡ doneAt s held p →
+finished : (s out held : List ℕ) (skip : ℕ) (p : Place) → p .put ≤ length held → drop (p .put) held ≡ drop (p .put) out
+    → worked (bytes (length out)) skip s ≡ doneAt s held p →
     leftAt s held p ≡ stopped (p .skip) → standing p held ≡ workedOver s out skip
 unfolding workedOver
 finished s out held skip p fits behind same nothing =

@@ -25,11 +25,14 @@ use Rattle.records.specs.Numbers.{linesFrom, numberStands, SameButNumber
 use Rattle.records.proofs.PlaceLaws.{kept-told, cart-kept, count-kept, obstacles-kept, word-same, Both, Equal, both-refused, both-got, guard-both, then-both, then-equal, word-there, word-both, neighbour-both}
 
 -- Records of whichever versions that differ in their neighbours' numbers alone get the same reply.
-pub numbers-do-not-matter : (s t : List ℕ) (v w : Version) (p q : SceneParts) (m k : ℕ) → partsIn v s ≡ got p m → partsIn w t ≡ got q k
-    → p .cart ≡ q .cart → p .obstacles ≡ q .obstacles → map lineOf (p .neighbours) ≡ map lineOf (q .neighbours) → replyTo s ≡ replyTo t
+pub numbers-do-not-matter : (s t : List ℕ) (v w : Version) (p q : SceneParts) (m k : ℕ) → partsIn v s ≡ got p m →
+    partsIn w t ≡ got q k
+    → p .cart ≡ q .cart → p .obstacles ≡ q .obstacles → map lineOf (p .neighbours) ≡ map lineOf (q .neighbours) →
+    replyTo s ≡ replyTo t
 unfolding replyTo answered
 numbers-do-not-matter s t v w p q m k e f cart obstacles lines =
-    let many : length (p .neighbours) ≡ length (q .neighbours) = sym (length-map (p .neighbours) lineOf) ∙ ap length lines ∙ length-map (q .neighbours) lineOf in
+    let many : length (p .neighbours) ≡ length (q .neighbours) = sym (length-map (p .neighbours) lineOf)
+    ∙ ap length lines ∙ length-map (q .neighbours) lineOf in
     let same : numberedOf p .scene ≡ numberedOf q .scene = rw (cart, obstacles, lines, many) in
     rw (parts-read s v p m e, parts-read t w q k f) (ap (λ (c : Scene). replyBytes (ofOutcome (sceneOutcome c))) same)
 
@@ -72,17 +75,20 @@ module _ (s t : List ℕ) (long : length s ≡ length t) where
 
   -- the same lines up to the place `at`, where both records end or neither
   ended-both : (c : Cart) (n : ℕ) (os : List Obstacle) (m : ℕ) (ls ks : List NumberedLine) (at : ℕ) → SameLines ls ks →
-      Both SameScene at (then (ended s at) λ u h. got (sceneMade c n os m ls) h) (then (ended t at) λ u h. got (sceneMade c n os m ks) h)
+      Both SameScene at (then (ended s at) λ u h. got (sceneMade c n os m ls) h) (then (ended t at) λ u h.
+      got (sceneMade c n os m ks) h)
   unfolding ended
   ended-both c n os m ls ks at lines =
       rw (← long) (by (eqb at (length s)))
     where
-      by : (b : Bool) → Both SameScene at (then (guard b 2 (got (tt {0}) at)) λ u h. got (sceneMade c n os m ls) h) (then (guard b 2 (got (tt {0}) at)) λ u h. got (sceneMade c n os m ks) h)
+      by : (b : Bool) → Both SameScene at (then (guard b 2 (got (tt {0}) at)) λ u h. got (sceneMade c n os m ls) h)
+          (then (guard b 2 (got (tt {0}) at)) λ u h. got (sceneMade c n os m ks) h)
       by true = both-got {a = sceneMade c n os m ls} {b = sceneMade c n os m ks} (rw lines)
       by false = both-refused
 
   -- the fields behind the version, whose lines begin at `from`
-  module _ (m from : ℕ) (begins : linesFrom s ≡ got m from) (same : (i : ℕ) → numberStands (got m from) i ≡ false → getD s i 0 ≡ getD t i 0) where
+  module _ (m from : ℕ) (begins : linesFrom s ≡ got m from) (same : (i : ℕ) → numberStands (got m from) i ≡ false →
+      getD s i 0 ≡ getD t i 0) where
     same-before : (i : ℕ) → i < from → getD s i 0 ≡ getD t i 0
     unfolding numberStands
     same-before i h = same i (rw (lt-leb from i h))
@@ -91,7 +97,8 @@ module _ (s t : List ℕ) (long : length s ≡ length t) where
     unfolding numberStands
     same-in-line j i below low high =
         let part : (from + (20 * j + i) - from) % 20 ≡ i = omega arith in
-        same (from + (20 * j + i)) (rw (part, le-ltb i 4 low) (and-false (leb from (from + (20 * j + i))) (ltb (from + (20 * j + i)) (from + 20 * m))))
+        same (from + (20 * j + i)) (rw (part, le-ltb i 4 low) (and-false (leb from (from + (20 * j + i)))
+        (ltb (from + (20 * j + i)) (from + 20 * m))))
       where
         and-false : (a b : Bool) → (a && b && false) ≡ false
         and-false true true = refl
@@ -110,8 +117,18 @@ module _ (s t : List ℕ) (long : length s ≡ length t) where
         let k4 = kept-told (count-kept s t long from same-before 64 e) read-ls in
         let u2 = k2 .0 in let u3 = k3 .0 in let u4 = k4 .0 in (
           omega (arith, k1 .0),
-          rw (read-cart, read-os, list-os, read-ls, k1 .1 (omega arith), k2 .1 (omega arith), k3 .1 (omega arith), k4 .1 (omega arith))
-              (then-both {Q = SameScene} {n = from + 20 * m} _ _ (lines-both m from same-in-line) (λ ls ks. ended-both c n os m ls ks (from + 20 * m))),
+          rw (
+            read-cart,
+            read-os,
+            list-os,
+            read-ls,
+            k1 .1 (omega arith),
+            k2 .1 (omega arith),
+            k3 .1 (omega arith),
+            k4 .1 (omega arith),
+          )
+              (then-both {Q = SameScene} {n = from + 20 * m} _ _ (lines-both m from same-in-line)
+              (λ ls ks. ended-both c n os m ls ks (from + 20 * m))),
         )
 
     announced-both : 3 ≤ from → Both Equal 2 (announced longestEither s) (announced longestEither t)
@@ -139,6 +156,8 @@ unfolding replyTo answered numberStands
 numbers-change-nothing s t byte alike = go (linesFrom s) refl
   where
     go : (g : Got ℕ) → linesFrom s ≡ g → replyBytes (ofReading (sceneIn s)) ≡ replyBytes (ofReading (sceneIn t))
-    go (refused r) e = ap (λ (x : List ℕ). replyBytes (ofReading (sceneIn x))) (ext-getD 0 s t (alike .long) (λ i h. alike .elsewhere i (rw e refl)))
+    go (refused r) e = ap (λ (x : List ℕ). replyBytes (ofReading (sceneIn x)))
+        (ext-getD 0 s t (alike .long) (λ i h. alike .elsewhere i (rw e refl)))
     go (got m from) e =
-        ap replyBytes (both-answered s t (alike .long) (scene-both s t (alike .long) m from e (λ i h. alike .elsewhere i (rw e h)) byte))
+        ap replyBytes (both-answered s t (alike .long)
+        (scene-both s t (alike .long) m from e (λ i h. alike .elsewhere i (rw e h)) byte))

@@ -43,7 +43,8 @@ pattern-whole : (x : Float) → fits binary32 x ≡ true → toBits binary32 x %
 pattern-whole x h = mod-eq-of-lt (toBits-lt binary32 x (rw h tt))
 
 -- so its pattern is its bits, those of the quiet NaN too
-pattern-by : (x : Float) → fits binary32 x ≡ true → (b : Bool) → isNan x ≡ b → (if b then 0x7FC0_0000 else toBits binary32 x % 2 ^ 32) ≡ toBits binary32 x
+pattern-by : (x : Float) → fits binary32 x ≡ true → (b : Bool) → isNan x ≡ b →
+    (if b then 0x7FC0_0000 else toBits binary32 x % 2 ^ 32) ≡ toBits binary32 x
 unfolding if_then_else_
 pattern-by x h true n = nan-pattern x n
 pattern-by x h false n = pattern-whole x h
@@ -65,12 +66,16 @@ module _ (c : Scene) (fair : sceneFault c ≡ fine) (code : ℕ) (p : Vec2) (f :
   second-few : (m : ℕ) → m ≤ 16777216 → (o : Outcome) → o ≡ passAt c atRest → secondPass m o ≡ outcome code p f n → n ≤ 33554432
   second-few m h (stands (solving q) g k) z e = let s = same-probes 3 (m + k) q g e in omega (arith, pass-fits c atRest fair z)
   second-few m h (stands (relaxing q d) g k) z e = let s = same-probes 4 (m + k) q g e in omega (arith, pass-fits c atRest fair z)
-  second-few m h (stands (rigidFailure i q) g k) z e = let s = same-probes 5 (m + k) q g e in omega (arith, pass-fits c atRest fair z)
+  second-few m h (stands (rigidFailure i q) g k) z e =
+      let s = same-probes 5 (m + k) q g e in
+      omega (arith, pass-fits c atRest fair z)
   second-few m h (refusal r) z e = absurd (let y : _≡_ {A = ℕ} 0 1 = cc in omega arith)
 
   first-few : (o : Outcome) → o ≡ passAt c (c .agent .velocity) → firstPass c o ≡ outcome code p f n → n ≤ 33554432
   first-few (stands (solving q) g k) z e = let s = same-probes 1 k q g e in omega (arith, pass-fits c (c .agent .velocity) fair z)
-  first-few (stands (relaxing q d) g k) z e = let s = same-probes 2 k q g e in omega (arith, pass-fits c (c .agent .velocity) fair z)
+  first-few (stands (relaxing q d) g k) z e =
+      let s = same-probes 2 k q g e in
+      omega (arith, pass-fits c (c .agent .velocity) fair z)
   first-few (stands (rigidFailure i q) g k) z e = second-few k (pass-fits c (c .agent .velocity) fair z) (passAt c atRest) refl e
   first-few (refusal r) z e = absurd (let y : _≡_ {A = ℕ} 0 1 = cc in omega arith)
 
@@ -84,7 +89,8 @@ told-code : {c : Scene} {code : ℕ} {p : Vec2} {f : Failed} {n : ℕ} → Told 
 told-code (answered h) = h
 
 -- Where a record is read and its scene solved, the answer reader reads that outcome.
-pub outcome-taken : (s : List ℕ) (x : Numbered) (m code : ℕ) (p : Vec2) (f : Failed) (n : ℕ) → sceneIn s ≡ got x m → sceneOutcome (x .scene) ≡ outcome code p f n
+pub outcome-taken : (s : List ℕ) (x : Numbered) (m code : ℕ) (p : Vec2) (f : Failed) (n : ℕ) → sceneIn s ≡ got x m →
+    sceneOutcome (x .scene) ≡ outcome code p f n
     → answerIn (one.replyTo s) ≡ said.outcome (one.answerOf code p f n)
 unfolding one.replyTo one.answered
 outcome-taken s x m code p f n z e =

@@ -28,9 +28,12 @@ lies skip l =
     (λ t. skips (omega (arith, eqb-false (length l) 0 e)) (omega (arith, ltb-true (length l) skip t)) (omega arith))
     (λ t. skips (omega (arith, ltb-true 0 skip some)) (omega arith) (omega (arith, ltb-false (length l) skip t)))))
     (λ done. if-case (Lies skip l) (ltb (length l) 2) (λ t. none (omega (arith, ltb-true (length l) 2 t)))
-    (λ two. if-case (Lies skip l) (ltb longestEither (pairOf l 0)) (λ t. names (ltb-false 0 skip done) (ltb-false (length l) 2 two) (ltb-true longestEither (pairOf l 0) t) refl)
-    (λ t. if-case (Lies skip l) (ltb (length l) (2 + pairOf l 0)) (λ u. none (omega (arith, ltb-false longestEither (pairOf l 0) t, ltb-true (length l) (2 + pairOf l 0) u)))
-    (λ u. holds (ltb-false 0 skip done) (omega arith) (omega (arith, ltb-false longestEither (pairOf l 0) t)) (ltb-false (length l) (2 + pairOf l 0) u) refl))))
+    (λ two. if-case (Lies skip l) (ltb longestEither (pairOf l 0))
+    (λ t. names (ltb-false 0 skip done) (ltb-false (length l) 2 two) (ltb-true longestEither (pairOf l 0) t) refl)
+    (λ t. if-case (Lies skip l) (ltb (length l) (2 + pairOf l 0))
+    (λ u. none (omega (arith, ltb-false longestEither (pairOf l 0) t, ltb-true (length l) (2 + pairOf l 0) u)))
+    (λ u. holds (ltb-false 0 skip done) (omega arith) (omega (arith, ltb-false longestEither (pairOf l 0) t))
+    (ltb-false (length l) (2 + pairOf l 0) u) refl))))
 
 -- the same of a part that is known
 pub skip-lies : {skip k : ℕ} {l : List ℕ} → Lies skip l (skipped k) → (1 ≤ k) × (k ≤ skip) × (k ≤ length l)
@@ -70,4 +73,11 @@ module _ (skip : ℕ) (a b : List ℕ) where
   whole-stays {k} (holds z two near there e) =
       let more : k ≤ length (a ++ b) = rw length-append (omega arith) in
       let low : pairOf a 0 ≤ longestEither = omega arith in
-      rw (le-ltb 0 skip z, le-ltb (length (a ++ b)) 2 (omega arith), same-length-field a b (omega arith), le-ltb longestEither (pairOf a 0) low, ← e, le-ltb (length (a ++ b)) k more)
+      rw (
+        le-ltb 0 skip z,
+        le-ltb (length (a ++ b)) 2 (omega arith),
+        same-length-field a b (omega arith),
+        le-ltb longestEither (pairOf a 0) low,
+        ← e,
+        le-ltb (length (a ++ b)) k more,
+      )

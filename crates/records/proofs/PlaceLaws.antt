@@ -27,7 +27,8 @@ pub part-same : (s t : List ℕ) (at w : ℕ) → length s ≡ length t → ((i 
     take w (drop at s) ≡ take w (drop at t)
 part-same s t at w long same =
     let few : length (take w (drop at s)) ≤ w = rw length-take (omega arith) in
-    ext-getD 0 (take w (drop at s)) (take w (drop at t)) (length-take w (drop at s) ∙ rw (length-drop at s, long, ← length-drop at t) (sym (length-take w (drop at t)))) (λ i h.
+    ext-getD 0 (take w (drop at s)) (take w (drop at t)) (length-take w (drop at s)
+    ∙ rw (length-drop at s, long, ← length-drop at t) (sym (length-take w (drop at t)))) (λ i h.
     let k : i < w = omega arith in
     rw (getD-take w (drop at s) i 0 k, getD-drop at s i 0, getD-take w (drop at t) i 0 k, getD-drop at t i 0) (same i k))
 
@@ -44,7 +45,8 @@ pub data Kept {A : Type 0} (most at : ℕ) : Got A → Got A → Type 0 where
   kept-refused : {r : ℕ} {g : Got A} → Kept most at (refused r) g
   kept-got : {a : A} {m : ℕ} {g : Got A} → at ≤ m → (m ≤ most → g ≡ got a m) → Kept most at (got a m) g
 
-pub kept-told : {A : Type 0} {most at : ℕ} {g h : Got A} {a : A} {m : ℕ} → Kept most at g h → g ≡ got a m → (at ≤ m) × (m ≤ most → h ≡ got a m)
+pub kept-told : {A : Type 0} {most at : ℕ} {g h : Got A} {a : A} {m : ℕ} → Kept most at g h → g ≡ got a m →
+    (at ≤ m) × (m ≤ most → h ≡ got a m)
 kept-told k e = told (rw e at k)
   where
     told : {A : Type 0} {most at : ℕ} {h : Got A} {a : A} {m : ℕ} → Kept most at (got a m) h → (at ≤ m) × (m ≤ most → h ≡ got a m)
@@ -55,7 +57,8 @@ module _ {B : Type 0} {most at : ℕ} where
   onward le kept-refused e = kept-refused
   onward {m} le (kept-got {a} {m = n} more f) e = kept-got {a = a} {m = n} (omega arith) (λ within. e (omega arith) ∙ f within)
 
-  pub then-kept : {A : Type 0} {g h : Got A} (f k : A → ℕ → Got B) → Kept most at g h → ((a : A) (m : ℕ) → Kept most m (f a m) (k a m)) → Kept most at (then g f) (then h k)
+  pub then-kept : {A : Type 0} {g h : Got A} (f k : A → ℕ → Got B) → Kept most at g h →
+      ((a : A) (m : ℕ) → Kept most m (f a m) (k a m)) → Kept most at (then g f) (then h k)
   then-kept f k kept-refused next = kept-refused
   then-kept {A} f k (kept-got {a} {m} le e) next = onward le (next a m) (λ within. ap (λ (x : Got A). then x k) (e within))
 
@@ -67,7 +70,8 @@ module _ {A : Type 0} {most at : ℕ} where
   pub given : {a : A} → Kept most at (got a at) (got a at)
   given = kept-got {m = at} (omega arith) (λ within. refl)
 
-pub many-kept : {A S : Type 0} {most : ℕ} (one two : S → ℕ → Got A) (on : S → A → S) → ((state : S) (at : ℕ) → Kept most at (one state at) (two state at)) →
+pub many-kept : {A S : Type 0} {most : ℕ} (one two : S → ℕ → Got A) (on : S → A → S) →
+    ((state : S) (at : ℕ) → Kept most at (one state at) (two state at)) →
     (n : ℕ) (state : S) (at : ℕ) → Kept most at (many one on n state at) (many two on n state at)
 unfolding many
 many-kept one two on step zero state at = given
@@ -79,7 +83,8 @@ module _ (s t : List ℕ) (long : length s ≡ length t) (most : ℕ) (same : (i
   word-kept : (w at : ℕ) → Kept most at (word w s at) (word w t at)
   unfolding word
   word-kept w at = rw (← long) (guard-kept (leb (at + w) (length s)) 2 (kept-got (omega arith) (λ within.
-      ap (λ (l : List ℕ). got (bigEndianNumber l) (at + w)) (sym (part-same s t at w long (λ i h. same (at + i) (omega arith)))))))
+      ap (λ (l : List ℕ). got (bigEndianNumber l) (at + w))
+      (sym (part-same s t at w long (λ i h. same (at + i) (omega arith)))))))
 
   number-kept : (passes : Float → Bool) (at : ℕ) → Kept most at (number passes s at) (number passes t at)
   unfolding number
@@ -117,7 +122,8 @@ module _ (s t : List ℕ) (long : length s ≡ length t) (most : ℕ) (same : (i
 
   outline-kept : (h : Head) (at : ℕ) → Kept most at (outline s h at) (outline t h at)
   unfolding outline verticesAt
-  outline-kept h at = then-kept _ _ (many-kept (vertex s) (vertex t) onVertex vertex-kept (h .count) noneBefore at) λ vs b. guard-kept (closes (h .kind) vs) 14 given
+  outline-kept h at = then-kept _ _ (many-kept (vertex s) (vertex t) onVertex vertex-kept (h .count) noneBefore at) λ vs
+      b. guard-kept (closes (h .kind) vs) 14 given
 
   obstacle-kept : (total at : ℕ) → Kept most at (obstacle s total at) (obstacle t total at)
   unfolding obstacle
@@ -143,12 +149,14 @@ module _ {A : Type 0} {R : A → A → Type 0} {m : ℕ} where
   guard-both false r k = both-refused
 
 module _ {A B : Type 0} {R : A → A → Type 0} {Q : B → B → Type 0} {m n : ℕ} where
-  pub then-both : {g h : Got A} (f k : A → ℕ → Got B) → Both R m g h → ((a b : A) → R a b → Both Q n (f a m) (k b m)) → Both Q n (then g f) (then h k)
+  pub then-both : {g h : Got A} (f k : A → ℕ → Got B) → Both R m g h → ((a b : A) → R a b → Both Q n (f a m) (k b m)) →
+      Both Q n (then g f) (then h k)
   then-both f k both-refused next = both-refused
   then-both f k (both-got {a} {b} e) next = next a b e
 
 module _ {A B : Type 0} {Q : B → B → Type 0} {m n : ℕ} where
-  pub then-equal : {g h : Got A} (f k : A → ℕ → Got B) → Both Equal m g h → ((a : A) → Both Q n (f a m) (k a m)) → Both Q n (then g f) (then h k)
+  pub then-equal : {g h : Got A} (f k : A → ℕ → Got B) → Both Equal m g h → ((a : A) → Both Q n (f a m) (k a m)) →
+      Both Q n (then g f) (then h k)
   then-equal f k both next = then-both f k both (λ a b e. rw (← e) (next a))
 
 -- ---- a neighbour's line, sixteen bytes from a place on

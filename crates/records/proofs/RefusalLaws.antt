@@ -1,4 +1,5 @@
--- Every refusal of a record has a number from 1 to 10, or 14, and the answer reader takes the program's reply to it. Assumes nothing.
+-- Every refusal of a record has a number from 1 to 10, or 14, and the answer reader takes the program's reply to it.
+-- Assumes nothing.
 use Prim.Native.Nat.{ℕ, zero, suc, _+_, _-_, _≤_}
 use native.Mathlib.Omega.{arith}
 use mathlib.Core.Path.{_≡_, refl, sym, _∙_}
@@ -58,7 +59,8 @@ data NumberedReading {A : Type 0} : Got A → Type 0 where
   told : {r : ℕ} → Numbered r → NumberedReading (refused r)
   read : {a : A} {m : ℕ} → NumberedReading (got a m)
 
-then-numbered : {A B : Type 0} (g : Got A) (k : A → ℕ → Got B) → NumberedReading g → ((a : A) (m : ℕ) → NumberedReading (k a m)) → NumberedReading (then g k)
+then-numbered : {A B : Type 0} (g : Got A) (k : A → ℕ → Got B) → NumberedReading g →
+    ((a : A) (m : ℕ) → NumberedReading (k a m)) → NumberedReading (then g k)
 then-numbered (refused r) k (told h) f = told h
 then-numbered (got a m) k read f = f a m
 
@@ -66,30 +68,38 @@ guard-numbered : {A : Type 0} (t : Bool) (r : ℕ) (g : Got A) → Numbered r �
 guard-numbered true r g h f = f
 guard-numbered false r g h f = told h
 
-many-numbered : {A S : Type 0} (step : S → ℕ → Got A) (on : S → A → S) → ((state : S) (at : ℕ) → NumberedReading (step state at)) → (n : ℕ) (state : S) (at : ℕ) → NumberedReading (many step on n state at)
+many-numbered : {A S : Type 0} (step : S → ℕ → Got A) (on : S → A → S) →
+    ((state : S) (at : ℕ) → NumberedReading (step state at)) → (n : ℕ) (state : S) (at : ℕ) →
+    NumberedReading (many step on n state at)
 unfolding many
 many-numbered step on f zero state at = read
-many-numbered step on f (suc n) state at = then-numbered (step state at) _ (f state at) λ a m. then-numbered (many step on n (on state a) m) _ (many-numbered step on f n (on state a) m) λ rest k. read
+many-numbered step on f (suc n) state at =
+    then-numbered (step state at) _ (f state at) λ a m. then-numbered (many step on n (on state a) m) _
+    (many-numbered step on f n (on state a) m) λ rest k. read
 
 module _ (s : List ℕ) where
   word-numbered : (w at : ℕ) → NumberedReading (word w s at)
   unfolding word
   word-numbered w at = guard-numbered (leb (at + w) (length s)) 2 _ refl read
 
-  byte-numbered : {A : Type 0} (at : ℕ) (k : ℕ → ℕ → Got A) → ((x m : ℕ) → NumberedReading (k x m)) → NumberedReading (then (word 1 s at) k)
+  byte-numbered : {A : Type 0} (at : ℕ) (k : ℕ → ℕ → Got A) → ((x m : ℕ) → NumberedReading (k x m)) →
+      NumberedReading (then (word 1 s at) k)
   byte-numbered at k f = then-numbered (word 1 s at) k (word-numbered 1 at) f
 
   number-numbered : (passes : Float → Bool) (at : ℕ) → NumberedReading (number passes s at)
   unfolding number
-  number-numbered passes at = then-numbered (word 4 s at) _ (word-numbered 4 at) λ b a. guard-numbered (passes (ofBits binary32 b)) 6 _ refl read
+  number-numbered passes at = then-numbered (word 4 s at) _ (word-numbered 4 at) λ b a.
+      guard-numbered (passes (ofBits binary32 b)) 6 _ refl read
 
   vector-numbered : (passes : Float → Bool) (at : ℕ) → NumberedReading (vector passes s at)
   unfolding vector
-  vector-numbered passes at = then-numbered (number passes s at) _ (number-numbered passes at) λ x a. then-numbered (number passes s a) _ (number-numbered passes a) λ y b. read
+  vector-numbered passes at = then-numbered (number passes s at) _ (number-numbered passes at) λ x a.
+      then-numbered (number passes s a) _ (number-numbered passes a) λ y b. read
 
   vertex-numbered : (before : OuterVertex) (at : ℕ) → NumberedReading (vertex s before at)
   unfolding vertex
-  vertex-numbered before at = then-numbered (vector (within reach) s at) _ (vector-numbered (within reach) at) λ v a. guard-numbered (follows before v) 14 _ refl read
+  vertex-numbered before at = then-numbered (vector (within reach) s at) _ (vector-numbered (within reach) at) λ v a.
+      guard-numbered (follows before v) 14 _ refl read
 
   count-numbered : (most at : ℕ) → NumberedReading (count most s at)
   unfolding count
@@ -106,7 +116,8 @@ module _ (s : List ℕ) where
   obstacle-numbered total at =
       then-numbered (head s total at) _ (head-numbered total at) λ h a.
       then-numbered (outline s h a) _
-      (then-numbered (verticesAt s noneBefore (h .count) a) _ (many-numbered (vertex s) onVertex vertex-numbered (h .count) noneBefore a) λ vs b. guard-numbered (closes (h .kind) vs) 14 _ refl read)
+      (then-numbered (verticesAt s noneBefore (h .count) a) _ (many-numbered (vertex s) onVertex vertex-numbered
+      (h .count) noneBefore a) λ vs b. guard-numbered (closes (h .kind) vs) 14 _ refl read)
       λ vs b. read
 
   neighbour-numbered : (at : ℕ) → NumberedReading (neighbour s at)
@@ -127,7 +138,8 @@ module _ (s : List ℕ) where
 
   line-numbered : (v : Version) (at : ℕ) → NumberedReading (numberedLine v s at)
   unfolding numberedLine
-  line-numbered v at = then-numbered (lineNumber v s at) _ (line-number-numbered v at) λ n a. then-numbered (neighbour s a) _ (neighbour-numbered a) λ l b. read
+  line-numbered v at = then-numbered (lineNumber v s at) _ (line-number-numbered v at) λ n a.
+      then-numbered (neighbour s a) _ (neighbour-numbered a) λ l b. read
 
   lines-numbered : (v : Version) (n at : ℕ) → NumberedReading (numberedLines v s n at)
   unfolding numberedLines
@@ -147,7 +159,8 @@ module _ (s : List ℕ) where
   unfolding sceneIn announced eitherVersion behindVersion fieldsWith ended
   scene-numbered =
       then-numbered (announced longestEither s) _
-      (then-numbered (word 2 s 0) _ (word-numbered 2 0) λ n a. guard-numbered (leb n longestEither) 4 _ refl (guard-numbered (eqb n (length s - 2)) 2 _ refl read))
+      (then-numbered (word 2 s 0) _ (word-numbered 2 0) λ n a. guard-numbered (leb n longestEither) 4 _ refl
+      (guard-numbered (eqb n (length s - 2)) 2 _ refl read))
       λ u a.
       then-numbered (eitherVersion s a) _ (byte-numbered a _ λ v b. guard-numbered (isEither v) 1 _ refl read) λ v b.
       guard-numbered (leb (length s - 2) (longestOf v)) 4 _ refl (
@@ -166,15 +179,18 @@ refused-numbered (told h) = h
 same-number : (m r : ℕ) → one.refusal m ≡ one.refusal r → m ≡ r
 same-number m r e = cc
 
-solve-numbered : (c : Scene) → sceneFault c ≡ fine → (o : SceneOutcome) → Told c o → (r : ℕ) → one.ofOutcome o ≡ one.refusal r → Numbered r
+solve-numbered : (c : Scene) → sceneFault c ≡ fine → (o : SceneOutcome) → Told c o → (r : ℕ) →
+    one.ofOutcome o ≡ one.refusal r → Numbered r
 solve-numbered c f (outcome code p l n) (answered h) r e = absurd (let z : _≡_ {A = ℕ} 0 1 = cc in omega arith)
 solve-numbered c f (refusedScene m) (at-fault g) r e = absurd (no-fault m (sym f ∙ g))
 solve-numbered c f (refusedScene m) (by-edge nine g h) r e = rw (← same-number m r e, nine)
 solve-numbered c f (refusedScene m) (by-edge-at-rest nine g h) r e = rw (← same-number m r e, nine)
 
-reading-numbered : (s : List ℕ) (g : Got NumberedSceneRead) → sceneIn s ≡ g → NumberedReading g → (r : ℕ) → one.ofReading g ≡ one.refusal r → Numbered r
+reading-numbered : (s : List ℕ) (g : Got NumberedSceneRead) → sceneIn s ≡ g → NumberedReading g → (r : ℕ) →
+    one.ofReading g ≡ one.refusal r → Numbered r
 reading-numbered s (refused m) z h r e = rw (← same-number m r e) (refused-numbered h)
-reading-numbered s (got x m) z h r e = solve-numbered (x .scene) (read-admitted s x m z) (sceneOutcome (x .scene)) (scene-told (x .scene)) r e
+reading-numbered s (got x m) z h r e =
+    solve-numbered (x .scene) (read-admitted s x m z) (sceneOutcome (x .scene)) (scene-told (x .scene)) r e
 
 -- A record's refusal has a number from 1 to 10, or 14 ..
 pub refusal-numbered : (s : List ℕ) (r : ℕ) → one.answered s ≡ one.refusal r → ((1 ≤ r) × (r ≤ 10)) ⊎ (r ≡ 14)

@@ -38,7 +38,8 @@ accepted-long s c m e =
 
 -- ---- an answer has at most two bytes for each of its record
 
-reading-sparing : (b : List ℕ) (g : Got Numbered) → sceneIn b ≡ g → 2 ≤ length b → length (replyBytes (ofReading g)) ≤ 2 * length b
+reading-sparing : (b : List ℕ) (g : Got Numbered) → sceneIn b ≡ g → 2 ≤ length b →
+    length (replyBytes (ofReading g)) ≤ 2 * length b
 unfolding refusalBytes bigEndian
 reading-sparing b (refused r) e h = omega arith
 reading-sparing b (got c m) e h = omega (arith, accepted-long b c m e, reply-bytes (ofOutcome (sceneOutcome (c .scene))))
@@ -50,11 +51,13 @@ reply-sparing b h = reading-sparing b (sceneIn b) refl h
 -- ---- room enough
 
 part-free : (n skip : ℕ) (l : List ℕ) (q : Part) → Lies skip l q → 2 * length l + longestAnswer ≤ n →
-    ((k : ℕ) → 1 ≤ k → k ≤ length l → (m s : ℕ) → 2 * length (drop k l) + longestAnswer ≤ m → worked (bytes m) s (drop k l) ≡ worked unlimited s (drop k l)) →
+    ((k : ℕ) → 1 ≤ k → k ≤ length l → (m s : ℕ) → 2 * length (drop k l) + longestAnswer ≤ m →
+    worked (bytes m) s (drop k l) ≡ worked unlimited s (drop k l)) →
     onward worked (bytes n) skip l q ≡ onward worked unlimited skip l q
 unfolding refusalBytes bigEndian
 part-free n skip l (skipped k) (skips one fits there) h next = rw (next k one there n (skip - k) (rw length-drop (omega arith)))
-part-free n skip l (overlong m) (names z two far e) h next = rw (next 2 (omega arith) two (n - 4) m (rw length-drop (omega arith)))
+part-free n skip l (overlong m) (names z two far e) h next =
+    rw (next 2 (omega arith) two (n - 4) m (rw length-drop (omega arith)))
 part-free n skip l (whole k) (holds z two near there e) h next =
     let size : length (take k l) ≡ k = length-take-le k l there in
     let short : length (replyTo (take k l)) ≤ 2 * k = rw size at (reply-sparing (take k l) (rw size two)) in
@@ -66,5 +69,7 @@ pub room-enough : (n skip : ℕ) (l : List ℕ) → 2 * length l + longestAnswer
 unfolding if_then_else_
 room-enough n skip l =
     by-parts (λ (l : List ℕ). (n skip : ℕ) → 2 * length l + longestAnswer ≤ n → worked (bytes n) skip l ≡ worked unlimited skip l)
-    (λ l next n skip h. work-on (bytes n) skip l ∙ rw (le-leb longestAnswer n (omega arith), part-free n skip l (partIn skip l) (lies skip l) h next) (sym (work-freely skip l)))
+    (λ l next n skip h. work-on (bytes n) skip l
+    ∙ rw (le-leb longestAnswer n (omega arith), part-free n skip l (partIn skip l) (lies skip l) h next)
+    (sym (work-freely skip l)))
     l n skip

@@ -25,17 +25,22 @@ pub record Within (l : List ℕ) (w : Worked) : Type 0 where
 behind-within : (k : ℕ) (x l : List ℕ) (w : Worked) → k ≤ length l → Within (drop k l) w → Within l (after k x w)
 behind-within k x l w h v = record { fits = let f : w .used ≤ length l - k = rw length-drop at (v .fits) in omega arith }
 
-part-within : (room : Room) (skip : ℕ) (l : List ℕ) (q : Part) → Lies skip l q → ((k : ℕ) → 1 ≤ k → k ≤ length l → (r : Room) (s : ℕ) → Within (drop k l) (worked r s (drop k l))) →
+part-within : (room : Room) (skip : ℕ) (l : List ℕ) (q : Part) → Lies skip l q →
+    ((k : ℕ) → 1 ≤ k → k ≤ length l → (r : Room) (s : ℕ) → Within (drop k l) (worked r s (drop k l))) →
     Within l (onward worked room skip l q)
 part-within room skip l (skipped k) (skips one fits there) next = behind-within k [] l _ there (next k one there room (skip - k))
-part-within room skip l (overlong n) (names z two far e) next = behind-within 2 (refusalBytes 4) l _ two (next 2 (omega arith) two (less room (length (refusalBytes 4))) n)
-part-within room skip l (whole k) (holds z two near there e) next = behind-within k (replyTo (take k l)) l _ there (next k (omega arith) there (less room (length (replyTo (take k l)))) 0)
+part-within room skip l (overlong n) (names z two far e) next =
+    behind-within 2 (refusalBytes 4) l _ two (next 2 (omega arith) two (less room (length (refusalBytes 4))) n)
+part-within room skip l (whole k) (holds z two near there e) next =
+    behind-within k (replyTo (take k l)) l _ there
+    (next k (omega arith) there (less room (length (replyTo (take k l)))) 0)
 part-within room skip l cutShort (none few) next = record { fits = omega arith }
 
 pub used-within : (l : List ℕ) (room : Room) (skip : ℕ) → Within l (worked room skip l)
 used-within =
     by-parts (λ (l : List ℕ). (room : Room) (skip : ℕ) → Within l (worked room skip l)) λ l next room skip.
-    rw (work-on room skip l) (if-all (Within l) (hasRoom room) (part-within room skip l (partIn skip l) (lies skip l) next) (record { fits = omega arith }))
+    rw (work-on room skip l) (if-all (Within l) (hasRoom room)
+    (part-within room skip l (partIn skip l) (lies skip l) next) (record { fits = omega arith }))
 
 -- ---- nothing is left to work where the work stopped
 
@@ -54,7 +59,9 @@ nothing-more w v e =
     let skip : v .skip ≡ w .skip = sym (ap (λ (x : Worked). x .skip) e) in
     ap (λ (n : ℕ). made n (v .answers) (v .skip)) used ∙ ap (λ (x : List ℕ). made 0 x (v .skip)) answers ∙ ap (made 0 []) skip
 
-pub worked-out : (skip : ℕ) (a : List ℕ) → worked unlimited (worked unlimited skip a .skip) (drop (worked unlimited skip a .used) a) ≡ stopped (worked unlimited skip a .skip)
+pub worked-out : (skip : ℕ) (a : List ℕ) →
+    worked unlimited (worked unlimited skip a .skip) (drop (worked unlimited skip a .used) a)
+    ≡ stopped (worked unlimited skip a .skip)
 worked-out skip a = nothing-more (worked unlimited skip a) _ (simp append-nil at (cut unlimited skip a [] .same))
 
 -- where nothing is left to work, fewer bytes are left than the longest record has
@@ -79,18 +86,21 @@ kept-short skip a =
 
 -- the answers to a with b behind it: those of the work on a, then those to what it leaves, with b behind it
 pub cut-answers : (skip : ℕ) (a b : List ℕ) →
-    worked unlimited skip a .answers ++ answersFrom (worked unlimited skip a .skip) (drop (worked unlimited skip a .used) a ++ b) ≡ answersFrom skip (a ++ b)
+    worked unlimited skip a .answers ++ answersFrom (worked unlimited skip a .skip)
+    (drop (worked unlimited skip a .used) a ++ b) ≡ answersFrom skip (a ++ b)
 unfolding answersFrom
 cut-answers skip a b =
     let w = worked unlimited skip a in
     let v = worked unlimited (w .skip) (drop (w .used) a ++ b) in
     let left : drop (v .used) (drop (w .used) a ++ b) ≡ drop (w .used + v .used) (a ++ b) =
-    ap (drop (v .used)) (sym (drop-append-le (w .used) a b (used-within a unlimited skip .fits))) ∙ drop-drop (v .used) (w .used) (a ++ b) in
+    ap (drop (v .used)) (sym (drop-append-le (w .used) a b (used-within a unlimited skip .fits)))
+    ∙ drop-drop (v .used) (w .used) (a ++ b) in
     sym (append-assoc (w .answers) (v .answers) (lastAnswer (length (drop (v .used) (drop (w .used) a ++ b)))))
     ∙ ap (λ (l : List ℕ). w .answers ++ v .answers ++ lastAnswer (length l)) left
     ∙ ap (ended (a ++ b)) (sym (cut unlimited skip a b .same))
 
-run-from : (reads : List (List ℕ)) (kept : List ℕ) (skip : ℕ) → worked unlimited skip kept ≡ stopped skip → run kept skip reads ≡ answersFrom skip (kept ++ joined reads)
+run-from : (reads : List (List ℕ)) (kept : List ℕ) (skip : ℕ) → worked unlimited skip kept ≡ stopped skip →
+    run kept skip reads ≡ answersFrom skip (kept ++ joined reads)
 unfolding run joined answersFrom if_then_else_
 run-from [] kept skip e = rw (append-nil, e)
 run-from ([] ∷ reads) kept skip e = rw (append-nil, append-nil, e)

@@ -51,7 +51,8 @@ module _ (s out : List ℕ) (p : Place) where
   unfolding stepOver if_then_else_
   no-room h = rw (lt-leb longestAnswer (length out - p .put) h)
 
-  module _ (room : longestAnswer ≤ length out - p .put) (q : PartCode) (there : partOf q ≡ partIn (p .skip) (take (length s - p .used) (drop (p .used) s))) where
+  module _ (room : longestAnswer ≤ length out - p .put) (q : PartCode) (there : partOf q
+      ≡ partIn (p .skip) (take (length s - p .used) (drop (p .used) s))) where
     by-part : stepOver s out p ≡ stepBy s out p (partOf q)
     unfolding stepOver if_then_else_
     by-part = rw (le-leb longestAnswer (length out - p .put) room, there, rest-of (p .used) s)
@@ -70,24 +71,30 @@ module _ (s out : List ℕ) (p : Place) where
       skip-fits = rw length-drop at (skip-lies (rw e at known))
 
     module _ (n : ℕ) (e : q ≡ code.Overlong n) where
-      pub overlong-step : (f : Fault) (part : List ℕ) → p .put ≤ length out → written f part ≡ laid (refusalBytes 4) (take (length out - p .put) (drop (p .put) out)) →
-          goesOn (record { used = p .used + 2; put = p .put + 4; skip = n }) (putMid (p .put) (length out - p .put) out part) ≡ stepOver s out p
+      pub overlong-step : (f : Fault) (part : List ℕ) → p .put ≤ length out →
+          written f part ≡ laid (refusalBytes 4) (take (length out - p .put) (drop (p .put) out)) →
+          goesOn (record { used = p .used + 2; put = p .put + 4; skip = n })
+          (putMid (p .put) (length out - p .put) out part) ≡ stepOver s out p
       unfolding refusalBytes bigEndian
       overlong-step f part h w =
           let w′ : written f part ≡ laid (refusalBytes 4) (drop (p .put) out) = rw (rest-of (p .put) out) at w in
-          let held = ap (λ (x : Written). x .contents) (w′ ∙ laid-there (refusalBytes 4) (drop (p .put) out) (rw length-drop (omega arith))) in
+          let held = ap (λ (x : Written). x .contents) (w′
+          ∙ laid-there (refusalBytes 4) (drop (p .put) out) (rw length-drop (omega arith))) in
           rw (put-in-part (p .put) (refusalBytes 4) out part h held) (sym (rw e at by-part))
 
     module _ (k : ℕ) (e : q ≡ code.Whole k) where
       pub whole-step : (r : ℕ) (part : List ℕ) → p .put ≤ length out →
-          put r part ≡ putAt 0 (replyTo (take (p .used + k - p .used) (drop (p .used) s))) (take (length out - p .put) (drop (p .put) out)) →
-          goesOn (record { used = p .used + k; put = p .put + r; skip = 0 }) (putMid (p .put) (length out - p .put) out part) ≡ stepOver s out p
+          put r part ≡ putAt 0 (replyTo (take (p .used + k - p .used) (drop (p .used) s)))
+          (take (length out - p .put) (drop (p .put) out)) →
+          goesOn (record { used = p .used + k; put = p .put + r; skip = 0 })
+          (putMid (p .put) (length out - p .put) out part) ≡ stepOver s out p
       whole-step r part h w =
           let count : p .used + k - p .used ≡ k = omega arith in
           let reply = replyTo (take k (drop (p .used) s)) in
           let w′ : put r part ≡ putAt 0 reply (drop (p .put) out) = rw (count, rest-of (p .put) out) at w in
           let long : r ≡ length reply = rw zero-add at (ap (λ (x : Put). x .count) w′) in
-          let held : part ≡ reply ++ drop (length reply) (drop (p .put) out) = rw zero-add at (ap (λ (x : Put). x .contents) w′) in
+          let held : part ≡ reply ++ drop (length reply) (drop (p .put) out) =
+          rw zero-add at (ap (λ (x : Put). x .contents) w′) in
           rw (put-in-part (p .put) reply out part h held, long) (sym (rw e at by-part))
 
       pub whole-fits : (2 ≤ k) × (k ≤ length s - p .used)

@@ -1,4 +1,5 @@
--- Laws of the work on a stream: it goes part by part, so that a law of it may be proved part by part; and bytes to be skipped may be skipped in two goes. Assumes nothing.
+-- Laws of the work on a stream: it goes part by part, so that a law of it may be proved part by part; and bytes to be
+-- skipped may be skipped in two goes. Assumes nothing.
 use Prim.Native.Nat.{ℕ, zero, suc, _+_, _-_, _≤_, _<_}
 use native.Mathlib.Omega.{arith}
 use native.Mathlib.Nat.{zero-add, add-assoc}
@@ -25,10 +26,13 @@ after-after j k x y w = rw (add-assoc, append-assoc)
 
 -- two ways on that agree behind every part agree
 onward-agrees : (f g : Room → ℕ → List ℕ → Worked) (room : Room) (skip : ℕ) (l : List ℕ) (q : Part) → Lies skip l q →
-    ((r : Room) (s k : ℕ) → 1 ≤ k → k ≤ length l → f r s (drop k l) ≡ g r s (drop k l)) → onward f room skip l q ≡ onward g room skip l q
+    ((r : Room) (s k : ℕ) → 1 ≤ k → k ≤ length l → f r s (drop k l) ≡ g r s (drop k l)) → onward f room skip l q
+    ≡ onward g room skip l q
 onward-agrees f g room skip l (skipped k) (skips a b c) same = rw (same room (skip - k) k a c)
-onward-agrees f g room skip l (overlong n) (names z two far e) same = rw (same (less room (length (refusalBytes 4))) n 2 (omega arith) two)
-onward-agrees f g room skip l (whole k) (holds z two near there e) same = rw (same (less room (length (replyTo (take k l)))) 0 k (omega arith) there)
+onward-agrees f g room skip l (overlong n) (names z two far e) same =
+    rw (same (less room (length (refusalBytes 4))) n 2 (omega arith) two)
+onward-agrees f g room skip l (whole k) (holds z two near there e) same =
+    rw (same (less room (length (replyTo (take k l)))) 0 k (omega arith) there)
 onward-agrees f g room skip l cutShort (none few) same = refl
 
 -- nothing is a part of no bytes
@@ -60,7 +64,8 @@ enough (suc n) (suc m) room skip l h k =
     (λ r s j a c. enough n m r s (drop j l) (rw length-drop (omega arith)) (rw length-drop (omega arith))))
 
 -- the work is a part, where there is room, and the work on what lies behind it
-pub work-on : (room : Room) (skip : ℕ) (l : List ℕ) → worked room skip l ≡ (if hasRoom room then onward worked room skip l (partIn skip l) else stopped skip)
+pub work-on : (room : Room) (skip : ℕ) (l : List ℕ) →
+    worked room skip l ≡ (if hasRoom room then onward worked room skip l (partIn skip l) else stopped skip)
 unfolding worked parts
 work-on room skip l =
     enough (length l) (suc (length l)) room skip l (omega arith) (omega arith)
@@ -83,25 +88,31 @@ by-parts P step l = go (length l) l (omega arith)
 
 -- ---- bytes to be skipped
 
-skip-freely : (skip k : ℕ) (l : List ℕ) → partIn skip l ≡ skipped k → worked unlimited skip l ≡ after k [] (worked unlimited (skip - k) (drop k l))
+skip-freely : (skip k : ℕ) (l : List ℕ) → partIn skip l ≡ skipped k → worked unlimited skip l
+    ≡ after k [] (worked unlimited (skip - k) (drop k l))
 skip-freely skip k l e = work-freely skip l ∙ rw e
 
 -- they may be skipped in two goes
-two-goes : (skip k m : ℕ) (l : List ℕ) → k ≤ m → m ≤ skip → partIn skip l ≡ skipped m → partIn (skip - k) (drop k l) ≡ skipped (m - k) →
+two-goes : (skip k m : ℕ) (l : List ℕ) → k ≤ m → m ≤ skip → partIn skip l ≡ skipped m → partIn (skip - k) (drop k l)
+    ≡ skipped (m - k) →
     worked unlimited skip l ≡ after k [] (worked unlimited (skip - k) (drop k l))
 two-goes skip k m l h j e f =
     let rest : skip - k - (m - k) ≡ skip - m = omega arith in
     let all : k + (m - k) ≡ m = omega arith in
     skip-freely skip m l e
-    ∙ sym (ap (after k []) (skip-freely (skip - k) (m - k) (drop k l) f) ∙ after-after k (m - k) [] [] (worked unlimited (skip - k - (m - k)) (drop (m - k) (drop k l))) ∙ rw (drop-drop, rest, all))
+    ∙ sym (ap (after k []) (skip-freely (skip - k) (m - k) (drop k l) f)
+    ∙ after-after k (m - k) [] [] (worked unlimited (skip - k - (m - k)) (drop (m - k) (drop k l)))
+    ∙ rw (drop-drop, rest, all))
 
-pub skip-some : (skip k : ℕ) (l : List ℕ) → 1 ≤ k → k ≤ skip → k ≤ length l → worked unlimited skip l ≡ after k [] (worked unlimited (skip - k) (drop k l))
+pub skip-some : (skip k : ℕ) (l : List ℕ) → 1 ≤ k → k ≤ skip → k ≤ length l → worked unlimited skip l
+    ≡ after k [] (worked unlimited (skip - k) (drop k l))
 skip-some skip k l one a b = go (decLt (length l) skip) (decLt k skip) (decLt k (length l))
   where
     left : length (drop k l) ≡ length l - k
     left = length-drop k l
 
-    go : Dec (length l < skip) → Dec (k < skip) → Dec (k < length l) → worked unlimited skip l ≡ after k [] (worked unlimited (skip - k) (drop k l))
+    go : Dec (length l < skip) → Dec (k < skip) → Dec (k < length l) → worked unlimited skip l
+        ≡ after k [] (worked unlimited (skip - k) (drop k l))
     go (yes p) q (yes r) =
         two-goes skip k (length l) l b (omega arith) (all-skipped skip l (omega arith) (omega arith) p)
         (rw left at (all-skipped (skip - k) (drop k l) (omega arith) (rw left (omega arith)) (rw left (omega arith))))

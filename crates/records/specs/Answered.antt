@@ -1,4 +1,5 @@
--- One scene record of either version answered, from bytes to bytes (01, "Records (ours)"; 02, T-07). Definitions only. Assumes nothing.
+-- One scene record of either version answered, from bytes to bytes (01, "Records (ours)"; 02, T-07). Definitions only.
+-- Assumes nothing.
 use Prim.Native.Nat.{ℕ, _%_, _^_}
 use mathlib.Core.List.{List}
 use lib.Dec.{leb}
@@ -55,7 +56,8 @@ laidAnswer (refusal r) buffer = written (fault r) buffer
 
 -- "Record: 10;" comes first, then the record's own faults, then the scene's
 unfoldable pub answerTo : List ℕ → List ℕ → Written
-answerTo bytes buffer = if leb longestAnswer (length buffer) then laidAnswer (answered bytes) buffer else written (fault 10) buffer
+answerTo bytes buffer =
+    if leb longestAnswer (length buffer) then laidAnswer (answered bytes) buffer else written (fault 10) buffer
 
 -- ---- with the failed line's cause and origin, which the record does not say
 

@@ -1,4 +1,5 @@
--- 02, T-07: where the neighbours' numbers of a version 2 record stand, and records that differ there alone. Definitions only. Assumes nothing.
+-- 02, T-07: where the neighbours' numbers of a version 2 record stand, and records that differ there alone. Definitions
+-- only. Assumes nothing.
 use Prim.Native.Nat.{ℕ, _+_, _-_, _*_, _%_}
 use mathlib.Core.Path.{_≡_}
 use mathlib.Core.Bool.{Bool, false, _&&_}

@@ -1,4 +1,5 @@
--- The parts of a stream of scene records (01, "Records (ours)": "An overlong record is skipped by its length"). Definitions only. Assumes nothing.
+-- The parts of a stream of scene records (01, "Records (ours)": "An overlong record is skipped by its length").
+-- Definitions only. Assumes nothing.
 use Prim.Native.Nat.{ℕ, _+_}
 use mathlib.Core.List.{List}
 use lib.Dec.{eqb, ltb}
@@ -9,7 +10,8 @@ use Rattle.scene_records.specs.Versions.{longestEither}
 use Rattle.records.specs.declared.Part.{Part as PartCode}
 use Rattle.records.specs.declared.Part.the-variants as code
 
--- bytes of an overlong record to be skipped; the length that an overlong record names; a whole record, by the count of its bytes; or nothing whole
+-- bytes of an overlong record to be skipped; the length that an overlong record names; a whole record, by the count of
+-- its bytes; or nothing whole
 pub data Part : Type 0 where
   skipped : ℕ → Part
   overlong : ℕ → Part

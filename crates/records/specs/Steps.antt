@@ -46,4 +46,5 @@ stepBy s out p (whole k) = goesWith (p .used + k) (putAt (p .put) (replyTo (take
 
 -- a part is worked where there is room for the longest answer
 unfoldable pub stepOver : List ℕ → List ℕ → Place → Stepped
-stepOver s out p = if leb longestAnswer (length out - p .put) then stepBy s out p (partIn (p .skip) (drop (p .used) s)) else stops out
+stepOver s out p =
+    if leb longestAnswer (length out - p .put) then stepBy s out p (partIn (p .skip) (drop (p .used) s)) else stops out

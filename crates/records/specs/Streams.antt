@@ -1,4 +1,5 @@
--- A stream of scene records worked part by part, and what stands at its end (01, "Records (ours)"). Definitions only. Assumes nothing.
+-- A stream of scene records worked part by part, and what stands at its end (01, "Records (ours)"). Definitions only.
+-- Assumes nothing.
 use Prim.Native.Nat.{ℕ, zero, suc, _+_, _-_}
 use mathlib.Core.Bool.{Bool, true}
 use mathlib.Core.List.{List, [], _++_}
@@ -67,7 +68,8 @@ standing p l = record { place = p; contents = l }
 
 -- the answers at the output's start; what lies behind them stays
 abbrev pub standingBy : Worked → List ℕ → Standing
-standingBy w out = standing (record { used = w .used; put = length (w .answers); skip = w .skip }) (w .answers ++ drop (length (w .answers)) out)
+standingBy w out = standing (record { used = w .used; put = length (w .answers); skip = w .skip })
+    (w .answers ++ drop (length (w .answers)) out)
 
 unfoldable pub workedOver : List ℕ → List ℕ → ℕ → Standing
 workedOver s out skip = standingBy (worked (bytes (length out)) skip s) out

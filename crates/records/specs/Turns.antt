@@ -1,5 +1,5 @@
--- The program (01, "Records (ours)"): turn behind turn, each on what a read brings; and a turn over lent memory. Definitions only.
--- Assumes nothing.
+-- The program (01, "Records (ours)"): turn behind turn, each on what a read brings; and a turn over lent memory.
+-- Definitions only. Assumes nothing.
 use Prim.Native.Nat.{ℕ, _+_, _*_, _≤_}
 use mathlib.Core.Path.{_≡_}
 use mathlib.Core.Bool.{Bool, true, false, _&&_}
@@ -15,7 +15,8 @@ use Rattle.records.specs.Streams.{Worked, unlimited, worked, lastAnswer}
 
 -- ---- the program
 
--- what is answered in a turn, what is kept for the next read, how many bytes are still to be skipped, and whether there may be more to read
+-- what is answered in a turn, what is kept for the next read, how many bytes are still to be skipped, and whether there
+-- may be more to read
 pub record Turned : Type 0 where
   pub answers : List ℕ
   pub kept : List ℕ
@@ -34,7 +35,9 @@ turned kept skip (b ∷ read) = goingOn (kept ++ (b ∷ read)) (worked unlimited
 -- all that the program writes over its reads
 unfoldable pub run : List ℕ → ℕ → List (List ℕ) → List ℕ
 run kept skip [] = turned kept skip [] .answers
-run kept skip (read ∷ reads) = let t = turned kept skip read in t .answers ++ (if t .more then run (t .kept) (t .skip) reads else [])
+run kept skip (read ∷ reads) =
+    let t = turned kept skip read in
+    t .answers ++ (if t .more then run (t .kept) (t .skip) reads else [])
 
 -- its input: the reads one behind the other, up to the one that brings nothing
 unfoldable pub joined : List (List ℕ) → List ℕ
@@ -83,7 +86,8 @@ pub record Ready (input output kept : ℕ) : Type 0 where
   pub room : 2 * input + longestAnswer ≤ output
   pub few : kept ≤ 1 + longestEither
 
--- for what some read brought, the stream goes on by `run`'s step: its answers stand at the output's start, what it keeps at the input's
+-- for what some read brought, the stream goes on by `run`'s step: its answers stand at the output's start, what it
+-- keeps at the input's
 pub record Follows (before : Stream) (input : List ℕ) (next : Stream) (held output : List ℕ) : Type 0 where
   pub read : List ℕ
   pub answers : take (next .put) output ≡ turned (take (before .kept) input) (before .skip) read .answers

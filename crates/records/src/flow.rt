@@ -25,9 +25,9 @@ pub(crate) fn is_room(input: usize, output: usize, kept: usize, read: usize) -> 
     admission::fits_behind(input, kept, read)
 }
 
-// Works the parts of a stream that the input holds from its start on: what is still to be skipped, then record behind record, each
-// answered behind the other at the output's start. It stops where the input holds no whole part more, or where the output has room
-// for fewer than 18 bytes.
+// Works the parts of a stream that the input holds from its start on: what is still to be skipped, then record behind
+// record, each answered behind the other at the output's start. It stops where the input holds no whole part more, or
+// where the output has room for fewer than 18 bytes.
 pub(crate) fn work(input: &[u8], output: &mut [u8], skip: usize) -> Place
     ensures { λ r. ⌜ standing r (now (output .exit)) ≡ workedOver (now (input .entry)) (now (output .entry)) skip ⌝ }
 {

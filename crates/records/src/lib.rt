@@ -14,9 +14,9 @@ mod outcome;
 mod parts;
 mod steps;
 
-// Where a stream of records stands after a turn: how many bytes of answers are at the output's start, to be written; how many bytes
-// wait at the input's start for the next read; how many bytes of an overlong record are still to be skipped; and whether there may
-// be more to read.
+// Where a stream of records stands after a turn: how many bytes of answers are at the output's start, to be written;
+// how many bytes wait at the input's start for the next read; how many bytes of an overlong record are still to be
+// skipped; and whether there may be more to read.
 pub struct Stream {
     pub put: usize,
     pub kept: usize,
@@ -71,8 +71,9 @@ pub(crate) enum Step {
     Stop,
 }
 
-// Answers one scene record: the 18 bytes of its outcome at the buffer's start; bytes behind them keep their contents. Refused, with
-// the buffer as it was: a buffer of fewer than 18 bytes (10), then the record (1 to 7, 14), then an edge line that is not admitted (9).
+// Answers one scene record: the 18 bytes of its outcome at the buffer's start; bytes behind them keep their contents.
+// Refused, with the buffer as it was: a buffer of fewer than 18 bytes (10), then the record (1 to 7, 14), then an edge
+// line that is not admitted (9).
 pub fn answer_record(bytes: &[u8], buffer: &mut [u8]) -> Judged
     ensures { λ r. ⌜ writtenOf r (now (buffer .exit)) ≡ answerTo (now (bytes .entry)) (now (buffer .entry)) ⌝ }
 {
@@ -101,8 +102,8 @@ pub fn answer_scene(bytes: &[u8], buffer: &mut [u8]) -> SceneAnswer
     answer
 }
 
-// The next part of what is left of a stream, with so many bytes still to be skipped. A record is overlong by its length field, as soon
-// as that is there; whole where all its bytes are.
+// The next part of what is left of a stream, with so many bytes still to be skipped. A record is overlong by its length
+// field, as soon as that is there; whole where all its bytes are.
 pub fn next_part(rest: &[u8], skip: usize) -> Part
     ensures { λ r. ⌜ partOf r ≡ partIn skip (now (rest .entry)) ⌝ }
 {
@@ -122,13 +123,14 @@ pub fn next_part(rest: &[u8], skip: usize) -> Part
     Part::Whole(2 + length)
 }
 
-// One turn of a program that reads scene records and writes answers. At the input's start wait the bytes that the turn before kept,
-// and behind them stand those that were read now: then the answers to all that is whole stand at the output's start, what is left
-// is kept at the input's start, and bytes behind both keep their contents. A read that brought nothing has met the end: bytes that
-// were kept are a record cut short. Where the input does not hold so many bytes, or the output has not two for each of the input's
-// and 18 more, nothing is done and the stream is closed.
+// One turn of a program that reads scene records and writes answers. At the input's start wait the bytes that the turn
+// before kept, and behind them stand those that were read now: then the answers to all that is whole stand at the
+// output's start, what is left is kept at the input's start, and bytes behind both keep their contents. A read that
+// brought nothing has met the end: bytes that were kept are a record cut short. Where the input does not hold so many
+// bytes, or the output has not two for each of the input's and 18 more, nothing is done and the stream is closed.
 pub fn turn(input: &mut [u8], output: &mut [u8], before: Stream, read: usize) -> Stream
-    ensures { λ r. ⌜ lent r (now (input .exit)) (now (output .exit)) ≡ turnOver (now (input .entry)) (now (output .entry)) before read ⌝ }
+    ensures { λ r. ⌜ lent r (now (input .exit)) (now (output .exit))
+        ≡ turnOver (now (input .entry)) (now (output .entry)) before read ⌝ }
 {
     let kept = before.kept;
     if !flow::is_room(input.len(), output.len(), kept, read) {

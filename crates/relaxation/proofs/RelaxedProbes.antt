@@ -29,7 +29,8 @@ inner-counts o limit l h = go (pass-takes o limit l)
     go (takes-failed {n = n} b) = counts-failed {n = n} (omega (arith, bound-grows 255 (length l) n h b))
     go takes-none = counts-none
 
-pub inner-solve-most : (o : Objective) (limit : Float) (l : List Line) (a : LinearProgram2D) → length l ≤ 255 → passOf a ≡ pass o limit l → probesOf a ≤ 32640
+pub inner-solve-most : (o : Objective) (limit : Float) (l : List Line) (a : LinearProgram2D) → length l ≤ 255 →
+    passOf a ≡ pass o limit l → probesOf a ≤ 32640
 inner-solve-most o limit l a h e = most a (rw (← e) at (inner-counts o limit l h))
   where
     most : (a : LinearProgram2D) → Counts 32640 (passOf a) → probesOf a ≤ 32640
@@ -44,9 +45,11 @@ pub data CountsRelaxed (b : ℕ) : Relaxed → Type 0 where
   counts-relaxed : {p : Vec2} {depth : Float} {n : ℕ} → n ≤ b → CountsRelaxed b (relaxed p depth n)
   counts-relaxed-none : {r : ℕ} → CountsRelaxed b (relaxRefused r)
 
-replaced-counts : (own : Line) (p : Vec2) (depth : Float) (n b : ℕ) {q : Pass} → Counts b q → CountsRelaxed (n + b) (replaced own p depth n q)
+replaced-counts : (own : Line) (p : Vec2) (depth : Float) (n b : ℕ) {q : Pass} → Counts b q →
+    CountsRelaxed (n + b) (replaced own p depth n q)
 unfolding replaced
-replaced-counts own p depth n b (counts {n = m} h) = if-all (CountsRelaxed (n + b)) _ (counts-relaxed (omega arith)) counts-relaxed-none
+replaced-counts own p depth n b (counts {n = m} h) =
+    if-all (CountsRelaxed (n + b)) _ (counts-relaxed (omega arith)) counts-relaxed-none
 replaced-counts own p depth n b (counts-failed {n = m} h) = counts-relaxed {n = n + m} (omega arith)
 replaced-counts own p depth n b counts-none = counts-relaxed-none
 
@@ -57,16 +60,19 @@ pub looser : {a b : ℕ} → a ≤ b → {s : Relaxed} → CountsRelaxed a s →
 looser h (counts-relaxed {n = n} k) = counts-relaxed {n = n} (omega arith)
 looser h counts-relaxed-none = counts-relaxed-none
 
-module _ (rigid : ℕ) (limit : Float) (e : List Line) (own : Line) (short : length e ≤ 255) (p : Vec2) (depth : Float) (n : ℕ) where
+module _ (rigid : ℕ) (limit : Float) (e : List Line) (own : Line) (short : length e ≤ 255) (p : Vec2) (depth : Float)
+    (n : ℕ) where
   pub relax-counts : CountsRelaxed (n + 32896) (relaxLine rigid limit e own (relaxed p depth n))
   unfolding relaxLine
   relax-counts =
       let t = tightened-long rigid own e in
       let b = build-most rigid e in
       if-all (CountsRelaxed (n + 32896)) _ (counts-relaxed (omega arith))
-      (looser {a = n + 1 + buildProbes rigid e + 32640} (omega arith) (replaced-counts own p depth _ 32640 (inner-counts _ limit (tightened rigid own e) (omega arith))))
+      (looser {a = n + 1 + buildProbes rigid e + 32640} (omega arith)
+      (replaced-counts own p depth _ 32640 (inner-counts _ limit (tightened rigid own e) (omega arith))))
 
-  pub relax-most : (q : Vec2) (d : Float) (m : ℕ) → relaxed q d m ≡ relaxLine rigid limit e own (relaxed p depth n) → m ≤ n + 32896
+  pub relax-most : (q : Vec2) (d : Float) (m : ℕ) → relaxed q d m ≡ relaxLine rigid limit e own (relaxed p depth n) →
+      m ≤ n + 32896
   relax-most q d m h = counted (rw (← h) at relax-counts)
     where
       counted : {b : ℕ} → CountsRelaxed b (relaxed q d m) → m ≤ b
@@ -75,18 +81,23 @@ module _ (rigid : ℕ) (limit : Float) (e : List Line) (own : Line) (short : len
 -- ---- relaxation over lines
 
 module _ (rigid : ℕ) (limit : Float) where
-  line-counts : (b : ℕ) (e : List Line) (own : Line) (s : Relaxed) → (length e ≤ mostLines → CountsRelaxed (b + 32896 * length e) s) →
+  line-counts : (b : ℕ) (e : List Line) (own : Line) (s : Relaxed) →
+      (length e ≤ mostLines → CountsRelaxed (b + 32896 * length e) s) →
       length (e ++ (own ∷ [])) ≤ mostLines → CountsRelaxed (b + 32896 * length (e ++ (own ∷ []))) (relaxLine rigid limit e own s)
   unfolding relaxLine
   line-counts b e own s h short =
       let k : length (e ++ (own ∷ [])) ≡ length e + 1 = length-append e (own ∷ []) in
       rw k (counted-on (h (omega arith)) (omega arith))
     where
-      counted-on : {t : Relaxed} → CountsRelaxed (b + 32896 * length e) t → length e ≤ 255 → CountsRelaxed (b + 32896 * (length e + 1)) (relaxLine rigid limit e own t)
-      counted-on (counts-relaxed {p} {depth} {n} d) room = looser {a = n + 32896} (omega arith) (relax-counts rigid limit e own room p depth n)
+      counted-on : {t : Relaxed} → CountsRelaxed (b + 32896 * length e) t → length e ≤ 255 →
+          CountsRelaxed (b + 32896 * (length e + 1)) (relaxLine rigid limit e own t)
+      counted-on (counts-relaxed {p} {depth} {n} d) room =
+          looser {a = n + 32896} (omega arith) (relax-counts rigid limit e own room p depth n)
       counted-on counts-relaxed-none room = counts-relaxed-none
 
   -- relaxation over l behind e, of a pass that took b
-  pub walk-counts : (b : ℕ) (e l : List Line) (s : Relaxed) → length (e ++ l) ≤ mostLines → CountsRelaxed b s → CountsRelaxed (b + 32896 * length (e ++ l)) (walk (relaxLine rigid limit) e l s)
+  pub walk-counts : (b : ℕ) (e l : List Line) (s : Relaxed) → length (e ++ l) ≤ mostLines → CountsRelaxed b s →
+      CountsRelaxed (b + 32896 * length (e ++ l)) (walk (relaxLine rigid limit) e l s)
   walk-counts b e l s short d =
-      walk-grows (relaxLine rigid limit) (λ i t. length i ≤ mostLines → CountsRelaxed (b + 32896 * length i) t) (line-counts b) e l s (λ room. looser (omega arith) d) short
+      walk-grows (relaxLine rigid limit) (λ i t. length i ≤ mostLines → CountsRelaxed (b + 32896 * length i) t)
+      (line-counts b) e l s (λ room. looser (omega arith) d) short

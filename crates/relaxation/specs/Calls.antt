@@ -1,4 +1,5 @@
--- What relaxation over lent lines tells: 4 beyond 256 of them, else how it stands, taken up at a line. Definitions only. Assumes nothing.
+-- What relaxation over lent lines tells: 4 beyond 256 of them, else how it stands, taken up at a line. Definitions
+-- only. Assumes nothing.
 use Prim.Native.Nat.{ℕ}
 use mathlib.Core.List.{List}
 use lib.ListN.{length, take, drop}
@@ -14,4 +15,5 @@ use Rattle.relaxation.specs.Relax.{Relaxed, relaxed, relaxRefused, relax
 -- the lines from `from` on, the probes counted from 0
 unfoldable pub resumedRelaxation : ℕ → Float → List Line → ℕ → Vec2 → Float → Relaxed
 resumedRelaxation rigid limit lines from p depth =
-    if leb (length lines) mostLines then walk (relaxLine rigid limit) (take from lines) (drop from lines) (relaxed p depth 0) else relaxRefused 4
+    if leb (length lines) mostLines then walk (relaxLine rigid limit) (take from lines) (drop from lines)
+    (relaxed p depth 0) else relaxRefused 4

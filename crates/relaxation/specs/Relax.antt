@@ -28,10 +28,12 @@ tightAt own prev p = kept (line p (normalizeOf (subOf (prev .direction) (own .di
 unfoldable pub midpoint : Line → Line → Vec2
 midpoint own prev = mulOf (addOf (own .point) (prev .point)) halfᶠ
 
--- "the intersection, own point + t · own direction, t = determinant(previous direction, own point − previous point) / determinant(own direction, previous direction)"
+-- "the intersection, own point + t · own direction, t = determinant(previous direction, own point − previous point) /
+-- determinant(own direction, previous direction)"
 unfoldable pub intersection : Line → Line → Vec2
 intersection own prev =
-    pointOn own (determinantOf (prev .direction) (subOf (own .point) (prev .point)) ⊘ determinantOf (own .direction) (prev .direction))
+    pointOn own (determinantOf (prev .direction) (subOf (own .point) (prev .point)) ⊘ determinantOf (own .direction)
+    (prev .direction))
 
 -- "if |determinant| of the two directions ≤ 0.00001: skip if their dot > 0, else the midpoint; if not parallel, the intersection"
 unfoldable pub tighten : Line → Line → Tight
@@ -52,7 +54,8 @@ tightenNext own made prev = behind made (tighten own prev)
 unfoldable pub tightened : ℕ → Line → List Line → List Line
 tightened rigid own earlier = foldl (tightenNext own) (take rigid earlier) (drop rigid earlier)
 
--- the probes of building that list: one for every previous line that is examined, skipped or kept; the rigid ones are copied, not examined
+-- the probes of building that list: one for every previous line that is examined, skipped or kept; the rigid ones are
+-- copied, not examined
 abbrev pub buildProbes : ℕ → List Line → ℕ
 buildProbes rigid earlier = length (drop rigid earlier)
 
@@ -67,15 +70,19 @@ pub data Relaxed : Type 0 where
 unfoldable pub depthIn : Line → Vec2 → Float
 depthIn own p = determinantOf (own .direction) (subOf (own .point) p)
 
--- "Success replaces the point and recomputes penetration; failure keeps both." Refusal 9: the new point or penetration is not finite
+-- "Success replaces the point and recomputes penetration; failure keeps both." Refusal 9: the new point or penetration
+-- is not finite
 unfoldable pub replaced : Line → Vec2 → Float → ℕ → Pass → Relaxed
-replaced own p depth n (feasible q m) = if finitePoint q && finite (depthIn own q) then relaxed q (depthIn own q) (n + m) else relaxRefused 9
+replaced own p depth n (feasible q m) =
+    if finitePoint q && finite (depthIn own q) then relaxed q (depthIn own q) (n + m) else relaxRefused 9
 replaced own p depth n (failed f q m) = relaxed p depth (n + m)
 replaced own p depth n (refused r) = relaxRefused r
 
--- "determinant(direction, line point − point now) ≤ penetration passes. Otherwise build a fresh list .. Solve it along perp(own direction)."
+-- "determinant(direction, line point − point now) ≤ penetration passes. Otherwise build a fresh list .. Solve it along
+-- perp(own direction)."
 unfoldable pub relaxLine : ℕ → Float → List Line → Line → Relaxed → Relaxed
 relaxLine rigid limit earlier own (relaxed p depth n) =
     if depthIn own p ≤ᶠ depth then relaxed p depth (n + 1)
-    else replaced own p depth (n + 1 + buildProbes rigid earlier) (pass (along (perpOf (own .direction))) limit (tightened rigid own earlier))
+    else replaced own p depth (n + 1 + buildProbes rigid earlier) (pass (along (perpOf (own .direction))) limit
+    (tightened rigid own earlier))
 relaxLine rigid limit earlier own (relaxRefused r) = relaxRefused r

@@ -1,6 +1,8 @@
-// Replays the set `common`: the Rust's answers to `determinant`, to `time_to_intersect_lines` and to what the port uses of glam's `Vec2`.
-// A record is, in words: a (2), b (2), k; then the answers: determinant, a + b (2), a - b (2), -a (2), a * k (2), a / k (2), dot, perp (2), squared length, squared distance, normalize (2), and 1 where a == b, else 0.
-// Then a second line's start (2) and end (2), and of it and the line from a to b 1 and the times (2) at which they meet, or three zeros where they are parallel.
+// Replays the set `common`: the Rust's answers to `determinant`, to `time_to_intersect_lines` and to what the port uses
+// of glam's `Vec2`. A record is, in words: a (2), b (2), k; then the answers: determinant, a + b (2), a - b (2), -a
+// (2), a * k (2), a / k (2), dot, perp (2), squared length, squared distance, normalize (2), and 1 where a == b, else
+// 0. Then a second line's start (2) and end (2), and of it and the line from a to b 1 and the times (2) at which they
+// meet, or three zeros where they are parallel.
 use common::Times;
 use common::Vec2;
 use replay_records::Walk;

@@ -1,6 +1,7 @@
-// Replays the set `cuts`: admitted line lists, each with the Rust's answers to its first lines, from none to all. They go to sessions in batches that are cut
-// in several ways, with origins and without, and after each batch, refused ones too, the session must stand as the answer to the lines so far, and have the
-// origins that they were fed with. The tally counts these comparisons.
+// Replays the set `cuts`: admitted line lists, each with the Rust's answers to its first lines, from none to all. They
+// go to sessions in batches that are cut in several ways, with origins and without, and after each batch, refused ones
+// too, the session must stand as the answer to the lines so far, and have the origins that they were fed with. The
+// tally counts these comparisons.
 use admission::Judged;
 use lines::Line;
 use lines::Origin;
@@ -18,7 +19,8 @@ ghost use lib.ListN.{length};
 ghost use Rattle.admission.specs.Faults.{faultOf};
 ghost use Rattle.replay_cuts.specs.CutsSet.{sameFault};
 
-// A session on its way through a record: the origins that it was fed, how many lines, the last number drawn, the record's name, and the comparisons so far.
+// A session on its way through a record: the origins that it was fed, how many lines, the last number drawn, the
+// record's name, and the comparisons so far.
 struct Feeding {
     session: Session,
     kept: [Origin; Line::MOST],
@@ -186,7 +188,8 @@ fn draw(last: u32) -> u32
     (last % 65537 * 17364 + 1) % 65537
 }
 
-// A batch of the next `size` lines, or of those that are left: never refused. By its place and the record, every third brings no origins.
+// A batch of the next `size` lines, or of those that are left: never refused. By its place and the record, every third
+// brings no origins.
 fn feed(feeding: Feeding, answers: &[u8], numbers: &[f32], origins: &[u32], size: usize) -> Feeding
     requires { ⌜ (feeding .place ≤ length (now numbers) / 4) × (length (now numbers) ≤ 1024) × (length (now origins) ≡ 768) ⌝ }
     ensures { λ r. ⌜ r .place ≤ length (now (numbers .entry)) / 4 ⌝ }
@@ -219,7 +222,8 @@ fn feed_lines_with(
     origins: &[u32],
     place: usize,
 ) -> Feeding
-    requires { ⌜ (feeding .place ≤ place) × (place ≤ length (now numbers) / 4) × (length (now numbers) ≤ 1024) × (length (now origins) ≡ 768) ⌝ }
+    requires { ⌜ (feeding .place ≤ place) × (place ≤ length (now numbers) / 4) × (length (now numbers) ≤ 1024)
+        × (length (now origins) ≡ 768) ⌝ }
     ensures { λ r. ⌜ r .place ≡ place ⌝ }
 {
     let from = feeding.place;

@@ -1,5 +1,7 @@
-// Replays the set `edges`: the lines that the Rust gives for an agent and an obstacle, or the number of the refusal where one of them is not admitted or the obstacle is at fault.
-// A record is, in words: kind, how many numbers, answer (how many lines, or 100 + the number of a refusal), count of the vertices (2), position (2), velocity (2), margin, horizon; the numbers, two a vertex; then the lines, four numbers each.
+// Replays the set `edges`: the lines that the Rust gives for an agent and an obstacle, or the number of the refusal
+// where one of them is not admitted or the obstacle is at fault. A record is, in words: kind, how many numbers, answer
+// (how many lines, or 100 + the number of a refusal), count of the vertices (2), position (2), velocity (2), margin,
+// horizon; the numbers, two a vertex; then the lines, four numbers each.
 use admission::Head;
 use admission::Judged;
 use edges::Agent;

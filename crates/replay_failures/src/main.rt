@@ -1,5 +1,6 @@
-// Replays the set `failures`: scenes that are not refused, each with what an answer record does not carry, the cause and the origin of the last pass's failed
-// line. A record is its head (how many bytes the scene has, the failed line, its cause, its origin) and the scene's record.
+// Replays the set `failures`: scenes that are not refused, each with what an answer record does not carry, the cause
+// and the origin of the last pass's failed line. A record is its head (how many bytes the scene has, the failed line,
+// its cause, its origin) and the scene's record.
 use admission::Judged;
 use dodgy_2d::SceneAnswer;
 use lines::Origin;

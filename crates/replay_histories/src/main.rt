@@ -1,5 +1,6 @@
-// Replays the set `histories`: the calls of sessions one after the other, each with how it is judged and how the session stands then, by the Rust's answer for
-// the lines that stand. A record is one call; the session goes on from record to record, up to the next start. Where each word of a head stands is below.
+// Replays the set `histories`: the calls of sessions one after the other, each with how it is judged and how the
+// session stands then, by the Rust's answer for the lines that stand. A record is one call; the session goes on from
+// record to record, up to the next start. Where each word of a head stands is below.
 use admission::Judged;
 use lines::Line;
 use lines::Origin;
@@ -21,9 +22,9 @@ struct Playing {
     session: Session,
 }
 
-// A number of a head. From 0 on: how many bytes come behind the head, the call's kind, its two arguments, how it is judged, the line count, the rigid count, how
-// many numbers of origins are told, the answer (seven), the wish (two; of a change by origin the kind and the place), and of a change how many indices there are,
-// or were withdrawn.
+// A number of a head. From 0 on: how many bytes come behind the head, the call's kind, its two arguments, how it is
+// judged, the line count, the rigid count, how many numbers of origins are told, the answer (seven), the wish (two; of
+// a change by origin the kind and the place), and of a change how many indices there are, or were withdrawn.
 fn size_at(head: &[u8], at: usize) -> usize
     ensures { λ r. ⌜ r < 4294967296 ⌝ }
 {
@@ -76,7 +77,8 @@ fn called(session: Session, head: &[u8], rest: &[u8]) -> Fed {
     }
 }
 
-// Where the parts of a record stand behind its head: the origins that are told end at `told`, and numbers, their origins and indices follow, so many of each.
+// Where the parts of a record stand behind its head: the origins that are told end at `told`, and numbers, their
+// origins and indices follow, so many of each.
 struct Parts {
     told: usize,
     numbers: usize,
@@ -86,7 +88,8 @@ struct Parts {
 
 // The parts of a record; none where it does not hold as many as its head says, or more than any.
 fn parts_of(head: &[u8], rest: &[u8]) -> Parts
-    ensures { λ r. ⌜ (r .told + 4 * r .numbers + 4 * r .origins ≤ length (now (rest .entry))) × (r .numbers ≤ 1280) × (r .origins ≤ 776) × (r .indices ≤ 264) ⌝ }
+    ensures { λ r. ⌜ (r .told + 4 * r .numbers + 4 * r .origins ≤ length (now (rest .entry))) × (r .numbers ≤ 1280)
+        × (r .origins ≤ 776) × (r .indices ≤ 264) ⌝ }
 {
     let none = Parts {
         told: 0,
@@ -197,8 +200,8 @@ fn changed_by_origin(session: Session, head: &[u8], rest: &[u8]) -> Fed {
     fed
 }
 
-// What a session answers about the batch of a record, which leaves it as it is: refused with 0 where it names another line than the record does, by its index, or
-// FFFFFFFF for none.
+// What a session answers about the batch of a record, which leaves it as it is: refused with 0 where it names another
+// line than the record does, by its index, or FFFFFFFF for none.
 fn asked(session: Session, head: &[u8], rest: &[u8]) -> Fed {
     let p = parts_of(head, rest);
     let told = p.told;
@@ -262,7 +265,8 @@ fn stands(session: Session, head: &[u8], rest: &[u8]) -> bool {
         & is_standing(head, 32, phase, failed, session.probes)
 }
 
-// Whether a session with more lines than it holds gets 4, whatever is asked of it: before an index (15), numbers and origins (2) are looked at.
+// Whether a session with more lines than it holds gets 4, whatever is asked of it: before an index (15), numbers and
+// origins (2) are looked at.
 fn is_forged_refused(given: Session, head: &[u8]) -> bool {
     let forged = Session {
         count: Line::MOST + 1,

@@ -1,6 +1,7 @@
-// Moves scene records from standard input between their versions, and writes to standard output what was told and what the buffer held then. A call is a pair, the
-// version to move to, a pair, the buffer's length, a pair, the record's length, and the record. The answer is a pair, the length that was written or FF00 and the
-// refusal's number, and the whole buffer. The oracle makes both files.
+// Moves scene records from standard input between their versions, and writes to standard output what was told and what
+// the buffer held then. A call is a pair, the version to move to, a pair, the buffer's length, a pair, the record's
+// length, and the record. The answer is a pair, the length that was written or FF00 and the refusal's number, and the
+// whole buffer. The oracle makes both files.
 use libc::STDIN_FILENO;
 use libc::STDOUT_FILENO;
 use scene_records::SceneWritten;

@@ -1,4 +1,5 @@
-// The records of a set of vectors: a walk over their file, and what a record holds at a place, counted in bytes: inputs, and answers to compare with. Words are big-endian.
+// The records of a set of vectors: a walk over their file, and what a record holds at a place, counted in bytes:
+// inputs, and answers to compare with. Words are big-endian.
 use common::Vec2;
 use verdict::Tally;
 ghost use mathlib.Core.Path.{_≡_};
@@ -8,7 +9,8 @@ ghost use Rattle.verdict.specs.Tallies.{noVectors, isGood};
 ghost use Rattle.replay_records.specs.Answers.{numberAt, vectorAt, isNumber, isVector, isFlag, agreesWith};
 ghost use Rattle.replay_records.specs.Records.{firstNumbers};
 
-// A walk over the records of a file: how many indices are left to name records by, none once it is over, and the comparisons so far.
+// A walk over the records of a file: how many indices are left to name records by, none once it is over, and the
+// comparisons so far.
 pub struct Walk {
     pub fd: i32,
     pub left: u32,
@@ -29,7 +31,8 @@ impl Walk {
         }
     }
 
-    // Reads the next record's head, which fills `head`. The walk is over where the file ends. A head that is cut short is bad, and one for which no index is left.
+    // Reads the next record's head, which fills `head`. The walk is over where the file ends. A head that is cut short
+    // is bad, and one for which no index is left.
     pub fn read_head(self, head: &mut [u8]) -> Walk
         ensures { λ r. ⌜ r .left ≤ self .left ⌝ }
     {
@@ -46,7 +49,8 @@ impl Walk {
         self
     }
 
-    // Reads the bytes behind a head to the start of `rest`. A record that is cut short, or longer than any, is bad, and the walk is over: none behind it can be found.
+    // Reads the bytes behind a head to the start of `rest`. A record that is cut short, or longer than any, is bad, and
+    // the walk is over: none behind it can be found.
     pub fn read_rest(self, size: usize, rest: &mut [u8]) -> Walk
         ensures { λ r. ⌜ r .left ≤ self .left ⌝ }
     {
@@ -144,14 +148,16 @@ pub fn is_flag(bytes: &[u8], at: usize, flag: bool) -> bool
     if flag { word == 1 } else { word == 0 }
 }
 
-// Whether the number is the one with the pattern by value: bit for bit, but for zeros, since Rust's `min` and `max` leave open which of two zeros they take. A NaN is no answer.
+// Whether the number is the one with the pattern by value: bit for bit, but for zeros, since Rust's `min` and `max`
+// leave open which of two zeros they take. A NaN is no answer.
 pub fn agrees(x: f32, pattern: u32) -> bool
     ensures { λ r. ⌜ r ≡ agreesWith x pattern ⌝ }
 {
     x == words::number(pattern)
 }
 
-// The first `count` numbers, of a line list four a line, of an obstacle two a vertex, and then zeros. More than 1,280 are not asked for.
+// The first `count` numbers, of a line list four a line, of an obstacle two a vertex, and then zeros. More than 1,280
+// are not asked for.
 pub fn first_numbers(bytes: &[u8], count: usize) -> [f32; 1280]
     ensures { λ r. ⌜ (count ≤ 1280 → take count r ≡ firstNumbers (now (bytes .entry)) count) ⌝ }
 {

@@ -1,4 +1,5 @@
--- How lines stand against the answer at a place, by the definitions of the crate `linear_programming`. Definitions only. Assumes nothing.
+-- How lines stand against the answer at a place, by the definitions of the crate `linear_programming`. Definitions
+-- only. Assumes nothing.
 use Prim.Native.Nat.{ℕ, _+_, _/_, _%_}
 use mathlib.Core.Bool.{Bool, _&&_}
 use mathlib.Core.List.{List}
@@ -13,7 +14,8 @@ use Rattle.replay_records.specs.Answers.{agreesWith}
 abbrev pub nought : Float
 nought = ofBits binary32 0
 
--- whether the cause is the one of a word: 1 the circle, 2 a parallel line, 3 ends that crossed, times 65,536, and the earlier line's index
+-- whether the cause is the one of a word: 1 the circle, 2 a parallel line, 3 ends that crossed, times 65,536, and the
+-- earlier line's index
 unfoldable pub isCause : ℕ → Cause → Bool
 isCause word circle = eqb word 65536
 isCause word (parallel i) = eqb (word / 65536) 2 && eqb (word % 65536) i

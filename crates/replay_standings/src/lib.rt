@@ -1,5 +1,5 @@
-// How lines stand against an answer, seven words from a place on: kind (0 solving, 1 relaxing, 2 rigid failure, 100 + the number of a refusal),
-// point (2), penetration, failed line, its cause, probes.
+// How lines stand against an answer, seven words from a place on: kind (0 solving, 1 relaxing, 2 rigid failure, 100 +
+// the number of a refusal), point (2), penetration, failed line, its cause, probes.
 use linear_programming::FailedLine;
 use linear_programming::Phase;
 use one_line::Cause;
@@ -10,7 +10,8 @@ ghost use Rattle.one_line.specs.Read.{causeOf};
 ghost use Rattle.linear_programming.specs.Read.{phaseOf, failedOf};
 ghost use Rattle.replay_standings.specs.Standings.{isCause, isFailed, isTold, isStanding};
 
-// Whether phase, failed line and probes are those of the answer at the place. A rigid failure's own index is the failed line, too.
+// Whether phase, failed line and probes are those of the answer at the place. A rigid failure's own index is the failed
+// line, too.
 pub fn is_standing(bytes: &[u8], at: u16, phase: Phase, failed: FailedLine, probes: u32) -> bool
     ensures { λ r. ⌜ r ≡ isStanding (now (bytes .entry)) at (phaseOf phase) (failedOf failed) probes ⌝ }
 {
@@ -64,7 +65,8 @@ pub fn is_failed(line: u32, word: u32, failed: FailedLine) -> bool
     }
 }
 
-// Whether the cause is the one of the word: 1 the circle, 2 a parallel line, 3 ends that crossed, times 65,536, and the earlier line's index.
+// Whether the cause is the one of the word: 1 the circle, 2 a parallel line, 3 ends that crossed, times 65,536, and the
+// earlier line's index.
 fn is_cause(word: u32, cause: Cause) -> bool
     ensures { λ r. ⌜ r ≡ isCause word (causeOf cause) ⌝ }
 {

@@ -1,7 +1,8 @@
-// Replays the set `walls`: moves over lent obstacles, told as the oracle's walk over the Rust's times tells them.
-// A record is, in words: from (2), to (2), the obstacles' count, how many kinds, counts and numbers of vertices are lent; the answer, 0 where the move is clear,
-// 1 where it crosses an edge, 100 + the number of a refusal; obstacle and left vertex of the first crossed edge, and how many are crossed, 0 where none is; then
-// the numbers, a word each, the kinds and the counts, a byte each.
+// Replays the set `walls`: moves over lent obstacles, told as the oracle's walk over the Rust's times tells them. A
+// record is, in words: from (2), to (2), the obstacles' count, how many kinds, counts and numbers of vertices are lent;
+// the answer, 0 where the move is clear, 1 where it crosses an edge, 100 + the number of a refusal; obstacle and left
+// vertex of the first crossed edge, and how many are crossed, 0 where none is; then the numbers, a word each, the kinds
+// and the counts, a byte each.
 use replay_records::Walk;
 use replay_records::first_numbers;
 use replay_records::vector_at;

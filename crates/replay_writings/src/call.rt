@@ -1,6 +1,8 @@
-// A call of the writer. Its head is sixteen words: position, velocity, margin, horizon, wish and limit (nine numbers), the obstacles' count, how many kinds, counts
-// and numbers of vertices are lent, the neighbours' count, how many numbers of lines are lent, and the buffer's length. Behind it stand the kinds and the counts, a byte
-// each, and the numbers of vertices and lines, a word each. The answer is a pair, the refusal's number or 0, a pair, the length or 0, and the whole buffer.
+// A call of the writer. Its head is sixteen words: position, velocity, margin, horizon, wish and limit (nine numbers),
+// the obstacles' count, how many kinds, counts and numbers of vertices are lent, the neighbours' count, how many
+// numbers of lines are lent, and the buffer's length. Behind it stand the kinds and the counts, a byte each, and the
+// numbers of vertices and lines, a word each. The answer is a pair, the refusal's number or 0, a pair, the length or 0,
+// and the whole buffer.
 use common::Vec2;
 use edges::Agent;
 use scene_records::Cart;

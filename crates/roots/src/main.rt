@@ -1,4 +1,5 @@
-// Tries `arithmetic::sqrt` on the vectors of data/. A vector is the pattern of a number and the pattern of its root, four bytes each, the highest first.
+// Tries `arithmetic::sqrt` on the vectors of data/. A vector is the pattern of a number and the pattern of its root,
+// four bytes each, the highest first.
 use verdict::Tally;
 ghost use mathlib.Core.Path.{_≡_};
 ghost use Prim.Native.Nat.{_≤_};
@@ -10,13 +11,15 @@ ghost use Rattle.words.specs.Patterns.{hasPattern};
 
 // Whether the root of the vector's number is the root that it names, bit for bit.
 fn is_root(vector: &[u8]) -> bool
-    ensures { λ r. ⌜ r ≡ hasPattern (sqrtOf (ofBits binary32 (wordOf (now (vector .entry)) 0))) (wordOf (now (vector .entry)) 4) ⌝ }
+    ensures { λ r. ⌜ r ≡ hasPattern (sqrtOf (ofBits binary32 (wordOf (now (vector .entry)) 0)))
+        (wordOf (now (vector .entry)) 4) ⌝ }
 {
     let x = words::number(words::word_at(vector, 0));
     words::has_pattern(arithmetic::sqrt(x), words::word_at(vector, 4))
 }
 
-// The tally with the vector at the start of `rest` counted in, by the pattern of its number. Bytes too few for a vector are a bad one.
+// The tally with the vector at the start of `rest` counted in, by the pattern of its number. Bytes too few for a vector
+// are a bad one.
 fn counted(rest: &[u8], t: Tally) -> Tally {
     let name = words::word_at(rest, 0);
     if rest.len() < 8 {

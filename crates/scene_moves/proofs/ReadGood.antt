@@ -27,7 +27,8 @@ is-true true h = refl
 is-true false h = absurd h
 
 -- steps that each give what is admitted
-pub many-good : {A S : Type 0} (step : S → ℕ → Got A) (on : S → A → S) (P : S → A → Type 0) → ((state : S) (at : ℕ) (a : A) (m : ℕ) → step state at ≡ got a m → P state a)
+pub many-good : {A S : Type 0} (step : S → ℕ → Got A) (on : S → A → S) (P : S → A → Type 0) →
+    ((state : S) (at : ℕ) (a : A) (m : ℕ) → step state at ≡ got a m → P state a)
     → (n : ℕ) (state : S) (at : ℕ) (vs : List A) (m : ℕ) → many step on n state at ≡ got vs m → Every P on state vs
 unfolding many
 many-good step on P one zero state at vs m e = rw (← got-same e .0) tt
@@ -38,10 +39,16 @@ many-good step on P one (suc n) state at vs m e =
 
 module _ (s : List ℕ) where
   number-good : (passes : Float → Bool) (at : ℕ) (x : Float) (m : ℕ) → number passes s at ≡ got x m → Good passes x
-  number-good passes at x m e = number-taken s passes at x m e λ b p v t. record { fit = rw v at (is-true (fits binary32 (ofBits binary32 b)) (ofBits-fits binary32 b)); pass = t }
+  number-good passes at x m e = number-taken s passes at x m e λ b p v t. record {
+    fit = rw v at (is-true (fits binary32 (ofBits binary32 b)) (ofBits-fits binary32 b));
+    pass = t;
+  }
 
   vector-good : (passes : Float → Bool) (at : ℕ) (v : Vec2) (m : ℕ) → vector passes s at ≡ got v m → GoodVector passes v
-  vector-good passes at v m e = vector-taken s passes at v m e λ a p q. record { x = number-good passes at (v .x) a p; y = number-good passes a (v .y) m q }
+  vector-good passes at v m e = vector-taken s passes at v m e λ a p q. record {
+    x = number-good passes at (v .x) a p;
+    y = number-good passes a (v .y) m q;
+  }
 
   pub cart-good : (at : ℕ) (x : Cart) (m : ℕ) → cart s at ≡ got x m → GoodCart x
   cart-good at x m z =
@@ -56,7 +63,10 @@ module _ (s : List ℕ) where
       })
 
   vertex-good : (before : OuterVertex) (at : ℕ) (v : Vec2) (m : ℕ) → vertex s before at ≡ got v m → GoodVertex before v
-  vertex-good before at v m e = vertex-taken s before at v m e λ p t. record { vector = vector-good (within reach) at v m p; apart = t }
+  vertex-good before at v m e = vertex-taken s before at v m e λ p t. record {
+    vector = vector-good (within reach) at v m p;
+    apart = t;
+  }
 
   obstacle-good : (total at : ℕ) (o : Obstacle) (m : ℕ) → obstacle s total at ≡ got o m → GoodObstacle total o
   unfolding verticesAt
@@ -70,9 +80,14 @@ module _ (s : List ℕ) where
         closed = pair;
       }
 
-  pub obstacles-good : (n total at : ℕ) (os : List Obstacle) (m : ℕ) → obstacles s n total at ≡ got os m → Every GoodObstacle onTotal total os
+  pub obstacles-good : (n total at : ℕ) (os : List Obstacle) (m : ℕ) → obstacles s n total at ≡ got os m →
+      Every GoodObstacle onTotal total os
   unfolding obstacles
   obstacles-good n total at os m e = many-good (obstacle s) onTotal GoodObstacle obstacle-good n total at os m e
 
   pub line-good : (at : ℕ) (l : Line) (m : ℕ) → neighbour s at ≡ got l m → GoodLine l
-  line-good at l m e = line-taken s at l m e λ a read-p read-d band. record { point = vector-good _ at (l .point) a read-p; direction = vector-good _ a (l .direction) m read-d; band = band }
+  line-good at l m e = line-taken s at l m e λ a read-p read-d band. record {
+    point = vector-good _ at (l .point) a read-p;
+    direction = vector-good _ a (l .direction) m read-d;
+    band = band;
+  }

@@ -52,7 +52,8 @@ module _ (v : Version) (s : List ℕ) (r : NumberedScene) (e : r ≡ numberedAs 
   read-got : (x : Numbered) (m : ℕ) → sceneInVersion v s ≡ got x m → Read v s r
   read-got x m z =
       made-parts sceneMade v s x m z λ p read same.
-      parts-taken s v p m read λ n b d i f word-n right few byte fits read-cart read-os few-os list-os read-ls few-ls list-ls stop.
+      parts-taken s v p m read λ n b d i f word-n right few byte fits read-cart read-os few-os list-os read-ls few-ls
+      list-ls stop.
       let scene : r ≡ numberedAs (got (numberedOf p) m) = e ∙ ap numberedAs (z ∙ ap (λ (y : Numbered). got y m) same) in
       let many : r .scene .neighbours ≡ length (p .neighbours) = ap (λ (y : NumberedScene). y .scene .neighbours) scene in
       let stored : r .numbers ≡ sets blankWords 0 (map numberOf (p .neighbours)) = ap (λ (y : NumberedScene). y .numbers) scene in
@@ -77,13 +78,15 @@ module _ (v : Version) (s : List ℕ) (r : NumberedScene) (e : r ≡ numberedAs 
       go (got x m) z = read-got x m z
 
   -- the record's own refusal
-  pub told-fault : (w : Version) (buffer : List ℕ) (n : ℕ) → r .judged ≡ judged.Fault n → written (fault n) 0 buffer ≡ movedInto v w s buffer
+  pub told-fault : (w : Version) (buffer : List ℕ) (n : ℕ) → r .judged ≡ judged.Fault n → written (fault n) 0 buffer
+      ≡ movedInto v w s buffer
   unfolding movedInto moved
   told-fault w buffer n j = go (sceneInVersion v s) refl
     where
       go : (g : Got Numbered) → sceneInVersion v s ≡ g → written (fault n) 0 buffer ≡ movedInto v w s buffer
       go (refused m) z =
-          let same : _≡_ {A = Fault} (fault n) (fault m) = ap faultOf (sym j ∙ ap (λ (y : NumberedScene). y .judged) (e ∙ ap numberedAs z)) in
+          let same : _≡_ {A = Fault} (fault n) (fault m) =
+          ap faultOf (sym j ∙ ap (λ (y : NumberedScene). y .judged) (e ∙ ap numberedAs z)) in
           rw (refused-parts sceneMade v s m z) (ap (λ (f : Fault). written f 0 buffer) same)
       go (got x m) z = absurd (no-fault n (ap faultOf (sym (ap (λ (y : NumberedScene). y .judged) (e ∙ ap numberedAs z)) ∙ j)))
 
@@ -94,10 +97,14 @@ abbrev pub moveFault : Bool → ℕ → ℕ → Fault
 moveFault kept n m = must kept 11 ⊳ must (leb n m) 10
 
 pub both-pass : (kept : Bool) (n m : ℕ) → fine ≡ moveFault kept n m → (kept ≡ true) × (n ≤ m)
-both-pass kept n m f = let passed = ⊳-fine (must kept 11) (sym f) in (must-fine kept 11 (passed .0), leb-true n m (must-fine (leb n m) 10 (passed .1)))
+both-pass kept n m f =
+    let passed = ⊳-fine (must kept 11) (sym f) in
+    (must-fine kept 11 (passed .0), leb-true n m (must-fine (leb n m) 10 (passed .1)))
 
 laid-judged : (kept : Bool) (bytes : List ℕ) (end : ℕ) (buffer : List ℕ) →
-    laidMove (guard kept 11 (got bytes end)) buffer ≡ unlessFault (λ r. written (fault r) 0 buffer) (moveFault kept (length bytes) (length buffer)) (written fine (length bytes) (bytes ++ drop (length bytes) buffer))
+    laidMove (guard kept 11 (got bytes end)) buffer
+    ≡ unlessFault (λ r. written (fault r) 0 buffer) (moveFault kept (length bytes) (length buffer))
+    (written fine (length bytes) (bytes ++ drop (length bytes) buffer))
 unfolding laidScene
 laid-judged true bytes end buffer = refl
 laid-judged false bytes end buffer = refl
@@ -110,26 +117,32 @@ module _ (v w : Version) (s buffer : List ℕ) (r : NumberedScene) (known : Read
   bytes = movedBytes v w count s
 
   -- the refusal of a record that was read: 11, then 10
-  pub told-refused : (n : ℕ) → n ≡ movedLength v w count s → (m : ℕ) → fault m ≡ moveFault (keeps w (known .parts)) n (length buffer) → written (fault m) 0 buffer ≡ movedInto v w s buffer
+  pub told-refused : (n : ℕ) → n ≡ movedLength v w count s → (m : ℕ) →
+      fault m ≡ moveFault (keeps w (known .parts)) n (length buffer) → written (fault m) 0 buffer
+      ≡ movedInto v w s buffer
   unfolding movedInto moved
   told-refused n e m f =
       let size : length bytes ≡ n = moved-long v w count s (known .room) ∙ sym e in
       let told : fault m ≡ moveFault (keeps w (known .parts)) (length bytes) (length buffer) = rw size f in
-      let same : movedInto v w s buffer ≡ laidMove (guard (keeps w (known .parts)) 11 (got bytes (known .end))) buffer = rw (known .read, known .many) in
-      ap (λ (g : Fault). unlessFault (λ r. written (fault r) 0 buffer) g (written fine (length bytes) (bytes ++ drop (length bytes) buffer))) told
+      let same : movedInto v w s buffer ≡ laidMove (guard (keeps w (known .parts)) 11 (got bytes (known .end))) buffer =
+      rw (known .read, known .many) in
+      ap (λ (g : Fault). unlessFault (λ r. written (fault r) 0 buffer) g
+      (written fine (length bytes) (bytes ++ drop (length bytes) buffer))) told
       ∙ sym (same ∙ laid-judged (keeps w (known .parts)) bytes (known .end) buffer)
 
   goes : keeps w (known .parts) ≡ true → movedInto v w s buffer ≡ laidScene fine bytes buffer
   unfolding movedInto moved
   goes k = rw (known .read, k, known .many)
 
-  pub told-short : keeps w (known .parts) ≡ true → (n : ℕ) → n ≡ movedLength v w count s → length buffer < n → written (fault 10) 0 buffer ≡ movedInto v w s buffer
+  pub told-short : keeps w (known .parts) ≡ true → (n : ℕ) → n ≡ movedLength v w count s → length buffer < n →
+      written (fault 10) 0 buffer ≡ movedInto v w s buffer
   unfolding laidScene
   told-short k n e h =
       let far : length buffer < length bytes = rw (moved-long v w count s (known .room), ← e) h in
       rw (goes k, lt-leb (length bytes) (length buffer) far)
 
-  pub told-moved : keeps w (known .parts) ≡ true → (n : ℕ) → n ≡ movedLength v w count s → n ≤ length buffer → (l : List ℕ) → l ≡ sets buffer 0 bytes → written fine n l ≡ movedInto v w s buffer
+  pub told-moved : keeps w (known .parts) ≡ true → (n : ℕ) → n ≡ movedLength v w count s → n ≤ length buffer →
+      (l : List ℕ) → l ≡ sets buffer 0 bytes → written fine n l ≡ movedInto v w s buffer
   unfolding laidScene
   told-moved k n e h l f =
       let size : length bytes ≡ n = moved-long v w count s (known .room) ∙ sym e in

@@ -26,7 +26,8 @@ numberSize Two = 4
 abbrev pub lineSize : Version → ℕ
 lineSize v = numberSize v + 16
 
--- "before each neighbour line's point": of the n lines in front each without its number of the one version and with the number 0 of the other
+-- "before each neighbour line's point": of the n lines in front each without its number of the one version and with the
+-- number 0 of the other
 unfoldable pub movedLines : Version → Version → ℕ → List ℕ → List ℕ
 movedLines v w zero s = []
 movedLines v w (suc n) s = numberBytes w 0 ++ take 16 (drop (numberSize v) s) ++ movedLines v w n (drop (lineSize v) s)
@@ -42,7 +43,8 @@ movedLength v w n s = linesStart v n s + lineSize w * n
 -- the new length and version, what stands between the version and the lines as it is, then the lines
 unfoldable pub movedBytes : Version → Version → ℕ → List ℕ → List ℕ
 movedBytes v w n s =
-    bigEndian 2 (movedLength v w n s - 2) ++ (byteOf w ∷ []) ++ take (linesStart v n s - 3) (drop 3 s) ++ movedLines v w n (drop (linesStart v n s) s)
+    bigEndian 2 (movedLength v w n s - 2) ++ (byteOf w ∷ []) ++ take (linesStart v n s - 3) (drop 3 s)
+    ++ movedLines v w n (drop (linesStart v n s) s)
 
 -- ---- the moves
 

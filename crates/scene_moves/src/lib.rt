@@ -15,9 +15,9 @@ ghost use Rattle.scene_moves.specs.Moves.{allZero, movedInto};
 
 mod put;
 
-// Moves a record of version 1 to version 2, every neighbour's number being 0: the new record stands at the buffer's start, and bytes behind it keep their
-// contents. Refused, in this order, and then nothing is written: what `scene_records::read_scene_of_version` refuses, version 2 with 1; a buffer shorter
-// than the new record (10).
+// Moves a record of version 1 to version 2, every neighbour's number being 0: the new record stands at the buffer's
+// start, and bytes behind it keep their contents. Refused, in this order, and then nothing is written: what
+// `scene_records::read_scene_of_version` refuses, version 2 with 1; a buffer shorter than the new record (10).
 pub fn to_version_2(source: &[u8], buffer: &mut [u8]) -> SceneWritten
     ensures { λ r. ⌜ writtenOf r (now (buffer .exit)) ≡ movedInto One Two (now (source .entry)) (now (buffer .entry)) ⌝ }
 {
@@ -37,9 +37,10 @@ pub fn to_version_2(source: &[u8], buffer: &mut [u8]) -> SceneWritten
     SceneWritten::Length(length)
 }
 
-// Moves a record of version 2 back to version 1, where every neighbour's number is 0: the new record stands at the buffer's start, and bytes behind it keep
-// their contents. Refused, in this order, and then nothing is written: what `scene_records::read_scene_of_version` refuses, version 1 with 1; a number that
-// is not 0 (11); a buffer shorter than the new record (10).
+// Moves a record of version 2 back to version 1, where every neighbour's number is 0: the new record stands at the
+// buffer's start, and bytes behind it keep their contents. Refused, in this order, and then nothing is written: what
+// `scene_records::read_scene_of_version` refuses, version 1 with 1; a number that is not 0 (11); a buffer shorter than
+// the new record (10).
 pub fn to_version_1(source: &[u8], buffer: &mut [u8]) -> SceneWritten
     ensures { λ r. ⌜ writtenOf r (now (buffer .exit)) ≡ movedInto Two One (now (source .entry)) (now (buffer .entry)) ⌝ }
 {

@@ -20,7 +20,9 @@ fn put_bytes(buffer: &mut [u8], at: usize, source: &[u8], from: usize, count: us
 // The new record's length and version, then what stands before its lines.
 pub(crate) fn put_start(buffer: &mut [u8], source: &[u8], start: usize, size: usize, version: u8)
     requires { ⌜ (3 ≤ start) × (start ≤ length (now source)) × (start ≤ length (now buffer)) × (2 ≤ size) × (size < 65536) ⌝ }
-    ensures { λ _. ⌜ now (buffer .exit) ≡ sets (now (buffer .entry)) 0 (bigEndian 2 (size - 2) ++ (version ∷ []) ++ take (start - 3) (drop 3 (now (source .entry)))) ⌝ }
+    ensures { λ _. ⌜ now (buffer .exit)
+        ≡ sets (now (buffer .entry)) 0 (bigEndian 2 (size - 2) ++ (version ∷ []) ++ take (start - 3)
+        (drop 3 (now (source .entry)))) ⌝ }
 {
     words::put_pair(buffer, 0, (size - 2) as u16);
     buffer[2] = version;
@@ -30,7 +32,8 @@ pub(crate) fn put_start(buffer: &mut [u8], source: &[u8], start: usize, size: us
 // The lines, each with the number 0 before it.
 pub(crate) fn put_numbered(buffer: &mut [u8], source: &[u8], start: usize, count: usize)
     requires { ⌜ (start + 16 * count ≤ length (now source)) × (start + 20 * count ≤ length (now buffer)) ⌝ }
-    ensures { λ _. ⌜ now (buffer .exit) ≡ sets (now (buffer .entry)) start (movedLines One Two count (drop start (now (source .entry)))) ⌝ }
+    ensures { λ _. ⌜ now (buffer .exit)
+        ≡ sets (now (buffer .entry)) start (movedLines One Two count (drop start (now (source .entry)))) ⌝ }
 {
     let mut i = 0usize;
     while i < count {
@@ -43,7 +46,8 @@ pub(crate) fn put_numbered(buffer: &mut [u8], source: &[u8], start: usize, count
 // The lines, each without its number.
 pub(crate) fn put_unnumbered(buffer: &mut [u8], source: &[u8], start: usize, count: usize)
     requires { ⌜ (start + 20 * count ≤ length (now source)) × (start + 16 * count ≤ length (now buffer)) ⌝ }
-    ensures { λ _. ⌜ now (buffer .exit) ≡ sets (now (buffer .entry)) start (movedLines Two One count (drop start (now (source .entry)))) ⌝ }
+    ensures { λ _. ⌜ now (buffer .exit)
+        ≡ sets (now (buffer .entry)) start (movedLines Two One count (drop start (now (source .entry)))) ⌝ }
 {
     let mut i = 0usize;
     while i < count {

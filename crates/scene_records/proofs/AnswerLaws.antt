@@ -1,5 +1,5 @@
--- Laws of the answers that the readers promise: each is the only one; that of `read_scene_version_1` is fine exactly for the bytes of a
--- scene without a fault, and then it is that scene. Assumes nothing.
+-- Laws of the answers that the readers promise: each is the only one; that of `read_scene_version_1` is fine exactly
+-- for the bytes of a scene without a fault, and then it is that scene. Assumes nothing.
 use Prim.Native.Nat.{ℕ}
 use mathlib.Core.Path.{_≡_, refl, sym, ap, _∙_}
 use mathlib.Core.List.{List}
@@ -20,13 +20,16 @@ use Rattle.scene_records.proofs.ReadBytes.{accepted-is-bytes-version-1}
 use Rattle.scene_records.proofs.ReadAdmitted.{read-admitted-version-1}
 use Rattle.scene_records.proofs.WrittenScenes.{Typed, tidied, bytes-are-read-version-1}
 
-pub answers-agree : (s : List ℕ) {one other : NumberedScene} → one ≡ numberedAs (sceneIn s) → other ≡ numberedAs (sceneIn s) → one ≡ other
+pub answers-agree : (s : List ℕ) {one other : NumberedScene} → one ≡ numberedAs (sceneIn s) →
+    other ≡ numberedAs (sceneIn s) → one ≡ other
 answers-agree s = agree
 
-pub answers-agree-of-version : (v : Version) (s : List ℕ) {one other : NumberedScene} → one ≡ numberedAs (sceneInVersion v s) → other ≡ numberedAs (sceneInVersion v s) → one ≡ other
+pub answers-agree-of-version : (v : Version) (s : List ℕ) {one other : NumberedScene} →
+    one ≡ numberedAs (sceneInVersion v s) → other ≡ numberedAs (sceneInVersion v s) → one ≡ other
 answers-agree-of-version v s = agree
 
-pub answers-agree-version-1 : (s : List ℕ) {one other : SceneRead} → one ≡ readAs (sceneInVersion1 s) → other ≡ readAs (sceneInVersion1 s) → one ≡ other
+pub answers-agree-version-1 : (s : List ℕ) {one other : SceneRead} → one ≡ readAs (sceneInVersion1 s) →
+    other ≡ readAs (sceneInVersion1 s) → one ≡ other
 answers-agree-version-1 s = agree
 
 -- an answer that is fine comes from a scene that was read
@@ -44,5 +47,6 @@ module _ (s : List ℕ) (r : SceneRead) (promised : r ≡ readAs (sceneInVersion
   pub answer-admitted-version-1 : sceneFault (r .scene) ≡ fine
   answer-admitted-version-1 = reads λ m e. read-admitted-version-1 s (r .scene) m e
 
-pub written-answer-version-1 : (c : Scene) (t : Typed c) → sceneFault c ≡ fine → (r : SceneRead) → r ≡ readAs (sceneInVersion1 (sceneBytes c)) → r ≡ record { judged = judgedAs fine; scene = tidied c t }
+pub written-answer-version-1 : (c : Scene) (t : Typed c) → sceneFault c ≡ fine → (r : SceneRead) →
+    r ≡ readAs (sceneInVersion1 (sceneBytes c)) → r ≡ record { judged = judgedAs fine; scene = tidied c t }
 written-answer-version-1 c t e r promised = promised ∙ ap readAs (bytes-are-read-version-1 c t e)

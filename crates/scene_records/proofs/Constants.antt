@@ -8,7 +8,9 @@ use Rattle.scene_records.specs.Steps.{sceneVersion}
 use Rattle.scene_records.specs.Records.{longestRest}
 use Rattle.scene_records.specs.Versions.{longestEither}
 
--- version, cart, obstacle count, kind and vertex count of each obstacle, eight bytes a vertex, neighbour count, sixteen bytes a line; under
--- version 2 four more for its number
-pub constants : (sceneVersion ∷ longestRest ∷ longestEither ∷ []) ≡ (1 ∷ (1 + 36 + 1 + 2 * mostObstacles + 8 * mostTogether + 1 + 16 * mostNeighbours) ∷ (longestRest + 4 * mostNeighbours) ∷ [])
+-- version, cart, obstacle count, kind and vertex count of each obstacle, eight bytes a vertex, neighbour count, sixteen
+-- bytes a line; under version 2 four more for its number
+pub constants : (sceneVersion ∷ longestRest ∷ longestEither ∷ [])
+    ≡ (1 ∷ (1 + 36 + 1 + 2 * mostObstacles + 8 * mostTogether + 1 + 16 * mostNeighbours)
+    ∷ (longestRest + 4 * mostNeighbours) ∷ [])
 constants = refl

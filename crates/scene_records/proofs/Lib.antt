@@ -1,4 +1,5 @@
--- The laws of `scene_records`: of the cursor and the steps that it takes; of records and the bytes of scenes, there and back; and of the answer.
+-- The laws of `scene_records`: of the cursor and the steps that it takes; of records and the bytes of scenes, there and
+-- back; and of the answer.
 pub mod Cursors
 pub mod Taken
 pub mod FieldLaws

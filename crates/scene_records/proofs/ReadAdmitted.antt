@@ -37,20 +37,33 @@ module _ (s : List ℕ) where
   number-passed : (passes : Float → Bool) (at : ℕ) (x : Float) (m : ℕ) → number passes s at ≡ got x m → passes x ≡ true
   number-passed passes at x m e = number-taken s passes at x m e λ b p v t. t
 
-  vector-passed : (passes : Float → Bool) (at : ℕ) (v : Vec2) (m : ℕ) → vector passes s at ≡ got v m → (passes (v .x) ≡ true) × (passes (v .y) ≡ true)
-  vector-passed passes at v m e = vector-taken s passes at v m e λ a p q. (number-passed passes at (v .x) a p, number-passed passes a (v .y) m q)
+  vector-passed : (passes : Float → Bool) (at : ℕ) (v : Vec2) (m : ℕ) → vector passes s at ≡ got v m →
+      (passes (v .x) ≡ true) × (passes (v .y) ≡ true)
+  vector-passed passes at v m e = vector-taken s passes at v m e λ a p q. (
+    number-passed passes at (v .x) a p,
+    number-passed passes a (v .y) m q,
+  )
 
   vector-fine : (at : ℕ) (v : Vec2) (m : ℕ) → vector (within reach) s at ≡ got v m → vectorFault v ≡ fine
   unfolding vectorFault
   vector-fine at v m e = let h = vector-passed (within reach) at v m e in rw (h .0, h .1)
 
-  cart-fine : (at : ℕ) (x : Cart) (m n : ℕ) (os : List Obstacle) (k : ℕ) (ls : List Line) → cart s at ≡ got x m → cartFault (sceneOf x n os k ls) ≡ fine
+  cart-fine : (at : ℕ) (x : Cart) (m n : ℕ) (os : List Obstacle) (k : ℕ) (ls : List Line) → cart s at ≡ got x m →
+      cartFault (sceneOf x n os k ls) ≡ fine
   unfolding cartFault agentFault
   cart-fine at x m n os k ls z =
       cart-taken s at x m z λ a b d e f p v g t w l read-p read-v read-g read-t read-w read-l same.
-      rw (← same) (rw (vector-fine at p a read-p, vector-fine a v b read-v, number-passed _ b g d read-g, number-passed _ d t e read-t, vector-fine e w f read-w, number-passed _ f l m read-l) refl)
+      rw (← same) (rw (
+        vector-fine at p a read-p,
+        vector-fine a v b read-v,
+        number-passed _ b g d read-g,
+        number-passed _ d t e read-t,
+        vector-fine e w f read-w,
+        number-passed _ f l m read-l,
+      ) refl)
 
-  vertices-fine : (before : OuterVertex) (n at : ℕ) (vs : List Vec2) (m : ℕ) (behind : List Float) → verticesAt s before n at ≡ got vs m → verticesFault before n (each coordinates vs ++ behind) ≡ fine
+  vertices-fine : (before : OuterVertex) (n at : ℕ) (vs : List Vec2) (m : ℕ) (behind : List Float) →
+      verticesAt s before n at ≡ got vs m → verticesFault before n (each coordinates vs ++ behind) ≡ fine
   unfolding verticesAt many each numberFault componentsFault vertexFault verticesFault
   vertices-fine before zero at vs m behind e = refl
   vertices-fine before (suc n) at vs m behind e =
@@ -60,10 +73,16 @@ module _ (s : List ℕ) where
       let h = vector-passed (within reach) at v a read in
       rw (u, h .0, h .1, apart) (vertices-fine (onVertex before v) n a rest m behind q)
 
-  outline-fine : (o : Obstacle) (at m : ℕ) (behind : List Float) → verticesAt s noneBefore (sizeOf o) at ≡ got (o .vertices) m → closes (o .kind) (o .vertices) ≡ true
+  outline-fine : (o : Obstacle) (at m : ℕ) (behind : List Float) →
+      verticesAt s noneBefore (sizeOf o) at ≡ got (o .vertices) m → closes (o .kind) (o .vertices) ≡ true
       → outlineFault (headOf (o .kind) (sizeOf o)) (numbersIn o ++ behind) ≡ fine
   unfolding outlineFault
-  outline-fine o at m behind e h = rw (vertices-fine noneBefore (sizeOf o) at (o .vertices) m behind e, own-vertices o behind, vertices-back (o .vertices), h)
+  outline-fine o at m behind e h = rw (
+    vertices-fine noneBefore (sizeOf o) at (o .vertices) m behind e,
+    own-vertices o behind,
+    vertices-back (o .vertices),
+    h,
+  )
 
   obstacles-fine : (n total at : ℕ) (os : List Obstacle) (m : ℕ) (rest : List Float) → obstacles s n total at ≡ got os m
       → obstaclesFault total (headsOf (map kindOf os) (map sizeOf os)) (each numbersIn os ++ rest) ≡ fine
@@ -73,7 +92,15 @@ module _ (s : List ℕ) where
       then-got (obstacle s total at) _ e λ o a p r.
       cons-got o (obstacles s n (total + sizeOf o) a) r λ more q u.
       obstacle-taken s total at o a p λ b d read-k known read-n room some read-vs pair.
-      rw (u, known, room, some, append-assoc (numbersIn o) (each numbersIn more) rest, later-vertices o (each numbersIn more ++ rest), outline-fine o d a (each numbersIn more ++ rest) read-vs pair)
+      rw (
+        u,
+        known,
+        room,
+        some,
+        append-assoc (numbersIn o) (each numbersIn more) rest,
+        later-vertices o (each numbersIn more ++ rest),
+        outline-fine o d a (each numbersIn more ++ rest) read-vs pair,
+      )
       (obstacles-fine n (total + sizeOf o) a more m rest q)
 
   line-fine : (at : ℕ) (l : Line) (m : ℕ) → neighbour s at ≡ got l m → lineFault l ≡ fine
@@ -92,7 +119,8 @@ module _ (s : List ℕ) where
       cons-got l (neighbours s n a) r λ rest q u.
       rw (u, line-fine at l a p) (lines-fine n a rest m q)
 
-  numbered-fine : (v : Version) (n at : ℕ) (ls : List NumberedLine) (m : ℕ) → numberedLines v s n at ≡ got ls m → linesFault (map lineOf ls) ≡ fine
+  numbered-fine : (v : Version) (n at : ℕ) (ls : List NumberedLine) (m : ℕ) → numberedLines v s n at ≡ got ls m →
+      linesFault (map lineOf ls) ≡ fine
   unfolding numberedLines numberedLine many linesFault
   numbered-fine v zero at ls m e = rw (← got-same e .0)
   numbered-fine v (suc n) at ls m e =
@@ -102,11 +130,13 @@ module _ (s : List ℕ) where
       then-got (neighbour s b) _ t λ own d read-own same.
       rw (u, ← got-same same .0, line-fine b own d read-own) (numbered-fine v n a rest m q)
 
-  parts-fine : (at b d e : ℕ) (x : Cart) (os : List Obstacle) (ls : List Line) → cart s at ≡ got x b → length os ≤ 16 → obstacles s (length os) 0 d ≡ got os e → length ls ≤ 64 → linesFault ls ≡ fine
+  parts-fine : (at b d e : ℕ) (x : Cart) (os : List Obstacle) (ls : List Line) → cart s at ≡ got x b → length os ≤ 16 →
+      obstacles s (length os) 0 d ≡ got os e → length ls ≤ 64 → linesFault ls ≡ fine
       → sceneFault (sceneOf x (length os) os (length ls) ls) ≡ fine
   unfolding sceneFault
   parts-fine at b d e x os ls read-cart few-os list-os few-ls h =
-      let fits : length (each numbersIn os) ≤ 384 = (let most = obstacles-total s (length os) 0 d os e (omega arith) list-os in omega arith) in
+      let fits : length (each numbersIn os) ≤ 384 =
+      (let most = obstacles-total s (length os) 0 d os e (omega arith) list-os in omega arith) in
       rw (
         cart-fine at x b (length os) os (length ls) ls read-cart,
         le-leb _ 16 few-os,
@@ -128,5 +158,7 @@ module _ (s : List ℕ) where
   read-admitted x m z =
       either-taken s x m z λ v z'.
       record-taken s sceneMade v x m z' λ n read-n right few-n byte fits fields.
-      numbered-taken s sceneMade v 3 x m fields λ b d e f c os ls read-cart read-os few-os list-os read-ls few-ls list-ls end same.
-      rw (same, ← length-map ls lineOf) (parts-fine 3 b d e c os (map lineOf ls) read-cart few-os list-os (rw (length-map ls lineOf) few-ls) (numbered-fine v (length ls) f ls m list-ls))
+      numbered-taken s sceneMade v 3 x m fields λ b d e f c os ls read-cart read-os few-os list-os read-ls few-ls
+      list-ls end same.
+      rw (same, ← length-map ls lineOf) (parts-fine 3 b d e c os (map lineOf ls) read-cart few-os list-os
+      (rw (length-map ls lineOf) few-ls) (numbered-fine v (length ls) f ls m list-ls))

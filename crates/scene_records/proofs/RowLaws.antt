@@ -1,4 +1,5 @@
--- Lines with their numbers, read one behind the other and stored; and the fields of a record of either version, read by a cursor. Assumes nothing.
+-- Lines with their numbers, read one behind the other and stored; and the fields of a record of either version, read by
+-- a cursor. Assumes nothing.
 use Prim.Native.Nat.{ℕ, suc, _+_, _-_, _*_, _≤_, _<_}
 use native.Mathlib.Omega.{arith}
 use native.Mathlib.Decide.{decLt}
@@ -31,27 +32,35 @@ use Rattle.fields.proofs.StoreLaws.{sets-append}
 
 module _ (s : List ℕ) (v : Version) where
   rows-behind : (r : Rows) (i : ℕ) (a : NumberedLine) (g : Got (List NumberedLine))
-      → storedRows r i (then g λ l k. got (a ∷ l) k) ≡ storedRows (rows (sets (r .lines) (4 * i) (fourOf (a .line))) (set (r .numbers) i (a .number))) (i + 1) g
+      → storedRows r i (then g λ l k. got (a ∷ l) k)
+      ≡ storedRows (rows (sets (r .lines) (4 * i) (fourOf (a .line))) (set (r .numbers) i (a .number))) (i + 1) g
   unfolding storedRows each
   rows-behind r i a (refused n) = refl
   rows-behind r i a (got l k) =
       let on : 4 * i + 4 ≡ 4 * (i + 1) = omega arith in
-      let xs : sets (r .lines) (4 * i) (fourOf (a .line) ++ each fourOf (map lineOf l)) ≡ sets (sets (r .lines) (4 * i) (fourOf (a .line))) (4 * (i + 1)) (each fourOf (map lineOf l))
+      let xs : sets (r .lines) (4 * i) (fourOf (a .line) ++ each fourOf (map lineOf l))
+      ≡ sets (sets (r .lines) (4 * i) (fourOf (a .line))) (4 * (i + 1)) (each fourOf (map lineOf l))
       = rw on at (sets-append (r .lines) (4 * i) (fourOf (a .line)) (each fourOf (map lineOf l))) in
       rw (xs, add-one)
 
   from-behind : (r : Rows) (i : ℕ) (a : NumberedLine) (d : Cursor) (n : ℕ)
-      → storedRows r i (from d λ m. then (numberedLines v s n m) λ l k. got (a ∷ l) k) ≡ storedRows (rows (sets (r .lines) (4 * i) (fourOf (a .line))) (set (r .numbers) i (a .number))) (i + 1) (from d (numberedLines v s n))
+      → storedRows r i (from d λ m. then (numberedLines v s n m) λ l k. got (a ∷ l) k)
+      ≡ storedRows (rows (sets (r .lines) (4 * i) (fourOf (a .line))) (set (r .numbers) i (a .number))) (i + 1)
+      (from d (numberedLines v s n))
   unfolding from storedRows
   from-behind r i a (cursor.At at) n = rows-behind r i a (numberedLines v s n at)
   from-behind r i a (cursor.Fault f) n = refl
 
-  pub rows-next : (r : Rows) (i : ℕ) (c d : Cursor) (a : NumberedLine) (xs : List Float) (n : ℕ) → i < n → told d a ≡ from c (numberedLine v s) → xs ≡ sets (r .lines) (4 * i) (fourOf (a .line))
-      → storedRows r i (from c (numberedLines v s (n - i))) ≡ storedRows (rows xs (set (r .numbers) i (a .number))) (i + 1) (from d (numberedLines v s (n - (i + 1))))
+  pub rows-next : (r : Rows) (i : ℕ) (c d : Cursor) (a : NumberedLine) (xs : List Float) (n : ℕ) → i < n →
+      told d a ≡ from c (numberedLine v s) → xs ≡ sets (r .lines) (4 * i) (fourOf (a .line))
+      → storedRows r i (from c (numberedLines v s (n - i)))
+      ≡ storedRows (rows xs (set (r .numbers) i (a .number))) (i + 1) (from d (numberedLines v s (n - (i + 1))))
   unfolding numberedLines many
   rows-next r i c d a xs n h e put =
       let k : n - i ≡ suc (n - (i + 1)) = omega arith in
-      rw (k, put) (ap (storedRows r i) (linked (numberedLine v s) (λ a m. then (numberedLines v s (n - (i + 1)) m) λ l k. got (a ∷ l) k) c d a e) ∙ from-behind r i a d (n - (i + 1)))
+      rw (k, put) (ap (storedRows r i) (linked (numberedLine v s)
+      (λ a m. then (numberedLines v s (n - (i + 1)) m) λ l k. got (a ∷ l) k) c d a e)
+      ∙ from-behind r i a d (n - (i + 1)))
 
   pub rows-done : (r : Rows) (i : ℕ) (c : Cursor) (n : ℕ) → n ≤ i → told c r ≡ storedRows r i (from c (numberedLines v s (n - i)))
   unfolding told from storedRows numberedLines many each
@@ -64,7 +73,8 @@ module _ (s : List ℕ) (v : Version) where
 -- ---- fields
 
 module _ (s : List ℕ) where
-  pub numbered-read : (v : Version) (c d e : Cursor) (n : ℕ) (l : Line) → told d n ≡ from c (lineNumber v s) → told e l ≡ from d (neighbour s) → told e (numbered n l) ≡ from c (numberedLine v s)
+  pub numbered-read : (v : Version) (c d e : Cursor) (n : ℕ) (l : Line) → told d n ≡ from c (lineNumber v s) →
+      told e l ≡ from d (neighbour s) → told e (numbered n l) ≡ from c (numberedLine v s)
   unfolding numberedLine
   numbered-read v c d e n l read-n read-l =
       sym (linked (lineNumber v s) _ c d n read-n ∙ linked (neighbour s) _ d e l read-l ∙ told-from e (numbered n l))
@@ -73,9 +83,11 @@ module _ (s : List ℕ) where
   unfolding lineNumber
   no-number c = sym (told-from c 0)
 
-  pub either-read : (c d : Cursor) (b : ℕ) → told d b ≡ from c (word 1 s) → told (held (isEither b) 1 d) (versionOf b) ≡ from c (eitherVersion s)
+  pub either-read : (c d : Cursor) (b : ℕ) → told d b ≡ from c (word 1 s) → told (held (isEither b) 1 d) (versionOf b)
+      ≡ from c (eitherVersion s)
   unfolding eitherVersion
-  either-read c d b e = sym (linked (word 1 s) (λ b a. guard (isEither b) 1 (got (versionOf b) a)) c d b e ∙ held-from (isEither b) 1 d (got (versionOf b)) ∙ told-from _ (versionOf b))
+  either-read c d b e = sym (linked (word 1 s) (λ b a. guard (isEither b) 1 (got (versionOf b) a)) c d b e
+      ∙ held-from (isEither b) 1 d (got (versionOf b)) ∙ told-from _ (versionOf b))
 
 -- a length within a limit, with its two bytes or without
 pub rest-within : (n most : ℕ) → leb n (most + 2) ≡ leb (n - 2) most
@@ -87,23 +99,29 @@ rest-within n most = go (decLt (most + 2) n)
 
 -- ---- the fields, one behind the other
 
-then-walls : {B : Type 0} (g : Got (List Obstacle)) (k : Walls → ℕ → Got B) → then g (λ os. k (wallsWith noWalls 0 0 os)) ≡ then (storedWalls noWalls 0 0 g) k
+then-walls : {B : Type 0} (g : Got (List Obstacle)) (k : Walls → ℕ → Got B) →
+    then g (λ os. k (wallsWith noWalls 0 0 os)) ≡ then (storedWalls noWalls 0 0 g) k
 unfolding storedWalls
 then-walls (refused r) k = refl
 then-walls (got os at) k = refl
 
-linked-walls : {B : Type 0} (c d : Cursor) (step : ℕ → Got (List Obstacle)) (k : Walls → ℕ → Got B) (w : Walls) → told d w ≡ storedWalls noWalls 0 0 (from c step)
+linked-walls : {B : Type 0} (c d : Cursor) (step : ℕ → Got (List Obstacle)) (k : Walls → ℕ → Got B) (w : Walls) →
+    told d w ≡ storedWalls noWalls 0 0 (from c step)
     → from c (λ at. then (step at) λ os. k (wallsWith noWalls 0 0 os)) ≡ from d (k w)
-linked-walls c d step k w e = sym (then-from c step _) ∙ then-walls (from c step) k ∙ ap (λ (g : Got Walls). then g k) (sym e) ∙ then-told d w k
+linked-walls c d step k w e =
+    sym (then-from c step _) ∙ then-walls (from c step) k ∙ ap (λ (g : Got Walls). then g k) (sym e) ∙ then-told d w k
 
-then-rows : {B : Type 0} (g : Got (List NumberedLine)) (k : Rows → ℕ → Got B) → then g (λ ls. k (rowsWith blankRows 0 ls)) ≡ then (storedRows blankRows 0 g) k
+then-rows : {B : Type 0} (g : Got (List NumberedLine)) (k : Rows → ℕ → Got B) →
+    then g (λ ls. k (rowsWith blankRows 0 ls)) ≡ then (storedRows blankRows 0 g) k
 unfolding storedRows
 then-rows (refused r) k = refl
 then-rows (got ls at) k = refl
 
-linked-rows : {B : Type 0} (c d : Cursor) (step : ℕ → Got (List NumberedLine)) (k : Rows → ℕ → Got B) (r : Rows) → told d r ≡ storedRows blankRows 0 (from c step)
+linked-rows : {B : Type 0} (c d : Cursor) (step : ℕ → Got (List NumberedLine)) (k : Rows → ℕ → Got B) (r : Rows) →
+    told d r ≡ storedRows blankRows 0 (from c step)
     → from c (λ at. then (step at) λ ls. k (rowsWith blankRows 0 ls)) ≡ from d (k r)
-linked-rows c d step k r e = sym (then-from c step _) ∙ then-rows (from c step) k ∙ ap (λ (g : Got Rows). then g k) (sym e) ∙ then-told d r k
+linked-rows c d step k r e =
+    sym (then-from c step _) ∙ then-rows (from c step) k ∙ ap (λ (g : Got Rows). then g k) (sym e) ∙ then-told d r k
 
 abbrev handed : Cart → ℕ → Walls → ℕ → Rows → Numbered
 handed x n w m r = record { scene = sceneWith x n w m (r .lines); numbers = r .numbers }
@@ -116,26 +134,33 @@ pub numbered-fields-read : (s : List ℕ) (v : Version) (c e f g h i j : Cursor)
 unfolding fieldsWith
 numbered-fields-read s v c e f g h i j x n w m r read-cart read-n read-walls read-m read-rows read-end =
     sym (linked (cart s) _ c e x read-cart ∙ linked (count 16 s) _ e f n read-n
-    ∙ linked-walls f g (obstacles s n 0) (λ w a. then (count 64 s a) λ m b. then (numberedLines v s m b) λ ls d. then (ended s d) λ u h. got (handed x n w m (rowsWith blankRows 0 ls)) h) w read-walls
+    ∙ linked-walls f g (obstacles s n 0) (λ w a. then (count 64 s a) λ m b. then (numberedLines v s m b) λ ls d.
+    then (ended s d) λ u h. got (handed x n w m (rowsWith blankRows 0 ls)) h) w read-walls
     ∙ linked (count 64 s) _ g h m read-m
     ∙ linked-rows h i (numberedLines v s m) (λ r d. then (ended s d) λ u h. got (handed x n w m r) h) r read-rows
     ∙ linked (ended s) _ i j (tt {0}) read-end ∙ told-from j (handed x n w m r))
 
 -- a rule behind a step, then the fields
-pub behind-read : (s : List ℕ) (d e : Cursor) (v : Version) → e ≡ held (leb (length s - 2) (longestOf v)) 4 d → from e (fieldsWith sceneMade v s) ≡ from d (behindVersion sceneMade v s)
+pub behind-read : (s : List ℕ) (d e : Cursor) (v : Version) → e ≡ held (leb (length s - 2) (longestOf v)) 4 d →
+    from e (fieldsWith sceneMade v s) ≡ from d (behindVersion sceneMade v s)
 unfolding behindVersion
 behind-read s d e v fits = rw fits (sym (held-from (leb (length s - 2) (longestOf v)) 4 d (fieldsWith sceneMade v s)))
 
 -- the length and the version, then what is behind them
 module _ (s : List ℕ) (c d : Cursor) (v : Version) where
-  pub either-given : told c (tt {0}) ≡ announced longestEither s → told d v ≡ from c (eitherVersion s) → from d (behindVersion sceneMade v s) ≡ sceneIn s
+  pub either-given : told c (tt {0}) ≡ announced longestEither s → told d v ≡ from c (eitherVersion s) →
+      from d (behindVersion sceneMade v s) ≡ sceneIn s
   unfolding sceneIn
   either-given read-length read-version =
       let behind : (u : Unit {0}) → ℕ → Got Numbered = λ u a. then (eitherVersion s a) λ v b. behindVersion sceneMade v s b in
-      sym (linked (eitherVersion s) _ c d v read-version) ∙ sym (then-told c (tt {0}) behind) ∙ ap (λ (g : Got (Unit {0})). then g behind) read-length
+      sym (linked (eitherVersion s) _ c d v read-version) ∙ sym (then-told c (tt {0}) behind)
+      ∙ ap (λ (g : Got (Unit {0})). then g behind) read-length
 
-  pub record-given : told c (tt {0}) ≡ announced longestEither s → told d (tt {0}) ≡ from c (version (byteOf v) s) → from d (behindVersion sceneMade v s) ≡ sceneInVersion v s
+  pub record-given : told c (tt {0}) ≡ announced longestEither s → told d (tt {0}) ≡ from c (version (byteOf v) s) →
+      from d (behindVersion sceneMade v s) ≡ sceneInVersion v s
   unfolding recordWith
   record-given read-length read-version =
-      let behind : (u : Unit {0}) → ℕ → Got Numbered = λ u a. then (version (byteOf v) s a) λ w b. behindVersion sceneMade v s b in
-      sym (linked (version (byteOf v) s) _ c d (tt {0}) read-version) ∙ sym (then-told c (tt {0}) behind) ∙ ap (λ (g : Got (Unit {0})). then g behind) read-length
+      let behind : (u : Unit {0}) → ℕ → Got Numbered =
+      λ u a. then (version (byteOf v) s a) λ w b. behindVersion sceneMade v s b in
+      sym (linked (version (byteOf v) s) _ c d (tt {0}) read-version) ∙ sym (then-told c (tt {0}) behind)
+      ∙ ap (λ (g : Got (Unit {0})). then g behind) read-length

@@ -38,12 +38,14 @@ vector-bytes v = number-bytes (v .x) behind number-bytes (v .y)
 cart-bytes : (x : Cart) → AreBytes (cartBytes x)
 unfolding cartBytes
 cart-bytes x =
-    vector-bytes (x .agent .position) behind vector-bytes (x .agent .velocity) behind number-bytes (x .margin) behind number-bytes (x .horizon) behind vector-bytes (x .wish)
+    vector-bytes (x .agent .position) behind vector-bytes (x .agent .velocity) behind number-bytes
+    (x .margin) behind number-bytes (x .horizon) behind vector-bytes (x .wish)
     behind number-bytes (x .limit)
 
 obstacle-bytes : (o : Obstacle) → AreBytes (obstacleBytes o)
 unfolding obstacleBytes
-obstacle-bytes o = word-bytes 1 (o .kind) behind word-bytes 1 (length (o .vertices)) behind all-bytes vectorBytes vector-bytes (o .vertices)
+obstacle-bytes o = word-bytes 1 (o .kind) behind word-bytes 1 (length (o .vertices)) behind all-bytes vectorBytes
+    vector-bytes (o .vertices)
 
 line-bytes : (l : Line) → AreBytes (lineBytes l)
 unfolding lineBytes
@@ -52,7 +54,8 @@ line-bytes l = vector-bytes (l .point) behind vector-bytes (l .direction)
 body-bytes : (x : Cart) (os : List Obstacle) (ls : List Line) → AreBytes (bodyBytes x os ls)
 unfolding bodyBytes
 body-bytes x os ls =
-    word-bytes 1 1 behind cart-bytes x behind word-bytes 1 (length os) behind all-bytes obstacleBytes obstacle-bytes os behind word-bytes 1 (length ls)
+    word-bytes 1 1 behind cart-bytes x behind word-bytes 1 (length os) behind all-bytes obstacleBytes obstacle-bytes os
+    behind word-bytes 1 (length ls)
     behind all-bytes lineBytes line-bytes ls
 
 record-bytes : (x : Cart) (os : List Obstacle) (ls : List Line) → AreBytes (recordBytes x os ls)

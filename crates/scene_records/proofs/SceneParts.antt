@@ -38,13 +38,21 @@ own-vertices o more = take-at (numbersIn o) more (2 * sizeOf o) (length-coordina
 pub later-vertices : (o : Obstacle) (more : List Float) → drop (2 * sizeOf o) (numbersIn o ++ more) ≡ more
 later-vertices o more = drop-at (numbersIn o) more (2 * sizeOf o) (length-coordinates (o .vertices))
 
-walls-back : (os : List Obstacle) (rest : List Float) → withVertices (headsOf (map kindOf os) (map sizeOf os)) (each numbersIn os ++ rest) ≡ os
+walls-back : (os : List Obstacle) (rest : List Float) →
+    withVertices (headsOf (map kindOf os) (map sizeOf os)) (each numbersIn os ++ rest) ≡ os
 unfolding withVertices headsOf each
 walls-back [] rest = refl
 walls-back (o ∷ os) rest =
-    rw (append-assoc (numbersIn o) (each numbersIn os) rest, own-vertices o (each numbersIn os ++ rest), later-vertices o (each numbersIn os ++ rest), vertices-back (o .vertices), walls-back os rest)
+    rw (
+      append-assoc (numbersIn o) (each numbersIn os) rest,
+      own-vertices o (each numbersIn os ++ rest),
+      later-vertices o (each numbersIn os ++ rest),
+      vertices-back (o .vertices),
+      walls-back os rest,
+    )
 
-pub vertices-front : (os : List Obstacle) → length (each numbersIn os) ≤ 384 → sets blankVertices 0 (each numbersIn os) ≡ each numbersIn os ++ drop (length (each numbersIn os)) blankVertices
+pub vertices-front : (os : List Obstacle) → length (each numbersIn os) ≤ 384 → sets blankVertices 0 (each numbersIn os)
+    ≡ each numbersIn os ++ drop (length (each numbersIn os)) blankVertices
 unfolding blankVertices
 vertices-front os h = stored-front blankVertices (each numbersIn os) h
 
@@ -52,8 +60,10 @@ module _ (x : Cart) (os : List Obstacle) (m : ℕ) (ls : List Line) (few : lengt
   pub heads-back : headsIn (sceneOf x (length os) os m ls) ≡ headsOf (map kindOf os) (map sizeOf os)
   unfolding blankBytes
   heads-back =
-      let kinds : take (length os) (sets blankBytes 0 (map kindOf os)) ≡ map kindOf os = rw (← length-map os kindOf) (front-back blankBytes (map kindOf os) (rw (length-map os kindOf) few)) in
-      let counts : take (length os) (sets blankBytes 0 (map sizeOf os)) ≡ map sizeOf os = rw (← length-map os sizeOf) (front-back blankBytes (map sizeOf os) (rw (length-map os sizeOf) few)) in
+      let kinds : take (length os) (sets blankBytes 0 (map kindOf os)) ≡ map kindOf os =
+      rw (← length-map os kindOf) (front-back blankBytes (map kindOf os) (rw (length-map os kindOf) few)) in
+      let counts : take (length os) (sets blankBytes 0 (map sizeOf os)) ≡ map sizeOf os =
+      rw (← length-map os sizeOf) (front-back blankBytes (map sizeOf os) (rw (length-map os sizeOf) few)) in
       rw (kinds, counts)
 
   pub obstacles-back : length (each numbersIn os) ≤ 384 → obstaclesIn (sceneOf x (length os) os m ls) ≡ os
@@ -67,9 +77,11 @@ each-four [] = refl
 each-four (l ∷ ls) = rw (each-four ls)
 
 lines-found : (ls : List Line) (rest : List Float) → take (length ls) (linesOf (each fourOf ls ++ rest)) ≡ ls
-lines-found ls rest = rw (each-four ls, lines-append (numbersOf ls) rest (rw numbers-long (omega arith)), lines-back ls) (take-at ls (linesOf rest) (length ls) refl)
+lines-found ls rest = rw (each-four ls, lines-append (numbersOf ls) rest (rw numbers-long (omega arith)), lines-back ls)
+    (take-at ls (linesOf rest) (length ls) refl)
 
-pub neighbours-back : (x : Cart) (n : ℕ) (os : List Obstacle) (ls : List Line) → length ls ≤ 64 → neighboursIn (sceneOf x n os (length ls) ls) ≡ ls
+pub neighbours-back : (x : Cart) (n : ℕ) (os : List Obstacle) (ls : List Line) → length ls ≤ 64 →
+    neighboursIn (sceneOf x n os (length ls) ls) ≡ ls
 unfolding blankNumbers
 neighbours-back x n os ls few =
     let h : length (each fourOf ls) ≤ 256 = rw (each-four ls, numbers-long ls) (omega arith) in

@@ -43,10 +43,12 @@ module _ {C : Type 0} (s : List ℕ) where
   vector-taken passes at v m e next =
       then-got (number passes s at) _ e λ x a p r.
       then-got (number passes s a) _ r λ y b q t.
-      next a (p ∙ ap (λ (w : Vec2). got (w .x) a) (got-same t .0)) (q ∙ rw (got-same t .1) (ap (λ (w : Vec2). got (w .y) m) (got-same t .0)))
+      next a (p ∙ ap (λ (w : Vec2). got (w .x) a) (got-same t .0)) (q
+      ∙ rw (got-same t .1) (ap (λ (w : Vec2). got (w .y) m) (got-same t .0)))
 
   pub cart-taken : (at : ℕ) (x : Cart) (m : ℕ) → cart s at ≡ got x m
-      → ((a b d e f : ℕ) (p v : Vec2) (g h : Float) (w : Vec2) (l : Float) → vector (within reach) s at ≡ got p a → vector (within reach) s a ≡ got v b
+      → ((a b d e f : ℕ) (p v : Vec2) (g h : Float) (w : Vec2) (l : Float) → vector (within reach) s at ≡ got p a →
+      vector (within reach) s a ≡ got v b
       → number (inside 0ᶠ longest) s b ≡ got g d → number (inside shortestHorizon longestHorizon) s d ≡ got h e
       → vector (within reach) s e ≡ got w f → number (inside 0ᶠ longest) s f ≡ got l m → cartOf p v g h w l ≡ x → C) → C
   unfolding cart
@@ -57,10 +59,12 @@ module _ {C : Type 0} (s : List ℕ) where
       then-got (number (inside shortestHorizon longestHorizon) s d) _ u λ h e read-h q.
       then-got (vector (within reach) s e) _ q λ w f read-w k.
       then-got (number (inside 0ᶠ longest) s f) _ k λ l j read-l last.
-      next a b d e f p v g h w l read-p read-v read-g read-h read-w (read-l ∙ ap (λ (i : ℕ). got l i) (got-same last .1)) (got-same last .0)
+      next a b d e f p v g h w l read-p read-v read-g read-h read-w (read-l
+      ∙ ap (λ (i : ℕ). got l i) (got-same last .1)) (got-same last .0)
 
   pub head-taken : (total at : ℕ) (h : Head) (m : ℕ) → head s total at ≡ got h m
-      → ((a : ℕ) → word 1 s at ≡ got (h .kind) a → isKind (h .kind) ≡ true → word 1 s a ≡ got (h .count) m → roomFor total (h .count) ≡ true → not (isEmptyOpen (h .kind) (h .count)) ≡ true → C) → C
+      → ((a : ℕ) → word 1 s at ≡ got (h .kind) a → isKind (h .kind) ≡ true → word 1 s a ≡ got (h .count) m →
+      roomFor total (h .count) ≡ true → not (isEmptyOpen (h .kind) (h .count)) ≡ true → C) → C
   unfolding head
   head-taken total at h m e next =
       then-got (word 1 s at) _ e λ k a read-k u.
@@ -70,9 +74,11 @@ module _ {C : Type 0} (s : List ℕ) where
       guard-got (not (isEmptyOpen k n)) 5 _ y λ some z.
       let kind : k ≡ h .kind = ap (λ (f : Head). f .kind) (got-same z .0) in
       let size : n ≡ h .count = ap (λ (f : Head). f .count) (got-same z .0) in
-      next a (rw kind at read-k) (rw kind at known) (rw (size, got-same z .1) at read-n) (rw size at room) (rw (kind, size) at some)
+      next a (rw kind at read-k) (rw kind at known) (rw (size, got-same z .1) at read-n) (rw size at room)
+      (rw (kind, size) at some)
 
-  pub vertex-taken : (before : OuterVertex) (at : ℕ) (v : Vec2) (m : ℕ) → vertex s before at ≡ got v m → (vector (within reach) s at ≡ got v m → follows before v ≡ true → C) → C
+  pub vertex-taken : (before : OuterVertex) (at : ℕ) (v : Vec2) (m : ℕ) → vertex s before at ≡ got v m →
+      (vector (within reach) s at ≡ got v m → follows before v ≡ true → C) → C
   unfolding vertex
   vertex-taken before at v m e next =
       then-got (vector (within reach) s at) _ e λ w a p r.
@@ -80,8 +86,10 @@ module _ {C : Type 0} (s : List ℕ) where
       next (p ∙ rw (got-same q .0, got-same q .1)) (rw (got-same q .0) at t)
 
   pub obstacle-taken : (total at : ℕ) (o : Obstacle) (m : ℕ) → obstacle s total at ≡ got o m
-      → ((a b : ℕ) → word 1 s at ≡ got (o .kind) a → isKind (o .kind) ≡ true → word 1 s a ≡ got (length (o .vertices)) b → roomFor total (length (o .vertices)) ≡ true
-      → not (isEmptyOpen (o .kind) (length (o .vertices))) ≡ true → verticesAt s noneBefore (length (o .vertices)) b ≡ got (o .vertices) m
+      → ((a b : ℕ) → word 1 s at ≡ got (o .kind) a → isKind (o .kind) ≡ true → word 1 s a ≡ got (length (o .vertices)) b
+      → roomFor total (length (o .vertices)) ≡ true
+      → not (isEmptyOpen (o .kind) (length (o .vertices))) ≡ true → verticesAt s noneBefore (length (o .vertices)) b
+      ≡ got (o .vertices) m
       → closes (o .kind) (o .vertices) ≡ true → C) → C
   unfolding obstacle outline verticesAt
   obstacle-taken total at o m e next =
@@ -94,18 +102,22 @@ module _ {C : Type 0} (s : List ℕ) where
       let own : ws ≡ o .vertices = got-same last .0 ∙ ap (λ (f : Obstacle). f .vertices) (got-same t .0) in
       let place : j ≡ m = got-same last .1 ∙ got-same t .1 in
       let read : verticesAt s noneBefore (h .count) b ≡ got (o .vertices) m = u ∙ rw (own, place) in
-      let size : h .count ≡ length (o .vertices) = sym (many-length (vertex s) onVertex (h .count) noneBefore b (o .vertices) m read) in
-      next a b (rw kind at read-k) (rw kind at known) (rw size at read-n) (rw size at room) (rw (kind, size) at some) (rw size at read) (rw (kind, own) at pair)
+      let size : h .count ≡ length (o .vertices) =
+      sym (many-length (vertex s) onVertex (h .count) noneBefore b (o .vertices) m read) in
+      next a b (rw kind at read-k) (rw kind at known) (rw size at read-n) (rw size at room) (rw (kind, size) at some)
+      (rw size at read) (rw (kind, own) at pair)
 
   pub line-taken : (at : ℕ) (l : Line) (m : ℕ) → neighbour s at ≡ got l m
-      → ((a : ℕ) → vector (within lineReach) s at ≡ got (l .point) a → vector finite s a ≡ got (l .direction) m → inside bandLow bandHigh (lengthSquaredOf (l .direction)) ≡ true → C) → C
+      → ((a : ℕ) → vector (within lineReach) s at ≡ got (l .point) a → vector finite s a ≡ got (l .direction) m →
+      inside bandLow bandHigh (lengthSquaredOf (l .direction)) ≡ true → C) → C
   unfolding neighbour
   line-taken at l m e next =
       then-got (vector (within lineReach) s at) _ e λ p a read-p r.
       then-got (vector finite s a) _ r λ d b read-d t.
       guard-got (inside bandLow bandHigh (lengthSquaredOf d)) 7 _ t λ band u.
       let direction : d ≡ l .direction = ap (λ (k : Line). k .direction) (got-same u .0) in
-      next a (read-p ∙ ap (λ (k : Line). got (k .point) a) (got-same u .0)) (read-d ∙ rw (got-same u .1) (ap (λ (k : Vec2). got k m) direction)) (rw direction at band)
+      next a (read-p ∙ ap (λ (k : Line). got (k .point) a) (got-same u .0)) (read-d
+      ∙ rw (got-same u .1) (ap (λ (k : Vec2). got k m) direction)) (rw direction at band)
 
   pub count-taken : (most at n m : ℕ) → count most s at ≡ got n m → (word 1 s at ≡ got n m → n ≤ most → C) → C
   unfolding count
@@ -139,10 +151,13 @@ module _ {C : Type 0} (s : List ℕ) where
       let size : n ≡ length os = sym (many-length _ _ n 0 d os e read-os) in
       let count : k ≡ length ls = sym (many-length _ _ k tt f ls g read-ls) in
       let place : g ≡ m = got-same last-g .1 ∙ got-same last .1 in
-      next a b d e f x os ls (read-v ∙ rw (version-one, got-same last-v .1)) read-cart (rw size at word-n) (rw size at few) (rw size at read-os)
-      (rw count at word-k) (rw count at fewer) (rw (count, place) at read-ls) (sym place ∙ eqb-true g (length s) is-end) (sym (got-same last .0) ∙ rw (size, count))
+      next a b d e f x os ls (read-v ∙ rw (version-one, got-same last-v .1)) read-cart (rw size at word-n)
+      (rw size at few) (rw size at read-os)
+      (rw count at word-k) (rw count at fewer) (rw (count, place) at read-ls) (sym place
+      ∙ eqb-true g (length s) is-end) (sym (got-same last .0) ∙ rw (size, count))
 
-  pub scene-taken-version-1 : (c : Scene) (m : ℕ) → sceneInVersion1 s ≡ got c m → ((n : ℕ) → word 2 s 0 ≡ got n 2 → n ≤ longestRest → n ≡ length s - 2 → fieldsIn s 2 ≡ got c m → C) → C
+  pub scene-taken-version-1 : (c : Scene) (m : ℕ) → sceneInVersion1 s ≡ got c m →
+      ((n : ℕ) → word 2 s 0 ≡ got n 2 → n ≤ longestRest → n ≡ length s - 2 → fieldsIn s 2 ≡ got c m → C) → C
   unfolding sceneInVersion1 announced
   scene-taken-version-1 c m e next =
       then-got (announced longestRest s) _ e λ u a p r.
@@ -155,7 +170,8 @@ module _ {C : Type 0} (s : List ℕ) where
 
   -- ---- both versions
 
-  pub numbered-taken : {A : Type 0} (make : Cart → ℕ → List Obstacle → ℕ → List NumberedLine → A) (v : Version) (at : ℕ) (r : A) (m : ℕ) → fieldsWith make v s at ≡ got r m
+  pub numbered-taken : {A : Type 0} (make : Cart → ℕ → List Obstacle → ℕ → List NumberedLine →
+      A) (v : Version) (at : ℕ) (r : A) (m : ℕ) → fieldsWith make v s at ≡ got r m
       → ((b d e f : ℕ) (x : Cart) (os : List Obstacle) (ls : List NumberedLine) → cart s at ≡ got x b
       → word 1 s b ≡ got (length os) d → length os ≤ 16 → obstacles s (length os) 0 d ≡ got os e
       → word 1 s e ≡ got (length ls) f → length ls ≤ 64 → numberedLines v s (length ls) f ≡ got ls m → m ≡ length s
@@ -175,10 +191,13 @@ module _ {C : Type 0} (s : List ℕ) where
       let count : k ≡ length ls = sym (many-length _ _ k tt f ls g read-ls) in
       let place : g ≡ m = got-same last-g .1 ∙ got-same last .1 in
       next b d e f x os ls read-cart (rw size at word-n) (rw size at few) (rw size at read-os)
-      (rw count at word-k) (rw count at fewer) (rw (count, place) at read-ls) (sym place ∙ eqb-true g (length s) is-end) (sym (got-same last .0) ∙ rw (size, count))
+      (rw count at word-k) (rw count at fewer) (rw (count, place) at read-ls) (sym place
+      ∙ eqb-true g (length s) is-end) (sym (got-same last .0) ∙ rw (size, count))
 
-  pub record-taken : {A : Type 0} (make : Cart → ℕ → List Obstacle → ℕ → List NumberedLine → A) (v : Version) (r : A) (m : ℕ) → recordWith make v s ≡ got r m
-      → ((n : ℕ) → word 2 s 0 ≡ got n 2 → n ≡ length s - 2 → n ≤ longestEither → word 1 s 2 ≡ got (byteOf v) 3 → length s - 2 ≤ longestOf v → fieldsWith make v s 3 ≡ got r m → C) → C
+  pub record-taken : {A : Type 0} (make : Cart → ℕ → List Obstacle → ℕ → List NumberedLine →
+      A) (v : Version) (r : A) (m : ℕ) → recordWith make v s ≡ got r m
+      → ((n : ℕ) → word 2 s 0 ≡ got n 2 → n ≡ length s - 2 → n ≤ longestEither → word 1 s 2 ≡ got (byteOf v) 3 →
+      length s - 2 ≤ longestOf v → fieldsWith make v s 3 ≡ got r m → C) → C
   unfolding recordWith announced version behindVersion
   record-taken make v r m e next =
       then-got (announced longestEither s) _ e λ u a p q.
@@ -194,5 +213,6 @@ module _ {C : Type 0} (s : List ℕ) where
       let byte : i ≡ byteOf v = eqb-true i (byteOf v) this in
       let behind : f ≡ 3 = word-fits s 1 a i f read-i .0 ∙ rw start in
       let stop : d ≡ 3 = sym (got-same last-v .1) ∙ behind in
-      next n (rw place at read-n) (eqb-true n (length s - 2) right) (leb-true n longestEither few) (rw (start, byte, behind) at read-i)
+      next n (rw place at read-n) (eqb-true n (length s - 2) right) (leb-true n longestEither few)
+      (rw (start, byte, behind) at read-i)
       (leb-true (length s - 2) (longestOf v) fits) (rw stop at fields)

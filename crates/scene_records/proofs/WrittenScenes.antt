@@ -68,7 +68,8 @@ fit-lines [] h = none
 fit-lines (a ∷ []) h = none
 fit-lines (a ∷ b ∷ []) h = none
 fit-lines (a ∷ b ∷ c ∷ []) h = none
-fit-lines (a ∷ b ∷ c ∷ d ∷ xs) (more p (more q (more r (more t h)))) = more (record { point = record { x = p; y = q }; direction = record { x = r; y = t } }) (fit-lines xs h)
+fit-lines (a ∷ b ∷ c ∷ d ∷ xs) (more p (more q (more r (more t h)))) =
+    more (record { point = record { x = p; y = q }; direction = record { x = r; y = t } }) (fit-lines xs h)
 
 -- ---- without a fault, each rule passed
 
@@ -98,7 +99,8 @@ good-cart c t e =
       limit = good (inside 0ᶠ longest) (c .limit) 6 (t .limit) (g .1);
     }
 
-pub good-vertices : (before : OuterVertex) (n : ℕ) (xs : List Float) → All Fit xs → verticesFault before n xs ≡ fine → Every GoodVertex onVertex before (verticesOf (take (2 * n) xs))
+pub good-vertices : (before : OuterVertex) (n : ℕ) (xs : List Float) → All Fit xs → verticesFault before n xs ≡ fine →
+    Every GoodVertex onVertex before (verticesOf (take (2 * n) xs))
 unfolding verticesOf numberFault componentsFault vertexFault verticesFault
 good-vertices before zero xs h e = tt
 good-vertices before (suc n) [] h e = absurd (no-fault 2 (sym e))
@@ -111,11 +113,16 @@ good-vertices before (suc n) (x ∷ y ∷ xs) (more p (more q h)) e =
     let b = ⊳-fine (componentsFault (x ∷ y ∷ xs)) (a .0) in
     let d = ⊳-fine (must (within reach x) 6) (b .0) in
     let two : 2 * suc n ≡ suc (suc (2 * n)) = omega arith in
-    let own : GoodVertex before (vec x y) = record { vector = record { x = good (within reach) x 6 p (d .0); y = good (within reach) y 6 q (d .1) }; apart = must-fine _ 14 (b .1) } in
+    let own : GoodVertex before (vec x y) =
+    record {
+      vector = record { x = good (within reach) x 6 p (d .0); y = good (within reach) y 6 q (d .1) };
+      apart = must-fine _ 14 (b .1);
+    } in
     rw two (own, good-vertices (onVertex before (vec x y)) n xs h (a .1))
 
 -- each obstacle's vertices are there: the total before it and the numbers left make up 384
-good-obstacles : (total : ℕ) (hs : List Head) (xs : List Float) → 2 * total + length xs ≡ 384 → All Fit xs → obstaclesFault total hs xs ≡ fine → Every GoodObstacle onTotal total (withVertices hs xs)
+good-obstacles : (total : ℕ) (hs : List Head) (xs : List Float) → 2 * total + length xs ≡ 384 → All Fit xs →
+    obstaclesFault total hs xs ≡ fine → Every GoodObstacle onTotal total (withVertices hs xs)
 unfolding obstaclesFault outlineFault withVertices
 good-obstacles total [] xs l h e = tt
 good-obstacles total (k ∷ hs) xs l h e =
@@ -125,7 +132,8 @@ good-obstacles total (k ∷ hs) xs l h e =
     let passed = head-passed total k (head-fine .0) in
     let fit : total + k .count ≤ 192 = room-within total (k .count) (passed .1) .1 in
     let front : length (take (2 * k .count) xs) ≡ 2 * k .count = length-take-le (2 * k .count) xs (omega arith) in
-    let size : length (verticesOf (take (2 * k .count) xs)) ≡ k .count = vertices-long (take (2 * k .count) xs) (k .count) front in
+    let size : length (verticesOf (take (2 * k .count) xs)) ≡ k .count =
+    vertices-long (take (2 * k .count) xs) (k .count) front in
     let behind : 2 * (total + k .count) + length (drop (2 * k .count) xs) ≡ 384 = rw length-drop (omega arith) in (
       record {
         kind = passed .0;
@@ -134,7 +142,8 @@ good-obstacles total (k ∷ hs) xs l h e =
         vertices = good-vertices noneBefore (k .count) xs h (vertices-fine .0);
         closed = must-fine _ 14 (vertices-fine .1);
       },
-      rw size (good-obstacles (total + k .count) hs (drop (2 * k .count) xs) behind (all-drop (2 * k .count) h) (outline-fine .1)),
+      rw size (good-obstacles (total + k .count) hs (drop (2 * k .count) xs) behind (all-drop (2 * k .count) h)
+          (outline-fine .1)),
     )
 
 pub good-line : (l : Line) → FitLine l → lineFault l ≡ fine → GoodLine l
@@ -145,8 +154,14 @@ good-line l f e =
     let c = ⊳-fine (must (finite (l .direction .x)) 6) (b .1) in
     let d = ⊳-fine (must (finite (l .direction .y)) 6) (c .1) in
     record {
-      point = record { x = good (within lineReach) (l .point .x) 6 (f .point .x) (a .0); y = good (within lineReach) (l .point .y) 6 (f .point .y) (b .0) };
-      direction = record { x = good finite (l .direction .x) 6 (f .direction .x) (c .0); y = good finite (l .direction .y) 6 (f .direction .y) (d .0) };
+      point = record {
+        x = good (within lineReach) (l .point .x) 6 (f .point .x) (a .0);
+        y = good (within lineReach) (l .point .y) 6 (f .point .y) (b .0);
+      };
+      direction = record {
+        x = good finite (l .direction .x) 6 (f .direction .x) (c .0);
+        y = good finite (l .direction .y) 6 (f .direction .y) (d .0);
+      };
       band = must-fine (inside bandLow bandHigh (lengthSquaredOf (l .direction))) 7 (d .1);
     }
 
@@ -171,7 +186,9 @@ with-long (h ∷ hs) xs = ap suc (with-long hs (drop (2 * h .count) xs))
 
 module _ (c : Scene) (t : Typed c) where
   obstacles-long : c .obstacles ≤ 16 → length (obstaclesIn c) ≡ c .obstacles
-  obstacles-long h = with-long (headsIn c) (c .vertices) ∙ heads-long _ _ (c .obstacles) (length-take-le _ (c .kinds) (rw (t .kinds) h)) (length-take-le _ (c .counts) (rw (t .counts) h))
+  obstacles-long h = with-long (headsIn c) (c .vertices)
+      ∙ heads-long _ _ (c .obstacles) (length-take-le _ (c .kinds) (rw (t .kinds) h))
+      (length-take-le _ (c .counts) (rw (t .counts) h))
 
   neighbours-long : c .neighbours ≤ 64 → length (neighboursIn c) ≡ c .neighbours
   neighbours-long h = length-take-le _ (linesOf (c .lines)) (rw (lines-long (c .lines), t .lines) h)

@@ -1,5 +1,5 @@
--- 01, "Records": the cart, the obstacles (02, T-11: none with doubled vertices) and the neighbour lines of a scene record, field by field. Definitions only.
--- Assumes nothing.
+-- 01, "Records": the cart, the obstacles (02, T-11: none with doubled vertices) and the neighbour lines of a scene
+-- record, field by field. Definitions only. Assumes nothing.
 use Prim.Native.Nat.{ℕ, _+_, _*_}
 use mathlib.Core.Bool.{not}
 use mathlib.Core.List.{List, [], _∷_, map}
@@ -128,7 +128,8 @@ numbersIn o = each coordinates (o .vertices)
 
 -- obstacles stored from the index i and from the vertex `total` on
 abbrev pub wallsWith : Walls → ℕ → ℕ → List Obstacle → Walls
-wallsWith w i total os = walls (sets (w .kinds) i (map kindOf os)) (sets (w .counts) i (map sizeOf os)) (sets (w .vertices) (2 * total) (each numbersIn os))
+wallsWith w i total os = walls (sets (w .kinds) i (map kindOf os)) (sets (w .counts) i (map sizeOf os))
+    (sets (w .vertices) (2 * total) (each numbersIn os))
 
 unfoldable pub storedWalls : Walls → ℕ → ℕ → Got (List Obstacle) → Got Walls
 storedWalls w i total (refused r) = refused r

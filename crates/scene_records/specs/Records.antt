@@ -67,7 +67,8 @@ fieldsIn s at =
 abbrev pub longestRest : ℕ
 longestRest = 2631
 
--- "fewer than two bytes, 2; length field over 2,631, 4; length not matching the rest, 2"; for a reader whose longest rest is `most`
+-- "fewer than two bytes, 2; length field over 2,631, 4; length not matching the rest, 2"; for a reader whose longest
+-- rest is `most`
 unfoldable pub announced : ℕ → List ℕ → Got (Unit {0})
 announced most s = then (word 2 s 0) λ n a. guard (leb n most) 4 (guard (eqb n (length s - 2)) 2 (got tt a))
 

@@ -22,7 +22,8 @@ cartIn c = record { agent = c .agent; margin = c .margin; horizon = c .horizon; 
 -- each obstacle with its own vertices, two numbers a vertex, obstacle behind obstacle
 unfoldable pub withVertices : List Head → List Float → List Obstacle
 withVertices [] xs = []
-withVertices (h ∷ hs) xs = record { kind = h .kind; vertices = verticesOf (take (2 * h .count) xs) } ∷ withVertices hs (drop (2 * h .count) xs)
+withVertices (h ∷ hs) xs =
+    record { kind = h .kind; vertices = verticesOf (take (2 * h .count) xs) } ∷ withVertices hs (drop (2 * h .count) xs)
 
 abbrev pub obstaclesIn : Scene → List Obstacle
 obstaclesIn c = withVertices (headsIn c) (c .vertices)
@@ -37,7 +38,8 @@ vectorBytes v = numberBytes (v .x) ++ numberBytes (v .y)
 
 unfoldable pub cartBytes : Cart → List ℕ
 cartBytes c =
-    vectorBytes (c .agent .position) ++ vectorBytes (c .agent .velocity) ++ numberBytes (c .margin) ++ numberBytes (c .horizon) ++ vectorBytes (c .wish)
+    vectorBytes (c .agent .position) ++ vectorBytes (c .agent .velocity) ++ numberBytes (c .margin)
+    ++ numberBytes (c .horizon) ++ vectorBytes (c .wish)
     ++ numberBytes (c .limit)
 
 unfoldable pub obstacleBytes : Obstacle → List ℕ
@@ -48,7 +50,8 @@ lineBytes l = vectorBytes (l .point) ++ vectorBytes (l .direction)
 
 -- version, cart, obstacles, neighbour lines
 unfoldable pub bodyBytes : Cart → List Obstacle → List Line → List ℕ
-bodyBytes c os ls = bigEndian 1 sceneVersion ++ cartBytes c ++ bigEndian 1 (length os) ++ each obstacleBytes os ++ bigEndian 1 (length ls) ++ each lineBytes ls
+bodyBytes c os ls = bigEndian 1 sceneVersion ++ cartBytes c ++ bigEndian 1 (length os) ++ each obstacleBytes os
+    ++ bigEndian 1 (length ls) ++ each lineBytes ls
 
 -- "two-byte length of the rest", then the rest
 unfoldable pub recordBytes : Cart → List Obstacle → List Line → List ℕ

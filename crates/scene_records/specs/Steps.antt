@@ -1,5 +1,5 @@
--- 01, "Refusal numbers": "fields left to right, each first for missing bytes (2), then its own rule". The fields of one number, and what the code's cursor
--- says. Definitions only. Assumes nothing.
+-- 01, "Refusal numbers": "fields left to right, each first for missing bytes (2), then its own rule". The fields of one
+-- number, and what the code's cursor says. Definitions only. Assumes nothing.
 use Prim.Native.Nat.{ℕ}
 use mathlib.Core.Bool.{Bool, true, false}
 use mathlib.Core.List.{List}

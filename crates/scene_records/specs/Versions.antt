@@ -1,4 +1,5 @@
--- 02, T-07: scene records of both versions, read field by field to a scene and its neighbours' numbers. Definitions only. Assumes nothing.
+-- 02, T-07: scene records of both versions, read field by field to a scene and its neighbours' numbers. Definitions
+-- only. Assumes nothing.
 use Prim.Native.Nat.{ℕ, _-_, _*_}
 use mathlib.Core.Bool.{Bool, cond, _||_}
 use mathlib.Core.List.{List, map}
@@ -81,7 +82,8 @@ fieldsWith make v s at =
     got (make c n os m ls) h
 
 -- "4 for a length over 2,887 in its old place and, right after the version, over 2,631 under version 1"
-unfoldable pub behindVersion : {A : Type 0} → (Cart → ℕ → List Obstacle → ℕ → List NumberedLine → A) → Version → List ℕ → ℕ → Got A
+unfoldable pub behindVersion : {A : Type 0} → (Cart → ℕ → List Obstacle → ℕ → List NumberedLine → A) → Version → List ℕ
+    → ℕ → Got A
 behindVersion make v s at = guard (leb (length s - 2) (longestOf v)) 4 (fieldsWith make v s at)
 
 -- a record of one version: "1, at the version, for .. a move from the wrong one"

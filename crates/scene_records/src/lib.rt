@@ -22,8 +22,8 @@ pub enum Version {
     Two,
 }
 
-// What a record of version 1 is read to: a scene; or the number of its first fault, with a blank scene beside it. A scene holds arrays, so the answer is a
-// struct.
+// What a record of version 1 is read to: a scene; or the number of its first fault, with a blank scene beside it. A
+// scene holds arrays, so the answer is a struct.
 pub struct SceneRead {
     pub judged: Judged,
     pub scene: Scene,
@@ -36,8 +36,8 @@ impl SceneRead {
     pub const VERSION: u8 = 1;
 }
 
-// What a record of either version is read to: a scene and its neighbours' numbers, each 0 under version 1, with zeros behind the last; or the number of the
-// record's first fault, with a blank scene and zeros beside it.
+// What a record of either version is read to: a scene and its neighbours' numbers, each 0 under version 1, with zeros
+// behind the last; or the number of the record's first fault, with a blank scene and zeros beside it.
 pub struct NumberedScene {
     pub judged: Judged,
     pub scene: Scene,
@@ -156,12 +156,13 @@ pub(crate) struct HeadRead {
     pub(crate) next: Cursor,
 }
 
-// Reads the one scene record that the bytes are, of either version. Refused, in this order: fewer than two bytes (2), a length over 2,887 (4), a length
-// that is not that of the rest (2); then the fields from left to right, each first for missing bytes (2) and then by its rule: another version than 1 or 2
-// (1), under version 1 a length over 2,631 (4), a number not finite or out of range (6), too many obstacles (4), an obstacle's kind (3), too many vertices,
-// its own or with those before it (4), an open obstacle with none (5), a vertex that is the one before it again, or the first again behind the last of a closed
-// obstacle (14), too many neighbour lines (4), a line's direction out of its band (7); last, bytes left over (2). A neighbour's number is refused only where
-// its bytes are missing.
+// Reads the one scene record that the bytes are, of either version. Refused, in this order: fewer than two bytes (2), a
+// length over 2,887 (4), a length that is not that of the rest (2); then the fields from left to right, each first for
+// missing bytes (2) and then by its rule: another version than 1 or 2 (1), under version 1 a length over 2,631 (4), a
+// number not finite or out of range (6), too many obstacles (4), an obstacle's kind (3), too many vertices, its own or
+// with those before it (4), an open obstacle with none (5), a vertex that is the one before it again, or the first
+// again behind the last of a closed obstacle (14), too many neighbour lines (4), a line's direction out of its band
+// (7); last, bytes left over (2). A neighbour's number is refused only where its bytes are missing.
 pub fn read_scene(bytes: &[u8]) -> NumberedScene
     ensures { λ r. ⌜ r ≡ numberedAs (sceneIn (now (bytes .entry))) ⌝ }
 {
@@ -172,7 +173,8 @@ pub fn read_scene(bytes: &[u8]) -> NumberedScene
     behind_version(bytes, next, version)
 }
 
-// Reads the one scene record of the version that the bytes are. Refused as `read_scene` refuses, but the other version, too, with 1.
+// Reads the one scene record of the version that the bytes are. Refused as `read_scene` refuses, but the other version,
+// too, with 1.
 pub fn read_scene_of_version(bytes: &[u8], version: Version) -> NumberedScene
     ensures { λ r. ⌜ r ≡ numberedAs (sceneInVersion version (now (bytes .entry))) ⌝ }
 {
@@ -181,8 +183,8 @@ pub fn read_scene_of_version(bytes: &[u8], version: Version) -> NumberedScene
     behind_version(bytes, next, version)
 }
 
-// Reads the one scene record of version 1 that the bytes are, as 01 has it. Refused as `read_scene` refuses, but a length over 2,631 where that is over
-// 2,887 (4), and version 2, too, with 1.
+// Reads the one scene record of version 1 that the bytes are, as 01 has it. Refused as `read_scene` refuses, but a
+// length over 2,631 where that is over 2,887 (4), and version 2, too, with 1.
 pub fn read_scene_version_1(bytes: &[u8]) -> SceneRead
     ensures { λ r. ⌜ r ≡ readAs (sceneInVersion1 (now (bytes .entry))) ⌝ }
 {

@@ -70,7 +70,9 @@ pub(crate) fn store_lines(
     numbers: &mut [u32],
 ) -> Cursor
     requires { ⌜ (4 * count ≤ length (now lines)) × (count ≤ length (now numbers)) ⌝ }
-    ensures { λ r. ⌜ told r (rows (now (lines .exit)) (now (numbers .exit))) ≡ storedRows (rows (now (lines .entry)) (now (numbers .entry))) 0 (from cursor (numberedLines version (now (bytes .entry)) count)) ⌝ }
+    ensures { λ r. ⌜ told r (rows (now (lines .exit)) (now (numbers .exit)))
+        ≡ storedRows (rows (now (lines .entry)) (now (numbers .entry))) 0
+        (from cursor (numberedLines version (now (bytes .entry)) count)) ⌝ }
 {
     let mut next = cursor;
     let mut i = 0usize;

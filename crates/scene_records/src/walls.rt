@@ -75,7 +75,9 @@ fn vertices_at(
     vertices: &mut [f32],
 ) -> Cursor
     requires { ⌜ 2 * (start + count) ≤ length (now vertices) ⌝ }
-    ensures { λ r. ⌜ told r (now (vertices .exit)) ≡ stored coordinates (now (vertices .entry)) (2 * start) (from cursor (verticesAt (now (bytes .entry)) noneBefore count)) ⌝ }
+    ensures { λ r. ⌜ told r (now (vertices .exit))
+        ≡ stored coordinates (now (vertices .entry)) (2 * start)
+        (from cursor (verticesAt (now (bytes .entry)) noneBefore count)) ⌝ }
 {
     let mut next = cursor;
     let mut previous = Outer::Absent;
@@ -101,7 +103,9 @@ fn outline_at(
     vertices: &mut [f32],
 ) -> Cursor
     requires { ⌜ 2 * (start + count) ≤ length (now vertices) ⌝ }
-    ensures { λ r. ⌜ told r (now (vertices .exit)) ≡ stored coordinates (now (vertices .entry)) (2 * start) (from cursor (outline (now (bytes .entry)) (headOf kind count))) ⌝ }
+    ensures { λ r. ⌜ told r (now (vertices .exit))
+        ≡ stored coordinates (now (vertices .entry)) (2 * start)
+        (from cursor (outline (now (bytes .entry)) (headOf kind count))) ⌝ }
 {
     let next = vertices_at(bytes, cursor, count, start, vertices);
     let closes = obstacles::may_close(kind, &vertices[2 * start..2 * (start + count)]);
@@ -118,7 +122,9 @@ pub(crate) fn obstacles_at(
     vertices: &mut [f32],
 ) -> Cursor
     requires { ⌜ (count ≤ length (now kinds)) × (count ≤ length (now counts)) × (384 ≤ length (now vertices)) ⌝ }
-    ensures { λ r. ⌜ told r (walls (now (kinds .exit)) (now (counts .exit)) (now (vertices .exit))) ≡ storedWalls (walls (now (kinds .entry)) (now (counts .entry)) (now (vertices .entry))) 0 0 (from cursor (obstacles (now (bytes .entry)) count 0)) ⌝ }
+    ensures { λ r. ⌜ told r (walls (now (kinds .exit)) (now (counts .exit)) (now (vertices .exit)))
+        ≡ storedWalls (walls (now (kinds .entry)) (now (counts .entry)) (now (vertices .entry))) 0 0
+        (from cursor (obstacles (now (bytes .entry)) count 0)) ⌝ }
 {
     let mut next = cursor;
     let mut total = 0usize;

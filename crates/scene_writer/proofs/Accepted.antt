@@ -64,7 +64,8 @@ pub record Passed (c : Cart) (n : ℕ) (ks cs : List ℕ) (xs : List Float) (m :
   pub near : lentLinesFault m ls ≡ fine
   pub fits : Fits n ks cs xs m ls
 
-pub passed : (c : Cart) (n : ℕ) (ks cs : List ℕ) (xs : List Float) (m : ℕ) (ls : List Float) → partsFault c n ks cs xs m ls ≡ fine → Passed c n ks cs xs m ls
+pub passed : (c : Cart) (n : ℕ) (ks cs : List ℕ) (xs : List Float) (m : ℕ) (ls : List Float) →
+    partsFault c n ks cs xs m ls ≡ fine → Passed c n ks cs xs m ls
 unfolding partsFault restFault
 passed c n ks cs xs m ls e =
     let a = ⊳-fine (cartFault c) e in
@@ -83,7 +84,8 @@ passed c n ks cs xs m ls e =
 
 -- ---- how long the record is
 
-walls-long : (n : ℕ) (ks cs : List ℕ) (xs : List Float) → length ks ≡ n → length cs ≡ n → length xs ≡ 2 * vertexTotal n cs → length (each obstacleBytes (lentObstacles ks cs xs)) ≡ 2 * n + 4 * length xs
+walls-long : (n : ℕ) (ks cs : List ℕ) (xs : List Float) → length ks ≡ n → length cs ≡ n →
+    length xs ≡ 2 * vertexTotal n cs → length (each obstacleBytes (lentObstacles ks cs xs)) ≡ 2 * n + 4 * length xs
 unfolding each withVertices headsOf vertexTotal
 walls-long zero [] [] xs p q h = omega arith
 walls-long zero [] (c ∷ cs) xs p q h = absurd (omega arith)
@@ -91,9 +93,12 @@ walls-long zero (k ∷ ks) cs xs p q h = absurd (omega arith)
 walls-long (suc n) [] cs xs p q h = absurd (omega arith)
 walls-long (suc n) (k ∷ ks) [] xs p q h = absurd (omega arith)
 walls-long (suc n) (k ∷ ks) (c ∷ cs) xs p q h =
-    let rest : length (each obstacleBytes (lentObstacles ks cs (drop (2 * c) xs))) ≡ 2 * n + 4 * length (drop (2 * c) xs) = walls-long n ks cs (drop (2 * c) xs) (omega arith) (omega arith) (rw length-drop (omega arith)) in
+    let rest : length (each obstacleBytes (lentObstacles ks cs (drop (2 * c) xs)))
+    ≡ 2 * n + 4 * length (drop (2 * c) xs) =
+    walls-long n ks cs (drop (2 * c) xs) (omega arith) (omega arith) (rw length-drop (omega arith)) in
     let own : length (obstacleBytes (obstacleFrom k c xs)) ≡ 2 + 8 * c = own-long k c 0 xs (omega arith) in
-    length-append (obstacleBytes (obstacleFrom k c xs)) (each obstacleBytes (lentObstacles ks cs (drop (2 * c) xs))) ∙ omega (arith, own, rest, length-drop (2 * c) xs)
+    length-append (obstacleBytes (obstacleFrom k c xs)) (each obstacleBytes (lentObstacles ks cs (drop (2 * c) xs)))
+    ∙ omega (arith, own, rest, length-drop (2 * c) xs)
 
 -- numbers by fours have the bytes of the lines
 four-by-four : (xs : List Float) (n : ℕ) → length xs ≡ 4 * n → each lineBytes (linesOf xs) ≡ each numberBytes xs
@@ -128,21 +133,29 @@ module _ (c : Cart) (n : ℕ) (ks cs : List ℕ) (xs : List Float) (m : ℕ) (ls
 
   -- ---- its bytes, one part behind the other
 
-  pub scene-put : (at size : ℕ) (l l1 l2 l3 l4 l5 l6 whole : List ℕ) → at ≡ 40 + 2 * n + 4 * length xs → size ≡ 39 + 2 * n + 4 * length xs + 4 * length ls
-      → l1 ≡ sets l 0 (bigEndian 2 size) → l2 ≡ sets l1 2 (bigEndian 1 1) → l3 ≡ sets l2 3 (cartBytes c) → l4 ≡ sets l3 39 (bigEndian 1 n)
-      → l5 ≡ sets l4 40 (each obstacleBytes (lentObstacles ks cs xs)) → l6 ≡ sets l5 at (bigEndian 1 m) → whole ≡ sets l6 (at + 1) (each numberBytes ls)
+  pub scene-put : (at size : ℕ) (l l1 l2 l3 l4 l5 l6 whole : List ℕ) → at ≡ 40 + 2 * n + 4 * length xs →
+      size ≡ 39 + 2 * n + 4 * length xs + 4 * length ls
+      → l1 ≡ sets l 0 (bigEndian 2 size) → l2 ≡ sets l1 2 (bigEndian 1 1) → l3 ≡ sets l2 3 (cartBytes c) →
+      l4 ≡ sets l3 39 (bigEndian 1 n)
+      → l5 ≡ sets l4 40 (each obstacleBytes (lentObstacles ks cs xs)) → l6 ≡ sets l5 at (bigEndian 1 m) →
+      whole ≡ sets l6 (at + 1) (each numberBytes ls)
       → whole ≡ sets l 0 (recordBytes c (lentObstacles ks cs xs) (linesOf ls))
   unfolding recordBytes bodyBytes
   scene-put at size l l1 l2 l3 l4 l5 l6 whole place long e1 e2 e3 e4 e5 e6 e7 =
       let os = lentObstacles ks cs xs in
       let body : size ≡ length (bodyBytes c os (linesOf ls)) = long ∙ sym body-size in
-      let p1 : Puts l 0 (bigEndian 2 (length (bodyBytes c os (linesOf ls)))) 2 l1 = putting 2 2 (length-big-endian 2 _) refl (e1 ∙ ap (λ (k : ℕ). sets l 0 (bigEndian 2 k)) body) in
+      let p1 : Puts l 0 (bigEndian 2 (length (bodyBytes c os (linesOf ls)))) 2 l1 =
+      putting 2 2 (length-big-endian 2 _) refl (e1 ∙ ap (λ (k : ℕ). sets l 0 (bigEndian 2 k)) body) in
       let p2 : Puts l1 2 (bigEndian 1 1) 3 l2 = putting 1 3 (length-big-endian 1 1) refl e2 in
       let p3 : Puts l2 3 (cartBytes c) 39 l3 = putting 36 39 (length-cart c) refl e3 in
-      let p4 : Puts l3 39 (bigEndian 1 (length os)) 40 l4 = putting 1 40 (length-big-endian 1 _) refl (e4 ∙ ap (λ (k : ℕ). sets l3 39 (bigEndian 1 k)) (sym obstacles-many)) in
+      let p4 : Puts l3 39 (bigEndian 1 (length os)) 40 l4 = putting 1 40 (length-big-endian 1 _) refl (e4
+      ∙ ap (λ (k : ℕ). sets l3 39 (bigEndian 1 k)) (sym obstacles-many)) in
       let p5 : Puts l4 40 (each obstacleBytes os) at l5 = putting (2 * n + 4 * length xs) at walls-size (omega arith) e5 in
-      let p6 : Puts l5 at (bigEndian 1 (length (linesOf ls))) (at + 1) l6 = putting 1 (at + 1) (length-big-endian 1 _) refl (e6 ∙ ap (λ (k : ℕ). sets l5 at (bigEndian 1 k)) (sym lines-many)) in
-      let p7 : Puts l6 (at + 1) (each lineBytes (linesOf ls)) (at + 1 + 4 * length ls) whole = putting (4 * length ls) _ lines-size refl (e7 ∙ ap (sets l6 (at + 1)) (sym (four-by-four ls m (h .lines)))) in
+      let p6 : Puts l5 at (bigEndian 1 (length (linesOf ls))) (at + 1) l6 =
+      putting 1 (at + 1) (length-big-endian 1 _) refl (e6
+      ∙ ap (λ (k : ℕ). sets l5 at (bigEndian 1 k)) (sym lines-many)) in
+      let p7 : Puts l6 (at + 1) (each lineBytes (linesOf ls)) (at + 1 + 4 * length ls) whole =
+      putting (4 * length ls) _ lines-size refl (e7 ∙ ap (sets l6 (at + 1)) (sym (four-by-four ls m (h .lines)))) in
       (p1 then (p2 then p3 then p4 then p5 then p6 then p7)) .puts
 
 -- ---- what the writer leaves
@@ -151,11 +164,14 @@ put-in-front : (bytes buffer : List ℕ) → length bytes ≤ length buffer → 
 put-in-front bytes buffer h = sets-eq bytes buffer 0 (rw zero-add h) ∙ rw zero-add
 
 module _ (c : Cart) (n : ℕ) (ks cs : List ℕ) (xs : List Float) (m : ℕ) (ls : List Float) (buffer : List ℕ) where
-  pub told-refused : (r : ℕ) → fault r ≡ partsFault c n ks cs xs m ls → written (fault r) 0 buffer ≡ writtenScene c n ks cs xs m ls buffer
+  pub told-refused : (r : ℕ) → fault r ≡ partsFault c n ks cs xs m ls → written (fault r) 0 buffer
+      ≡ writtenScene c n ks cs xs m ls buffer
   unfolding writtenScene laidScene
   told-refused r e = rw (← e)
 
-  put-lent : length (lentBytes c ks cs xs ls) ≤ length buffer → sets buffer 0 (recordBytes c (lentObstacles ks cs xs) (linesOf ls)) ≡ lentBytes c ks cs xs ls ++ drop (length (lentBytes c ks cs xs ls)) buffer
+  put-lent : length (lentBytes c ks cs xs ls) ≤ length buffer →
+      sets buffer 0 (recordBytes c (lentObstacles ks cs xs) (linesOf ls))
+      ≡ lentBytes c ks cs xs ls ++ drop (length (lentBytes c ks cs xs ls)) buffer
   unfolding lentBytes
   put-lent = put-in-front (recordBytes c (lentObstacles ks cs xs) (linesOf ls)) buffer
 
@@ -168,8 +184,12 @@ module _ (c : Cart) (n : ℕ) (ks cs : List ℕ) (xs : List Float) (m : ℕ) (ls
     unfolding writtenScene laidScene
     told-short h = rw (← e, lt-leb (length (lentBytes c ks cs xs ls)) (length buffer) (rw its-size h))
 
-    pub told-written : (w : List ℕ) → size ≤ length buffer → w ≡ sets buffer 0 (recordBytes c (lentObstacles ks cs xs) (linesOf ls)) → written fine size w ≡ writtenScene c n ks cs xs m ls buffer
+    pub told-written : (w : List ℕ) → size ≤ length buffer →
+        w ≡ sets buffer 0 (recordBytes c (lentObstacles ks cs xs) (linesOf ls)) → written fine size w
+        ≡ writtenScene c n ks cs xs m ls buffer
     unfolding writtenScene laidScene
     told-written w h put =
         let room : length (lentBytes c ks cs xs ls) ≤ length buffer = rw its-size h in
-        rw (← e, le-leb (length (lentBytes c ks cs xs ls)) (length buffer) room) (ap (λ (k : ℕ). written fine k w) (sym its-size) ∙ ap (written fine (length (lentBytes c ks cs xs ls))) (put ∙ put-lent room))
+        rw (← e, le-leb (length (lentBytes c ks cs xs ls)) (length buffer) room)
+        (ap (λ (k : ℕ). written fine k w) (sym its-size) ∙ ap (written fine (length (lentBytes c ks cs xs ls))) (put
+        ∙ put-lent room))

@@ -22,7 +22,12 @@ contents-back : (s : SceneWritten) (l : List ℕ) → writtenOf s l .contents �
 contents-back (scene-written.Length n) l = refl
 contents-back (scene-written.Refused r) l = refl
 
-pub scene-writings-agree : {one other : SceneWritten} {held kept : List ℕ} {promised : Written} → writtenOf one held ≡ promised → writtenOf other kept ≡ promised → (one ≡ other) × (held ≡ kept)
+pub scene-writings-agree : {one other : SceneWritten} {held kept : List ℕ} {promised : Written} →
+    writtenOf one held ≡ promised → writtenOf other kept ≡ promised → (one ≡ other) × (held ≡ kept)
 scene-writings-agree {one} {other} {held} {kept} p q =
-    let same = agree p q in
-    (sym (answer-back one held) ∙ ap (λ (w : Written). answerIn (w .told) (w .size)) same ∙ answer-back other kept, sym (contents-back one held) ∙ ap (λ (w : Written). w .contents) same ∙ contents-back other kept)
+    let same = agree p q in (
+      sym (answer-back one held) ∙ ap (λ (w : Written). answerIn (w .told) (w .size)) same
+          ∙ answer-back other kept,
+      sym (contents-back one held) ∙ ap (λ (w : Written). w .contents) same
+          ∙ contents-back other kept,
+    )

@@ -17,7 +17,8 @@ use Rattle.scene_records.specs.SceneBytes.{numberBytes, vectorBytes, cartBytes,
 use Rattle.scene_writer.specs.Writing.{cartFault, lentLineFault, lentLinesFault, neighboursFault, restFault, partsFault, lentBytes, written, laidScene, writtenScene}
 
 unfoldable pub writerComputed : Unit {0}
-unfolding layoutsComputed toBits linesOf headsOf bigEndian each numberBytes vectorBytes cartBytes obstacleBytes lineBytes bodyBytes recordBytes withVertices
+unfolding layoutsComputed toBits linesOf headsOf bigEndian each numberBytes vectorBytes cartBytes obstacleBytes
+    lineBytes bodyBytes recordBytes withVertices
     cartFault lentLineFault lentLinesFault neighboursFault restFault partsFault lentBytes laidScene writtenScene
 writerComputed = tt
 
@@ -40,14 +41,18 @@ zeros n = replicate n 0
 -- ---- 10 is last, and bytes behind the record keep their contents
 
 pub smallest :
-    (writtenScene (cartAt nan) 0 [] [] [] 0 [] [] ∷ writtenScene cart 0 [] [] [] 0 [] (replicate 40 7) ∷ writtenScene cart 0 [] [] [] 0 [] (replicate 41 7) ∷ writtenScene cart 0 [] [] [] 0 [] (replicate 43 7) ∷ [])
-    ≡ (written (fault 6) 0 [] ∷ written (fault 10) 0 (replicate 40 7) ∷ written fine 41 (0 ∷ 39 ∷ 1 ∷ zeros 20 ++ (63 ∷ 128 ∷ 0 ∷ 0 ∷ zeros 14)) ∷ written fine 41 (0 ∷ 39 ∷ 1 ∷ zeros 20 ++ (63 ∷ 128 ∷ 0 ∷ 0 ∷ zeros 14) ++ (7 ∷ 7 ∷ [])) ∷ [])
+    (writtenScene (cartAt nan) 0 [] [] [] 0 [] [] ∷ writtenScene cart 0 [] [] [] 0 [] (replicate 40 7)
+    ∷ writtenScene cart 0 [] [] [] 0 [] (replicate 41 7) ∷ writtenScene cart 0 [] [] [] 0 [] (replicate 43 7) ∷ [])
+    ≡ (written (fault 6) 0 [] ∷ written (fault 10) 0 (replicate 40 7)
+    ∷ written fine 41 (0 ∷ 39 ∷ 1 ∷ zeros 20 ++ (63 ∷ 128 ∷ 0 ∷ 0 ∷ zeros 14))
+    ∷ written fine 41 (0 ∷ 39 ∷ 1 ∷ zeros 20 ++ (63 ∷ 128 ∷ 0 ∷ 0 ∷ zeros 14) ++ (7 ∷ 7 ∷ [])) ∷ [])
 unfolding writerComputed
 smallest = refl
 
 -- a wall of two vertices: 59 bytes; -0 is written as it is
 pub wall : writtenScene (cartAt (bits 0x8000_0000)) 1 (2 ∷ []) (2 ∷ []) (-1ᶠ ∷ 1ᶠ ∷ 1ᶠ ∷ 1ᶠ ∷ []) 0 [] (replicate 59 7)
-    ≡ written fine 59 (0 ∷ 57 ∷ 1 ∷ 128 ∷ zeros 19 ++ (63 ∷ 128 ∷ 0 ∷ 0 ∷ zeros 12) ++ (1 ∷ 2 ∷ 2 ∷ 191 ∷ 128 ∷ 0 ∷ 0 ∷ 63 ∷ 128 ∷ 0 ∷ 0 ∷ 63 ∷ 128 ∷ 0 ∷ 0 ∷ 63 ∷ 128 ∷ 0 ∷ 0 ∷ 0 ∷ []))
+    ≡ written fine 59 (0 ∷ 57 ∷ 1 ∷ 128 ∷ zeros 19 ++ (63 ∷ 128 ∷ 0 ∷ 0 ∷ zeros 12)
+    ++ (1 ∷ 2 ∷ 2 ∷ 191 ∷ 128 ∷ 0 ∷ 0 ∷ 63 ∷ 128 ∷ 0 ∷ 0 ∷ 63 ∷ 128 ∷ 0 ∷ 0 ∷ 63 ∷ 128 ∷ 0 ∷ 0 ∷ 0 ∷ []))
 unfolding writerComputed
 wall = refl
 
@@ -57,15 +62,19 @@ abbrev pub toldWall : List Float → ℕ → List Float → Fault
 toldWall xs m ls = partsFault cart 1 (2 ∷ []) (2 ∷ []) xs m ls
 
 pub order :
-    (toldWall (nan ∷ 0ᶠ ∷ 0ᶠ ∷ []) 0 [] ∷ toldWall (0ᶠ ∷ 0ᶠ ∷ 0ᶠ ∷ []) 0 [] ∷ toldWall (0ᶠ ∷ 0ᶠ ∷ 1ᶠ ∷ 0ᶠ ∷ 0ᶠ ∷ []) 1 (nan ∷ 0ᶠ ∷ 1ᶠ ∷ 0ᶠ ∷ []) ∷ toldWall (0ᶠ ∷ 0ᶠ ∷ 1ᶠ ∷ 0ᶠ ∷ 0ᶠ ∷ []) 1 (0ᶠ ∷ 1ᶠ ∷ 1ᶠ ∷ 0ᶠ ∷ [])
-    ∷ toldWall (0ᶠ ∷ 0ᶠ ∷ 1ᶠ ∷ 0ᶠ ∷ []) 1 (0ᶠ ∷ 1ᶠ ∷ 1ᶠ ∷ 1ᶠ ∷ []) ∷ toldWall (0ᶠ ∷ 0ᶠ ∷ 1ᶠ ∷ 0ᶠ ∷ []) 1 (0ᶠ ∷ 1ᶠ ∷ 1ᶠ ∷ []) ∷ toldWall (0ᶠ ∷ 0ᶠ ∷ 1ᶠ ∷ 0ᶠ ∷ []) 65 [] ∷ partsFault cart 0 (1 ∷ []) [] [] 0 [] ∷ partsFault cart 0 [] [] [] 0 (0ᶠ ∷ []) ∷ [])
+    (toldWall (nan ∷ 0ᶠ ∷ 0ᶠ ∷ []) 0 [] ∷ toldWall (0ᶠ ∷ 0ᶠ ∷ 0ᶠ ∷ []) 0 [] ∷ toldWall (0ᶠ ∷ 0ᶠ ∷ 1ᶠ ∷ 0ᶠ ∷ 0ᶠ ∷ []) 1
+    (nan ∷ 0ᶠ ∷ 1ᶠ ∷ 0ᶠ ∷ []) ∷ toldWall (0ᶠ ∷ 0ᶠ ∷ 1ᶠ ∷ 0ᶠ ∷ 0ᶠ ∷ []) 1 (0ᶠ ∷ 1ᶠ ∷ 1ᶠ ∷ 0ᶠ ∷ [])
+    ∷ toldWall (0ᶠ ∷ 0ᶠ ∷ 1ᶠ ∷ 0ᶠ ∷ []) 1 (0ᶠ ∷ 1ᶠ ∷ 1ᶠ ∷ 1ᶠ ∷ []) ∷ toldWall (0ᶠ ∷ 0ᶠ ∷ 1ᶠ ∷ 0ᶠ ∷ []) 1
+    (0ᶠ ∷ 1ᶠ ∷ 1ᶠ ∷ []) ∷ toldWall (0ᶠ ∷ 0ᶠ ∷ 1ᶠ ∷ 0ᶠ ∷ []) 65 [] ∷ partsFault cart 0 (1 ∷ []) [] [] 0 []
+    ∷ partsFault cart 0 [] [] [] 0 (0ᶠ ∷ []) ∷ [])
     ≡ (fault 6 ∷ fault 2 ∷ fault 6 ∷ fault 2 ∷ fault 7 ∷ fault 2 ∷ fault 4 ∷ fault 2 ∷ fault 2 ∷ [])
 unfolding writerComputed
 order = refl
 
 -- 02, T-11: 14 at the second vertex, before the lines, what is left over and a short buffer
 pub doubled :
-    (toldWall (0ᶠ ∷ 0ᶠ ∷ bits 0x8000_0000 ∷ 0ᶠ ∷ 0ᶠ ∷ []) 65 [] ∷ partsFault cart 1 (1 ∷ []) (1 ∷ []) (0ᶠ ∷ 0ᶠ ∷ []) 0 [] ∷ toldWall (0ᶠ ∷ 0ᶠ ∷ 0ᶠ ∷ nan ∷ []) 0 [] ∷ [])
+    (toldWall (0ᶠ ∷ 0ᶠ ∷ bits 0x8000_0000 ∷ 0ᶠ ∷ 0ᶠ ∷ []) 65 [] ∷ partsFault cart 1 (1 ∷ []) (1 ∷ [])
+    (0ᶠ ∷ 0ᶠ ∷ []) 0 [] ∷ toldWall (0ᶠ ∷ 0ᶠ ∷ 0ᶠ ∷ nan ∷ []) 0 [] ∷ [])
     ≡ (fault 14 ∷ fault 14 ∷ fault 6 ∷ [])
 unfolding writerComputed
 doubled = refl

@@ -26,7 +26,8 @@ pub record Puts (l : List ℕ) (at : ℕ) (bytes : List ℕ) (end : ℕ) (m : Li
   pub puts : m ≡ sets l at bytes
   pub behind : end ≡ at + length bytes
 
-pub putting : {l : List ℕ} {at : ℕ} {bytes : List ℕ} {m : List ℕ} (n end : ℕ) → length bytes ≡ n → end ≡ at + n → m ≡ sets l at bytes → Puts l at bytes end m
+pub putting : {l : List ℕ} {at : ℕ} {bytes : List ℕ} {m : List ℕ} (n end : ℕ) → length bytes ≡ n → end ≡ at + n →
+    m ≡ sets l at bytes → Puts l at bytes end m
 putting n end size place e = record { puts = e; behind = rw size place }
 
 infixl 20 _then_
@@ -41,7 +42,8 @@ _then_ {l} {m} {w} {at} {mid} {end} {a} {b} p q = record {
 abbrev pub run : List Float → ℕ → ℕ → List ℕ
 run v from n = each numberBytes (take n (drop from v))
 
-run-cons : (v : List Float) (from n : ℕ) → from < length v → run v from (suc n) ≡ numberBytes (getD v from nan) ++ run v (from + 1) n
+run-cons : (v : List Float) (from n : ℕ) → from < length v →
+    run v from (suc n) ≡ numberBytes (getD v from nan) ++ run v (from + 1) n
 unfolding each
 run-cons v from n h = rw (add-one, drop-cons v from nan)
 
@@ -55,25 +57,31 @@ module _ (v : List Float) (from n at : ℕ) where
       let e : n - k ≡ 0 = omega arith in
       rw e
 
-  pub turn-next : (b c : List ℕ) (k : ℕ) → k < n → from + n ≤ length v → c ≡ sets b (at + 4 * k) (numberBytes (getD v (from + k) nan))
+  pub turn-next : (b c : List ℕ) (k : ℕ) → k < n → from + n ≤ length v →
+      c ≡ sets b (at + 4 * k) (numberBytes (getD v (from + k) nan))
       → sets b (at + 4 * k) (run v (from + k) (n - k)) ≡ sets c (at + 4 * (k + 1)) (run v (from + (k + 1)) (n - (k + 1)))
   turn-next b c k h l e =
       let q : n - k ≡ suc (n - (k + 1)) = omega arith in
       let p : from + (k + 1) ≡ from + k + 1 = omega arith in
-      let r : at + 4 * (k + 1) ≡ at + 4 * k + length (numberBytes (getD v (from + k) nan)) = omega (arith, length-number (getD v (from + k) nan)) in
-      rw (q, run-cons v (from + k) (n - (k + 1)) (omega arith), p, r, e) (sets-append b (at + 4 * k) (numberBytes (getD v (from + k) nan)) (run v (from + k + 1) (n - (k + 1))))
+      let r : at + 4 * (k + 1) ≡ at + 4 * k + length (numberBytes (getD v (from + k) nan)) =
+      omega (arith, length-number (getD v (from + k) nan)) in
+      rw (q, run-cons v (from + k) (n - (k + 1)) (omega arith), p, r, e)
+      (sets-append b (at + 4 * k) (numberBytes (getD v (from + k) nan)) (run v (from + k + 1) (n - (k + 1))))
 
 -- ---- vectors, the cart
 
-pub vector-put : (l m w : List ℕ) (at : ℕ) (v : Vec2) → m ≡ sets l at (numberBytes (v .x)) → w ≡ sets m (at + 4) (numberBytes (v .y)) → w ≡ sets l at (vectorBytes v)
+pub vector-put : (l m w : List ℕ) (at : ℕ) (v : Vec2) → m ≡ sets l at (numberBytes (v .x)) →
+    w ≡ sets m (at + 4) (numberBytes (v .y)) → w ≡ sets l at (vectorBytes v)
 unfolding vectorBytes
 vector-put l m w at v e f =
     let x : Puts l at (numberBytes (v .x)) (at + 4) m = putting 4 (at + 4) (length-number (v .x)) refl e in
     let y : Puts m (at + 4) (numberBytes (v .y)) (at + 8) w = putting 4 (at + 8) (length-number (v .y)) (omega arith) f in
     (x then y) .puts
 
-pub cart-put : (c : Cart) (l p v m h w whole : List ℕ) → p ≡ sets l 3 (vectorBytes (c .agent .position)) → v ≡ sets p 11 (vectorBytes (c .agent .velocity)) → m ≡ sets v 19 (numberBytes (c .margin))
-    → h ≡ sets m 23 (numberBytes (c .horizon)) → w ≡ sets h 27 (vectorBytes (c .wish)) → whole ≡ sets w 35 (numberBytes (c .limit)) → whole ≡ sets l 3 (cartBytes c)
+pub cart-put : (c : Cart) (l p v m h w whole : List ℕ) → p ≡ sets l 3 (vectorBytes (c .agent .position)) →
+    v ≡ sets p 11 (vectorBytes (c .agent .velocity)) → m ≡ sets v 19 (numberBytes (c .margin))
+    → h ≡ sets m 23 (numberBytes (c .horizon)) → w ≡ sets h 27 (vectorBytes (c .wish)) →
+    whole ≡ sets w 35 (numberBytes (c .limit)) → whole ≡ sets l 3 (cartBytes c)
 unfolding cartBytes
 cart-put c l p v m h w whole e1 e2 e3 e4 e5 e6 =
     let position : Puts l 3 (vectorBytes (c .agent .position)) 11 p = putting 8 11 (length-vector _) refl e1 in
@@ -92,7 +100,8 @@ unfolding each vectorBytes verticesOf
 two-by-two [] n h = refl
 two-by-two (x ∷ []) n h = absurd (omega arith)
 two-by-two (x ∷ y ∷ xs) zero h = absurd (omega arith)
-two-by-two (x ∷ y ∷ xs) (suc n) h = rw (two-by-two xs n (omega arith)) (append-assoc (numberBytes x) (numberBytes y) (each numberBytes xs))
+two-by-two (x ∷ y ∷ xs) (suc n) h =
+    rw (two-by-two xs n (omega arith)) (append-assoc (numberBytes x) (numberBytes y) (each numberBytes xs))
 
 -- an obstacle's own vertices are there
 module _ (kind count start : ℕ) (xs : List Float) (h : 2 * (start + count) ≤ length xs) where
@@ -105,16 +114,21 @@ module _ (kind count start : ℕ) (xs : List Float) (h : 2 * (start + count) ≤
   pub own-long : length (obstacleBytes (obstacleFrom kind count (drop (2 * start) xs))) ≡ 2 + 8 * count
   own-long = length-obstacle (obstacleFrom kind count (drop (2 * start) xs)) ∙ rw own-size
 
-  pub obstacle-put : (l m n w : List ℕ) (at : ℕ) → m ≡ sets l at (bigEndian 1 kind) → n ≡ sets m (at + 1) (bigEndian 1 count) → w ≡ sets n (at + 2) (run xs (2 * start) (2 * count))
+  pub obstacle-put : (l m n w : List ℕ) (at : ℕ) → m ≡ sets l at (bigEndian 1 kind) →
+      n ≡ sets m (at + 1) (bigEndian 1 count) → w ≡ sets n (at + 2) (run xs (2 * start) (2 * count))
       → w ≡ sets l at (obstacleBytes (obstacleFrom kind count (drop (2 * start) xs)))
   unfolding obstacleBytes
   obstacle-put l m n w at e f g =
       let vs = take (2 * count) (drop (2 * start) xs) in
       let same : each numberBytes vs ≡ each vectorBytes (verticesOf vs) = sym (two-by-two vs count own-numbers) in
-      let long : length (each vectorBytes (verticesOf vs)) ≡ 8 * count = length-each vectorBytes 8 length-vector (verticesOf vs) ∙ rw own-size in
+      let long : length (each vectorBytes (verticesOf vs)) ≡ 8 * count =
+      length-each vectorBytes 8 length-vector (verticesOf vs) ∙ rw own-size in
       let own : Puts l at (bigEndian 1 kind) (at + 1) m = putting 1 (at + 1) (length-big-endian 1 kind) refl e in
-      let size : Puts m (at + 1) (bigEndian 1 (length (verticesOf vs))) (at + 2) n = putting 1 (at + 2) (length-big-endian 1 _) (omega arith) (f ∙ ap (λ (k : ℕ). sets m (at + 1) (bigEndian 1 k)) (sym own-size)) in
-      let all : Puts n (at + 2) (each vectorBytes (verticesOf vs)) (at + 2 + 8 * count) w = putting (8 * count) _ long refl (g ∙ ap (sets n (at + 2)) same) in
+      let size : Puts m (at + 1) (bigEndian 1 (length (verticesOf vs))) (at + 2) n =
+      putting 1 (at + 2) (length-big-endian 1 _) (omega arith) (f
+      ∙ ap (λ (k : ℕ). sets m (at + 1) (bigEndian 1 k)) (sym own-size)) in
+      let all : Puts n (at + 2) (each vectorBytes (verticesOf vs)) (at + 2 + 8 * count) w =
+      putting (8 * count) _ long refl (g ∙ ap (sets n (at + 2)) same) in
       (own then size then all) .puts
 
 -- the obstacles from the i-th on, behind `total` vertices
@@ -123,7 +137,8 @@ module _ (ks cs : List ℕ) (xs : List Float) (i total : ℕ) where
   wallBytes j t = each obstacleBytes (lentObstacles (drop j ks) (drop j cs) (drop (2 * t) xs))
 
   wall-cons : (count : ℕ) → count ≡ getD cs i 0 → i < length ks → i < length cs
-      → wallBytes i total ≡ obstacleBytes (obstacleFrom (getD ks i 0) count (drop (2 * total) xs)) ++ wallBytes (i + 1) (total + count)
+      → wallBytes i total ≡ obstacleBytes (obstacleFrom (getD ks i 0) count (drop (2 * total) xs)) ++ wallBytes (i + 1)
+      (total + count)
   unfolding each withVertices headsOf
   wall-cons count e h k =
       let f : 2 * (total + count) ≡ 2 * total + 2 * count = omega arith in
@@ -133,11 +148,15 @@ module _ (ks cs : List ℕ) (xs : List Float) (i total : ℕ) where
   abbrev pub wallPlace : ℕ → ℕ → ℕ
   wallPlace j t = 40 + 2 * j + 8 * t
 
-  pub wall-next : (b c : List ℕ) (count : ℕ) → count ≡ getD cs i 0 → i < length ks → i < length cs → 2 * (total + count) ≤ length xs
-      → c ≡ sets b (wallPlace i total) (obstacleBytes (obstacleFrom (getD ks i 0) count (drop (2 * total) xs))) → sets b (wallPlace i total) (wallBytes i total) ≡ sets c (wallPlace (i + 1) (total + count)) (wallBytes (i + 1) (total + count))
+  pub wall-next : (b c : List ℕ) (count : ℕ) → count ≡ getD cs i 0 → i < length ks → i < length cs →
+      2 * (total + count) ≤ length xs
+      → c ≡ sets b (wallPlace i total) (obstacleBytes (obstacleFrom (getD ks i 0) count (drop (2 * total) xs))) →
+      sets b (wallPlace i total) (wallBytes i total)
+      ≡ sets c (wallPlace (i + 1) (total + count)) (wallBytes (i + 1) (total + count))
   wall-next b c count e h k fits f =
       let o = obstacleBytes (obstacleFrom (getD ks i 0) count (drop (2 * total) xs)) in
-      let place : wallPlace (i + 1) (total + count) ≡ wallPlace i total + length o = omega (arith, own-long (getD ks i 0) count total xs fits) in
+      let place : wallPlace (i + 1) (total + count) ≡ wallPlace i total + length o =
+      omega (arith, own-long (getD ks i 0) count total xs fits) in
       rw (wall-cons count e h k, f, place) (sets-append b (wallPlace i total) o (wallBytes (i + 1) (total + count)))
 
   pub walls-end : (b : List ℕ) (at : ℕ) → length ks ≤ i → b ≡ sets b at (wallBytes i total)

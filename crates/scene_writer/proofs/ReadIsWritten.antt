@@ -40,7 +40,12 @@ unfolding blankBytes blankVertices blankNumbers
 read-sized s c m z =
     scene-taken-version-1 s c m z λ n read-n few-n right z'.
     fields-taken s 2 c m z' λ a b d e f x os ls read-version read-cart read-os few-os list-os read-ls few-ls list-ls end same.
-    rw same (record { kinds = length-sets blankBytes 0 (map kindOf os); counts = length-sets blankBytes 0 (map sizeOf os); vertices = length-sets blankVertices 0 (each numbersIn os); lines = length-sets blankNumbers 0 (each fourOf ls) })
+    rw same (record {
+      kinds = length-sets blankBytes 0 (map kindOf os);
+      counts = length-sets blankBytes 0 (map sizeOf os);
+      vertices = length-sets blankVertices 0 (each numbersIn os);
+      lines = length-sets blankNumbers 0 (each fourOf ls);
+    })
 
 -- ---- a scene's parts, lent up to its counts
 
@@ -59,7 +64,8 @@ module _ (c : Scene) (z : Sized c) (e : sceneFault c ≡ fine) where
 
   total-few : total ≤ 192
   total-few =
-      let h = few-together 0 (c .obstacles) (kindsIn c) (countsIn c) (c .vertices) kinds-long counts-long (omega arith) (p .walls) in
+      let h = few-together 0 (c .obstacles) (kindsIn c) (countsIn c) (c .vertices) kinds-long counts-long (omega arith)
+      (p .walls) in
       omega (arith, h)
 
   vertices-size : length (verticesIn c) ≡ 2 * total
@@ -77,7 +83,8 @@ module _ (c : Scene) (z : Sized c) (e : sceneFault c ≡ fine) where
   walls-pass : lentFault 0 (c .obstacles) (kindsIn c) (countsIn c) (verticesIn c) ≡ fine
   walls-pass =
       lent-there 0 (c .obstacles) (kindsIn c) (countsIn c) (verticesIn c) kinds-long counts-long (omega (arith, vertices-size))
-      ∙ sym (fault-cut 0 (c .obstacles) (kindsIn c) (countsIn c) (verticesIn c) rest kinds-long counts-long (omega (arith, vertices-size)))
+      ∙ sym (fault-cut 0 (c .obstacles) (kindsIn c) (countsIn c) (verticesIn c) rest kinds-long counts-long
+      (omega (arith, vertices-size)))
       ∙ ap (obstaclesFault 0 (headsIn c)) whole-vertices
       ∙ p .walls
 
@@ -87,12 +94,17 @@ module _ (c : Scene) (z : Sized c) (e : sceneFault c ≡ fine) where
   lines-pass : lentLinesFault (c .neighbours) (linesIn c) ≡ fine
   lines-pass =
       lines-there (c .neighbours) (linesIn c) (omega (arith, lines-size))
-      ∙ ap linesFault (ap (take (c .neighbours)) lines-same ∙ take-take (c .neighbours) (c .neighbours) (linesOf (c .lines)) (omega arith))
+      ∙ ap linesFault (ap (take (c .neighbours)) lines-same
+      ∙ take-take (c .neighbours) (c .neighbours) (linesOf (c .lines)) (omega arith))
       ∙ p .lines
 
   left-none : leftFault (c .obstacles) total (kindsIn c) (countsIn c) (verticesIn c) ≡ fine
   unfolding leftFault
-  left-none = rw (le-leb (length (kindsIn c)) (c .obstacles) (omega (arith, kinds-long)), le-leb (length (countsIn c)) (c .obstacles) (omega (arith, counts-long)), le-leb (length (verticesIn c)) (2 * total) (omega (arith, vertices-size)))
+  left-none = rw (
+    le-leb (length (kindsIn c)) (c .obstacles) (omega (arith, kinds-long)),
+    le-leb (length (countsIn c)) (c .obstacles) (omega (arith, counts-long)),
+    le-leb (length (verticesIn c)) (2 * total) (omega (arith, vertices-size)),
+  )
 
   cart-pass : cartFault (cartIn c) ≡ fine
   unfolding cartFault scenes.cartFault
@@ -100,25 +112,39 @@ module _ (c : Scene) (z : Sized c) (e : sceneFault c ≡ fine) where
 
   parts-pass : partsFault (cartIn c) (c .obstacles) (kindsIn c) (countsIn c) (verticesIn c) (c .neighbours) (linesIn c) ≡ fine
   unfolding partsFault restFault layoutFault neighboursFault
-  parts-pass = rw (cart-pass, le-leb (c .obstacles) mostObstacles (p .obstacles), walls-pass, le-leb (c .neighbours) mostNeighbours (p .neighbours), lines-pass, left-none, le-leb (length (linesIn c)) (4 * c .neighbours) (omega (arith, lines-size)))
+  parts-pass = rw (
+    cart-pass,
+    le-leb (c .obstacles) mostObstacles (p .obstacles),
+    walls-pass,
+    le-leb (c .neighbours) mostNeighbours (p .neighbours),
+    lines-pass,
+    left-none,
+    le-leb (length (linesIn c)) (4 * c .neighbours) (omega (arith, lines-size)),
+  )
 
   bytes-same : lentBytes (cartIn c) (kindsIn c) (countsIn c) (verticesIn c) (linesIn c) ≡ sceneBytes c
   unfolding lentBytes
   bytes-same =
-      let walls : lentObstacles (kindsIn c) (countsIn c) (verticesIn c) ≡ obstaclesIn c = sym (vertices-cut (c .obstacles) (kindsIn c) (countsIn c) (verticesIn c) rest kinds-long counts-long (omega (arith, vertices-size))) ∙ ap (withVertices (headsIn c)) whole-vertices in
+      let walls : lentObstacles (kindsIn c) (countsIn c) (verticesIn c) ≡ obstaclesIn c =
+      sym (vertices-cut (c .obstacles) (kindsIn c) (countsIn c) (verticesIn c) rest kinds-long counts-long
+      (omega (arith, vertices-size))) ∙ ap (withVertices (headsIn c)) whole-vertices in
       rw (walls, lines-same)
 
 -- ---- the law
 
-lay : (f : Fault) (bytes s buffer : List ℕ) → f ≡ fine → bytes ≡ s → length s ≤ length buffer → laidScene f bytes buffer ≡ written fine (length s) (s ++ drop (length s) buffer)
+lay : (f : Fault) (bytes s buffer : List ℕ) → f ≡ fine → bytes ≡ s → length s ≤ length buffer → laidScene f bytes buffer
+    ≡ written fine (length s) (s ++ drop (length s) buffer)
 unfolding laidScene
 lay f bytes s buffer e b h = rw (e, b, le-leb (length s) (length buffer) h)
 
 -- a record that is read to a scene stands at the buffer's start where that scene's parts are written
-pub read-is-written : (s : List ℕ) → AllBytes s → (c : Scene) (m : ℕ) → sceneInVersion1 s ≡ got c m → (buffer : List ℕ) → length s ≤ length buffer
-    → writtenScene (cartIn c) (c .obstacles) (kindsIn c) (countsIn c) (verticesIn c) (c .neighbours) (linesIn c) buffer ≡ written fine (length s) (s ++ drop (length s) buffer)
+pub read-is-written : (s : List ℕ) → AllBytes s → (c : Scene) (m : ℕ) → sceneInVersion1 s ≡ got c m → (buffer : List ℕ)
+    → length s ≤ length buffer
+    → writtenScene (cartIn c) (c .obstacles) (kindsIn c) (countsIn c) (verticesIn c) (c .neighbours) (linesIn c) buffer
+    ≡ written fine (length s) (s ++ drop (length s) buffer)
 unfolding writtenScene
 read-is-written s h c m z buffer room =
     let sized = read-sized s c m z in
     let admitted = read-admitted-version-1 s c m z in
-    lay _ _ s buffer (parts-pass c sized admitted) (bytes-same c sized admitted ∙ sym (accepted-is-bytes-version-1 s h c m z)) room
+    lay _ _ s buffer (parts-pass c sized admitted) (bytes-same c sized admitted
+    ∙ sym (accepted-is-bytes-version-1 s h c m z)) room

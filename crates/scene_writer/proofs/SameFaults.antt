@@ -34,7 +34,8 @@ lines-there (suc n) (w ∷ x ∷ y ∷ z ∷ xs) h = rw (lines-there n xs (omega
 
 -- ---- obstacles
 
-pub lent-there : (total n : ℕ) (ks cs : List ℕ) (xs : List Float) → length ks ≡ n → length cs ≡ n → 2 * vertexTotal n cs ≤ length xs → lentFault total n ks cs xs ≡ obstaclesFault total (headsOf ks cs) xs
+pub lent-there : (total n : ℕ) (ks cs : List ℕ) (xs : List Float) → length ks ≡ n → length cs ≡ n →
+    2 * vertexTotal n cs ≤ length xs → lentFault total n ks cs xs ≡ obstaclesFault total (headsOf ks cs) xs
 unfolding lentFault ownFault kindFault countFault vertexTotal headsOf obstaclesFault headFault
 lent-there total zero [] cs xs p q h = refl
 lent-there total zero (k ∷ ks) cs xs p q h = absurd (omega arith)
@@ -42,7 +43,8 @@ lent-there total (suc n) [] cs xs p q h = absurd (omega arith)
 lent-there total (suc n) (k ∷ ks) [] xs p q h = absurd (omega arith)
 lent-there total (suc n) (k ∷ ks) (c ∷ cs) xs p q h =
     let rest = lent-there (total + c) n ks cs (drop (2 * c) xs) (omega arith) (omega arith) (rw length-drop (omega arith)) in
-    rw rest (regrouped (must (isKind k) 3) (must (roomFor total c) 4) (must (not (isEmptyOpen k c)) 5) (outlineFault (headOf k c) xs) (obstaclesFault (total + c) (headsOf ks cs) (drop (2 * c) xs)))
+    rw rest (regrouped (must (isKind k) 3) (must (roomFor total c) 4) (must (not (isEmptyOpen k c)) 5)
+    (outlineFault (headOf k c) xs) (obstaclesFault (total + c) (headsOf ks cs) (drop (2 * c) xs)))
   where
     regrouped : (a b d v r : Fault) → ((a ⊳ ((b ⊳ d) ⊳ v)) ⊳ r) ≡ ((a ⊳ (b ⊳ d)) ⊳ (v ⊳ r))
     regrouped fine fine fine fine r = refl
@@ -52,16 +54,22 @@ lent-there total (suc n) (k ∷ ks) (c ∷ cs) xs p q h =
     regrouped (fault m) b d v r = refl
 
 -- numbers behind the vertices do not matter
-pub vertices-cut : (n : ℕ) (ks cs : List ℕ) (xs rest : List Float) → length ks ≡ n → length cs ≡ n → 2 * vertexTotal n cs ≤ length xs → withVertices (headsOf ks cs) (xs ++ rest) ≡ withVertices (headsOf ks cs) xs
+pub vertices-cut : (n : ℕ) (ks cs : List ℕ) (xs rest : List Float) → length ks ≡ n → length cs ≡ n →
+    2 * vertexTotal n cs ≤ length xs → withVertices (headsOf ks cs) (xs ++ rest) ≡ withVertices (headsOf ks cs) xs
 unfolding vertexTotal headsOf withVertices
 vertices-cut zero [] cs xs rest p q h = refl
 vertices-cut zero (k ∷ ks) cs xs rest p q h = absurd (omega arith)
 vertices-cut (suc n) [] cs xs rest p q h = absurd (omega arith)
 vertices-cut (suc n) (k ∷ ks) [] xs rest p q h = absurd (omega arith)
 vertices-cut (suc n) (k ∷ ks) (c ∷ cs) xs rest p q h =
-    rw (take-append-le (2 * c) xs rest (omega arith), drop-append-le (2 * c) xs rest (omega arith), vertices-cut n ks cs (drop (2 * c) xs) rest (omega arith) (omega arith) (rw length-drop (omega arith)))
+    rw (
+      take-append-le (2 * c) xs rest (omega arith),
+      drop-append-le (2 * c) xs rest (omega arith),
+      vertices-cut n ks cs (drop (2 * c) xs) rest (omega arith) (omega arith) (rw length-drop (omega arith)),
+    )
 
-own-cut : (before : OuterVertex) (n : ℕ) (xs rest : List Float) → 2 * n ≤ length xs → verticesFault before n (xs ++ rest) ≡ verticesFault before n xs
+own-cut : (before : OuterVertex) (n : ℕ) (xs rest : List Float) → 2 * n ≤ length xs →
+    verticesFault before n (xs ++ rest) ≡ verticesFault before n xs
 unfolding verticesFault vertexFault componentsFault numberFault
 own-cut before zero xs rest h = refl
 own-cut before (suc n) [] rest h = absurd (omega arith)
@@ -72,17 +80,24 @@ outline-cut : (h : Head) (xs rest : List Float) → 2 * h .count ≤ length xs �
 unfolding outlineFault
 outline-cut h xs rest e = rw (own-cut noneBefore (h .count) xs rest e, take-append-le (2 * h .count) xs rest e)
 
-pub fault-cut : (total n : ℕ) (ks cs : List ℕ) (xs rest : List Float) → length ks ≡ n → length cs ≡ n → 2 * vertexTotal n cs ≤ length xs → obstaclesFault total (headsOf ks cs) (xs ++ rest) ≡ obstaclesFault total (headsOf ks cs) xs
+pub fault-cut : (total n : ℕ) (ks cs : List ℕ) (xs rest : List Float) → length ks ≡ n → length cs ≡ n →
+    2 * vertexTotal n cs ≤ length xs → obstaclesFault total (headsOf ks cs) (xs ++ rest)
+    ≡ obstaclesFault total (headsOf ks cs) xs
 unfolding vertexTotal headsOf obstaclesFault
 fault-cut total zero [] cs xs rest p q h = refl
 fault-cut total zero (k ∷ ks) cs xs rest p q h = absurd (omega arith)
 fault-cut total (suc n) [] cs xs rest p q h = absurd (omega arith)
 fault-cut total (suc n) (k ∷ ks) [] xs rest p q h = absurd (omega arith)
 fault-cut total (suc n) (k ∷ ks) (c ∷ cs) xs rest p q h =
-    rw (outline-cut (headOf k c) xs rest (omega arith), drop-append-le (2 * c) xs rest (omega arith), fault-cut (total + c) n ks cs (drop (2 * c) xs) rest (omega arith) (omega arith) (rw length-drop (omega arith)))
+    rw (
+      outline-cut (headOf k c) xs rest (omega arith),
+      drop-append-le (2 * c) xs rest (omega arith),
+      fault-cut (total + c) n ks cs (drop (2 * c) xs) rest (omega arith) (omega arith) (rw length-drop (omega arith)),
+    )
 
 -- "192 together"
-pub few-together : (total n : ℕ) (ks cs : List ℕ) (xs : List Float) → length ks ≡ n → length cs ≡ n → total ≤ 192 → obstaclesFault total (headsOf ks cs) xs ≡ fine → total + vertexTotal n cs ≤ 192
+pub few-together : (total n : ℕ) (ks cs : List ℕ) (xs : List Float) → length ks ≡ n → length cs ≡ n → total ≤ 192 →
+    obstaclesFault total (headsOf ks cs) xs ≡ fine → total + vertexTotal n cs ≤ 192
 unfolding vertexTotal headsOf obstaclesFault
 few-together total zero [] cs xs p q t e = omega arith
 few-together total zero (k ∷ ks) cs xs p q t e = absurd (omega arith)

@@ -19,9 +19,11 @@ module _ (c : Cart) (n : ℕ) (ks cs : List ℕ) (xs : List Float) (m : ℕ) (ls
   abbrev all : Fault
   all = partsFault c n ks cs xs m ls ⊳ must (leb (length bytes) (length buffer)) 10
 
-  pub written-untouched : (r : ℕ) → writtenScene c n ks cs xs m ls buffer .told ≡ fault r → writtenScene c n ks cs xs m ls buffer .contents ≡ buffer
+  pub written-untouched : (r : ℕ) → writtenScene c n ks cs xs m ls buffer .told ≡ fault r →
+      writtenScene c n ks cs xs m ls buffer .contents ≡ buffer
   unfolding writtenScene laidScene
-  written-untouched r = unless-case (λ (w : Written). w .told ≡ fault r → w .contents ≡ buffer) (λ k. written (fault k) 0 buffer) all (λ h e. absurd (no-fault r e)) (λ k h e. refl)
+  written-untouched r = unless-case (λ (w : Written). w .told ≡ fault r →
+      w .contents ≡ buffer) (λ k. written (fault k) 0 buffer) all (λ h e. absurd (no-fault r e)) (λ k h e. refl)
 
   -- accepted: the parts pass, and the buffer is the record in front of what stood behind it
   pub record Accepted : Type 0 where
@@ -44,7 +46,8 @@ module _ (c : Cart) (n : ℕ) (ks cs : List ℕ) (xs : List Float) (m : ℕ) (ls
   unfolding writtenScene laidScene
   all-fine = go all
     where
-      go : (f : Fault) → Rattle.admission.specs.Faults.unlessFault (λ r. written (fault r) 0 buffer) f (written fine (length bytes) (bytes ++ drop (length bytes) buffer)) .told ≡ fine → f ≡ fine
+      go : (f : Fault) → Rattle.admission.specs.Faults.unlessFault (λ r. written (fault r) 0 buffer) f
+          (written fine (length bytes) (bytes ++ drop (length bytes) buffer)) .told ≡ fine → f ≡ fine
       go fine e = refl
       go (fault r) e = absurd (no-fault r (sym e))
 

@@ -64,7 +64,9 @@ good-cart c t e =
       limit = good (inside 0ᶠ longest) (c .limit) 6 (t .limit) (g .1);
     }
 
-good-lent : (total n : ℕ) (ks cs : List ℕ) (xs : List Float) → length ks ≡ n → length cs ≡ n → 2 * vertexTotal n cs ≤ length xs → All Fit xs → lentFault total n ks cs xs ≡ fine → Every GoodObstacle onTotal total (lentObstacles ks cs xs)
+good-lent : (total n : ℕ) (ks cs : List ℕ) (xs : List Float) → length ks ≡ n → length cs ≡ n →
+    2 * vertexTotal n cs ≤ length xs → All Fit xs → lentFault total n ks cs xs ≡ fine →
+    Every GoodObstacle onTotal total (lentObstacles ks cs xs)
 unfolding lentFault ownFault kindFault countFault outlineFault vertexTotal headsOf withVertices
 good-lent total zero [] cs xs p q h t e = tt
 good-lent total zero (k ∷ ks) cs xs p q h t e = absurd (omega arith)
@@ -84,7 +86,8 @@ good-lent total (suc n) (k ∷ ks) (c ∷ cs) xs p q h t e =
         vertices = good-vertices noneBefore c xs t (vf .0);
         closed = must-fine (closes k (verticesOf (take (2 * c) xs))) 14 (vf .1);
       },
-      rw size (good-lent (total + c) n ks cs (drop (2 * c) xs) (omega arith) (omega arith) (rw length-drop (omega arith)) (all-drop (2 * c) t) (a .1)),
+      rw size (good-lent (total + c) n ks cs (drop (2 * c) xs) (omega arith) (omega arith)
+          (rw length-drop (omega arith)) (all-drop (2 * c) t) (a .1)),
     )
 
 -- ---- the parts are those lent
@@ -94,9 +97,11 @@ unfolding headsOf withVertices
 kinds-same n [] cs xs p q = refl
 kinds-same n (k ∷ ks) [] xs p q = absurd (omega arith)
 kinds-same zero (k ∷ ks) (c ∷ cs) xs p q = absurd (omega arith)
-kinds-same (suc n) (k ∷ ks) (c ∷ cs) xs p q = ap (λ (l : List ℕ). k ∷ l) (kinds-same n ks cs (drop (2 * c) xs) (omega arith) (omega arith))
+kinds-same (suc n) (k ∷ ks) (c ∷ cs) xs p q =
+    ap (λ (l : List ℕ). k ∷ l) (kinds-same n ks cs (drop (2 * c) xs) (omega arith) (omega arith))
 
-counts-same : (n : ℕ) (ks cs : List ℕ) (xs : List Float) → length ks ≡ n → length cs ≡ n → 2 * vertexTotal n cs ≤ length xs → map sizeOf (lentObstacles ks cs xs) ≡ cs
+counts-same : (n : ℕ) (ks cs : List ℕ) (xs : List Float) → length ks ≡ n → length cs ≡ n →
+    2 * vertexTotal n cs ≤ length xs → map sizeOf (lentObstacles ks cs xs) ≡ cs
 unfolding headsOf withVertices vertexTotal
 counts-same n [] [] xs p q h = refl
 counts-same n [] (c ∷ cs) xs p q h = absurd (omega arith)
@@ -113,7 +118,8 @@ two-same (x ∷ []) n h = absurd (omega arith)
 two-same (x ∷ y ∷ xs) zero h = absurd (omega arith)
 two-same (x ∷ y ∷ xs) (suc n) h = rw (two-same xs n (omega arith))
 
-numbers-same : (n : ℕ) (ks cs : List ℕ) (xs : List Float) → length ks ≡ n → length cs ≡ n → length xs ≡ 2 * vertexTotal n cs → each numbersIn (lentObstacles ks cs xs) ≡ xs
+numbers-same : (n : ℕ) (ks cs : List ℕ) (xs : List Float) → length ks ≡ n → length cs ≡ n →
+    length xs ≡ 2 * vertexTotal n cs → each numbersIn (lentObstacles ks cs xs) ≡ xs
 unfolding headsOf withVertices vertexTotal each
 numbers-same zero [] cs [] p q h = refl
 numbers-same zero [] cs (x ∷ xs) p q h = absurd (omega arith)
@@ -121,8 +127,10 @@ numbers-same zero (k ∷ ks) cs xs p q h = absurd (omega arith)
 numbers-same (suc n) [] cs xs p q h = absurd (omega arith)
 numbers-same (suc n) (k ∷ ks) [] xs p q h = absurd (omega arith)
 numbers-same (suc n) (k ∷ ks) (c ∷ cs) xs p q h =
-    let own : each coordinates (verticesOf (take (2 * c) xs)) ≡ take (2 * c) xs = two-same (take (2 * c) xs) c (length-take-le (2 * c) xs (omega arith)) in
-    rw (own, numbers-same n ks cs (drop (2 * c) xs) (omega arith) (omega arith) (rw length-drop (omega arith))) (take-append-drop (2 * c) xs)
+    let own : each coordinates (verticesOf (take (2 * c) xs)) ≡ take (2 * c) xs =
+    two-same (take (2 * c) xs) c (length-take-le (2 * c) xs (omega arith)) in
+    rw (own, numbers-same n ks cs (drop (2 * c) xs) (omega arith) (omega arith) (rw length-drop (omega arith)))
+    (take-append-drop (2 * c) xs)
 
 fours-same : (xs : List Float) (n : ℕ) → length xs ≡ 4 * n → each fourOf (linesOf xs) ≡ xs
 unfolding each linesOf
@@ -135,18 +143,21 @@ fours-same (w ∷ x ∷ y ∷ z ∷ xs) (suc n) h = rw (fours-same xs n (omega a
 
 -- ---- the law
 
-module _ (c : Cart) (n : ℕ) (ks cs : List ℕ) (xs : List Float) (m : ℕ) (ls : List Float) (fit : FitCart c) (fit-vertices : All Fit xs) (fit-numbers : All Fit ls) where
+module _ (c : Cart) (n : ℕ) (ks cs : List ℕ) (xs : List Float) (m : ℕ) (ls : List Float) (fit : FitCart c)
+    (fit-vertices : All Fit xs) (fit-numbers : All Fit ls) where
   good-parts : Passed c n ks cs xs m ls → GoodParts c (lentObstacles ks cs xs) (linesOf ls)
   unfolding layoutFault
   good-parts p =
       let h = p .fits in
       let many : length (linesOf ls) ≡ m = lines-many c n ks cs xs m ls h in
       let all : take m (linesOf ls) ≡ linesOf ls = rw (← many) (take-length (linesOf ls)) in
-      let near : linesFault (linesOf ls) ≡ fine = ap linesFault (sym all) ∙ sym (lines-there m ls (omega (arith, h .lines))) ∙ p .near in
+      let near : linesFault (linesOf ls) ≡ fine = ap linesFault (sym all)
+      ∙ sym (lines-there m ls (omega (arith, h .lines))) ∙ p .near in
       record {
         cart = good-cart c fit (p .cart);
         few = rw (obstacles-many c n ks cs xs m ls h) (h .walls .few);
-        obstacles = good-lent 0 n ks cs xs (h .walls .kinds) (h .walls .counts) (omega (arith, h .walls .vertices)) fit-vertices (⊳-fine (must (lib.Dec.leb n 16) 4) (p .layout) .1);
+        obstacles = good-lent 0 n ks cs xs (h .walls .kinds) (h .walls .counts)
+            (omega (arith, h .walls .vertices)) fit-vertices (⊳-fine (must (lib.Dec.leb n 16) 4) (p .layout) .1);
         fewer = rw many (h .few);
         lines = good-lines (linesOf ls) (fit-lines ls fit-numbers) near;
       }
@@ -154,17 +165,30 @@ module _ (c : Cart) (n : ℕ) (ks cs : List ℕ) (xs : List Float) (m : ℕ) (ls
   scene-same : Fits n ks cs xs m ls → sceneOf c n (lentObstacles ks cs xs) m (linesOf ls) ≡ lentScene c n ks cs xs m ls
   scene-same h =
       let w = h .walls in
-      rw (kinds-same n ks cs xs (w .kinds) (w .counts), counts-same n ks cs xs (w .kinds) (w .counts) (omega (arith, w .vertices)), numbers-same n ks cs xs (w .kinds) (w .counts) (w .vertices), fours-same ls m (h .lines))
+      rw (
+        kinds-same n ks cs xs (w .kinds) (w .counts),
+        counts-same n ks cs xs (w .kinds) (w .counts)
+            (omega (arith, w .vertices)),
+        numbers-same n ks cs xs (w .kinds) (w .counts) (w .vertices),
+        fours-same ls m (h .lines),
+      )
 
-  lent-read : Passed c n ks cs xs m ls → sceneInVersion1 (lentBytes c ks cs xs ls) ≡ got (lentScene c n ks cs xs m ls) (length (lentBytes c ks cs xs ls))
+  lent-read : Passed c n ks cs xs m ls → sceneInVersion1 (lentBytes c ks cs xs ls)
+      ≡ got (lentScene c n ks cs xs m ls) (length (lentBytes c ks cs xs ls))
   unfolding lentBytes
   lent-read p =
       let h = p .fits in
-      rw (← scene-same h) (rw (obstacles-many c n ks cs xs m ls h, lines-many c n ks cs xs m ls h) at (parts-read-version-1 c (lentObstacles ks cs xs) (linesOf ls) (good-parts p)))
+      rw (← scene-same h) (rw (
+        obstacles-many c n ks cs xs m ls h,
+        lines-many c n ks cs xs m ls h,
+      ) at (parts-read-version-1 c (lentObstacles ks cs xs) (linesOf ls)
+      (good-parts p)))
 
   -- the bytes that the writer left at the buffer's start are read to the scene whose parts were lent
   pub written-is-read : (buffer : List ℕ) → writtenScene c n ks cs xs m ls buffer .told ≡ fine
-      → sceneInVersion1 (take (writtenScene c n ks cs xs m ls buffer .size) (writtenScene c n ks cs xs m ls buffer .contents)) ≡ got (lentScene c n ks cs xs m ls) (writtenScene c n ks cs xs m ls buffer .size)
+      → sceneInVersion1 (take (writtenScene c n ks cs xs m ls buffer .size)
+      (writtenScene c n ks cs xs m ls buffer .contents))
+      ≡ got (lentScene c n ks cs xs m ls) (writtenScene c n ks cs xs m ls buffer .size)
   written-is-read buffer e =
       let a = written-accepted c n ks cs xs m ls buffer e in
       rw (a .size, a .record-there) (lent-read (passed c n ks cs xs m ls (a .parts)))

@@ -1,4 +1,5 @@
--- 02, T-01: what is refused of a scene's parts that are lent as numbers, and what writing them leaves in a lent buffer. Definitions only. Assumes nothing.
+-- 02, T-01: what is refused of a scene's parts that are lent as numbers, and what writing them leaves in a lent buffer.
+-- Definitions only. Assumes nothing.
 use Prim.Native.Nat.{ℕ, zero, suc, _*_}
 use mathlib.Core.List.{List, _++_}
 use lib.Dec.{leb}
@@ -68,7 +69,8 @@ lentBytes c ks cs xs ls = recordBytes c (lentObstacles ks cs xs) (linesOf ls)
 
 -- the scene whose parts are those lent, zeros behind the counts
 abbrev pub lentScene : Cart → ℕ → List ℕ → List ℕ → List Float → ℕ → List Float → Scene
-lentScene c n ks cs xs m ls = sceneWith c n (walls (sets blankBytes 0 ks) (sets blankBytes 0 cs) (sets blankVertices 0 xs)) m (sets blankNumbers 0 ls)
+lentScene c n ks cs xs m ls = sceneWith c n (walls (sets blankBytes 0 ks) (sets blankBytes 0 cs)
+    (sets blankVertices 0 xs)) m (sets blankNumbers 0 ls)
 
 -- and back: a scene's parts, lent up to its counts
 abbrev pub kindsIn : Scene → List ℕ
@@ -97,10 +99,12 @@ abbrev pub writtenOf : SceneWritten → List ℕ → Written
 writtenOf (scene-written.Length n) l = written fine n l
 writtenOf (scene-written.Refused r) l = written (fault r) 0 l
 
--- the parts' fault, "then 10, which here means a buffer shorter than the record"; without one the record stands at the buffer's start, and behind it what stood there
+-- the parts' fault, "then 10, which here means a buffer shorter than the record"; without one the record stands at the
+-- buffer's start, and behind it what stood there
 unfoldable pub laidScene : Fault → List ℕ → List ℕ → Written
 laidScene f bytes buffer =
-    unlessFault (λ r. written (fault r) 0 buffer) (f ⊳ must (leb (length bytes) (length buffer)) 10) (written fine (length bytes) (bytes ++ drop (length bytes) buffer))
+    unlessFault (λ r. written (fault r) 0 buffer) (f ⊳ must (leb (length bytes) (length buffer)) 10)
+    (written fine (length bytes) (bytes ++ drop (length bytes) buffer))
 
 unfoldable pub writtenScene : Cart → ℕ → List ℕ → List ℕ → List Float → ℕ → List Float → List ℕ → Written
 writtenScene c n ks cs xs m ls buffer = laidScene (partsFault c n ks cs xs m ls) (lentBytes c ks cs xs ls) buffer

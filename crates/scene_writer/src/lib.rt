@@ -12,10 +12,11 @@ ghost use Rattle.scene_writer.specs.Writing.{partsFault, restFault, writ
 mod judge;
 mod put;
 
-// Writes a scene's record to the buffer's start; bytes behind it keep their contents. Refused, in this order, and then nothing is written: a number of the cart
-// not finite or out of range (6); the obstacles as `layouts::judge_layout` tells them (4, 2, 3, 5, 6, 14); more than 64 neighbour lines (4); for each line each
-// number not lent (2), not finite or out of range (6), then a direction out of its band (7); more kinds, counts, vertices or lines lent than the counts say
-// (2); a buffer shorter than the record (10).
+// Writes a scene's record to the buffer's start; bytes behind it keep their contents. Refused, in this order, and then
+// nothing is written: a number of the cart not finite or out of range (6); the obstacles as `layouts::judge_layout`
+// tells them (4, 2, 3, 5, 6, 14); more than 64 neighbour lines (4); for each line each number not lent (2), not finite
+// or out of range (6), then a direction out of its band (7); more kinds, counts, vertices or lines lent than the counts
+// say (2); a buffer shorter than the record (10).
 pub fn write_scene(
     cart: Cart,
     obstacles: usize,
@@ -26,7 +27,9 @@ pub fn write_scene(
     lines: &[f32],
     buffer: &mut [u8],
 ) -> SceneWritten
-    ensures { λ r. ⌜ writtenOf r (now (buffer .exit)) ≡ writtenScene cart obstacles (now (kinds .entry)) (now (counts .entry)) (now (vertices .entry)) neighbours (now (lines .entry)) (now (buffer .entry)) ⌝ }
+    ensures { λ r. ⌜ writtenOf r (now (buffer .exit))
+        ≡ writtenScene cart obstacles (now (kinds .entry)) (now (counts .entry)) (now (vertices .entry)) neighbours
+        (now (lines .entry)) (now (buffer .entry)) ⌝ }
 {
     let judged = judge_parts(cart, obstacles, kinds, counts, vertices, neighbours, lines);
     if let Judged::Fault(number) = judged {
@@ -67,7 +70,8 @@ fn judge_parts(
     neighbours: usize,
     lines: &[f32],
 ) -> Judged
-    ensures { λ r. ⌜ faultOf r ≡ partsFault cart obstacles (now (kinds .entry)) (now (counts .entry)) (now (vertices .entry)) neighbours (now (lines .entry)) ⌝ }
+    ensures { λ r. ⌜ faultOf r ≡ partsFault cart obstacles (now (kinds .entry)) (now (counts .entry))
+        (now (vertices .entry)) neighbours (now (lines .entry)) ⌝ }
 {
     let judged = judge::judge_cart(cart);
     let Judged::Fine = judged else {
@@ -92,7 +96,8 @@ fn judge_rest(
     neighbours: usize,
     lines: &[f32],
 ) -> Judged
-    ensures { λ r. ⌜ faultOf r ≡ restFault obstacles total (now (kinds .entry)) (now (counts .entry)) (now (vertices .entry)) neighbours (now (lines .entry)) ⌝ }
+    ensures { λ r. ⌜ faultOf r ≡ restFault obstacles total (now (kinds .entry)) (now (counts .entry))
+        (now (vertices .entry)) neighbours (now (lines .entry)) ⌝ }
 {
     let judged = judge::judge_neighbours(neighbours, lines);
     let Judged::Fine = judged else {

@@ -57,7 +57,8 @@ fn put_cart(buffer: &mut [u8], cart: Cart)
 // As many numbers as n, from a place of the numbers lent to a place of the buffer.
 fn put_numbers(buffer: &mut [u8], at: usize, numbers: &[f32], from: usize, n: usize)
     requires { ⌜ (at + 4 * n ≤ length (now buffer)) × (from + n ≤ length (now numbers)) ⌝ }
-    ensures { λ _. ⌜ now (buffer .exit) ≡ sets (now (buffer .entry)) at (each numberBytes (take n (drop from (now (numbers .entry))))) ⌝ }
+    ensures { λ _. ⌜ now (buffer .exit)
+        ≡ sets (now (buffer .entry)) at (each numberBytes (take n (drop from (now (numbers .entry))))) ⌝ }
 {
     let mut k = 0usize;
     while k < n {
@@ -76,7 +77,9 @@ fn put_obstacle(
     start: usize,
 )
     requires { ⌜ (at + 2 + 8 * count ≤ length (now buffer)) × (2 * (start + count) ≤ length (now vertices)) ⌝ }
-    ensures { λ _. ⌜ now (buffer .exit) ≡ sets (now (buffer .entry)) at (obstacleBytes (obstacleFrom kind count (drop (2 * start) (now (vertices .entry))))) ⌝ }
+    ensures { λ _. ⌜ now (buffer .exit)
+        ≡ sets (now (buffer .entry)) at (obstacleBytes
+        (obstacleFrom kind count (drop (2 * start) (now (vertices .entry))))) ⌝ }
 {
     put_byte(buffer, at, wide(kind));
     put_byte(buffer, at + 1, count);
@@ -85,8 +88,12 @@ fn put_obstacle(
 
 // The obstacles, behind their count: kind, vertex count and vertices of each.
 fn put_obstacles(buffer: &mut [u8], obstacles: usize, kinds: &[u8], counts: &[u8], vertices: &[f32])
-    requires { ⌜ (obstacles ≤ 16) × (length (now kinds) ≡ obstacles) × (length (now counts) ≡ obstacles) × (length (now vertices) ≡ 2 * vertexTotal obstacles (now counts)) × (length (now vertices) ≤ 384) × (40 + 2 * obstacles + 4 * length (now vertices) ≤ length (now buffer)) ⌝ }
-    ensures { λ _. ⌜ now (buffer .exit) ≡ sets (now (buffer .entry)) 40 (each obstacleBytes (lentObstacles (now (kinds .entry)) (now (counts .entry)) (now (vertices .entry)))) ⌝ }
+    requires { ⌜ (obstacles ≤ 16) × (length (now kinds) ≡ obstacles) × (length (now counts) ≡ obstacles)
+        × (length (now vertices) ≡ 2 * vertexTotal obstacles (now counts)) × (length (now vertices) ≤ 384)
+        × (40 + 2 * obstacles + 4 * length (now vertices) ≤ length (now buffer)) ⌝ }
+    ensures { λ _. ⌜ now (buffer .exit)
+        ≡ sets (now (buffer .entry)) 40 (each obstacleBytes (lentObstacles (now (kinds .entry)) (now (counts .entry))
+        (now (vertices .entry)))) ⌝ }
 {
     let mut total = 0usize;
     let mut i = 0usize;
@@ -116,8 +123,13 @@ pub(crate) fn put_scene(
     neighbours: usize,
     lines: &[f32],
 )
-    requires { ⌜ (length (now kinds) ≡ obstacles) × (length (now counts) ≡ obstacles) × (length (now vertices) ≡ 2 * vertexTotal obstacles (now counts)) × (length (now lines) ≡ 4 * neighbours) × (obstacles ≤ 16) × (neighbours ≤ 64) × (length (now vertices) ≤ 384) × (41 + 2 * obstacles + 4 * length (now vertices) + 4 * length (now lines) ≤ length (now buffer)) ⌝ }
-    ensures { λ _. ⌜ now (buffer .exit) ≡ sets (now (buffer .entry)) 0 (recordBytes cart (lentObstacles (now (kinds .entry)) (now (counts .entry)) (now (vertices .entry))) (linesOf (now (lines .entry)))) ⌝ }
+    requires { ⌜ (length (now kinds) ≡ obstacles) × (length (now counts) ≡ obstacles)
+        × (length (now vertices) ≡ 2 * vertexTotal obstacles (now counts)) × (length (now lines) ≡ 4 * neighbours)
+        × (obstacles ≤ 16) × (neighbours ≤ 64) × (length (now vertices) ≤ 384)
+        × (41 + 2 * obstacles + 4 * length (now vertices) + 4 * length (now lines) ≤ length (now buffer)) ⌝ }
+    ensures { λ _. ⌜ now (buffer .exit)
+        ≡ sets (now (buffer .entry)) 0 (recordBytes cart (lentObstacles (now (kinds .entry)) (now (counts .entry))
+        (now (vertices .entry))) (linesOf (now (lines .entry)))) ⌝ }
 {
     let at = 40 + 2 * obstacles + 4 * vertices.len();
     words::put_pair(buffer, 0, (at - 1 + 4 * lines.len()) as u16);

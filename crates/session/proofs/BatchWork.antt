@@ -1,4 +1,5 @@
--- What the code of a batch rests on: where the lines come to stand, that a batch without a fault fits, and that the solve over all lines is the session's. Assumes nothing.
+-- What the code of a batch rests on: where the lines come to stand, that a batch without a fault fits, and that the
+-- solve over all lines is the session's. Assumes nothing.
 use Prim.Native.Nat.{ℕ, _+_, _/_, _≤_}
 use mathlib.Core.Path.{_≡_, refl, sym, _∙_, ap}
 use mathlib.Core.Bool.{true}
@@ -38,7 +39,8 @@ module _ {A : Type 0} (l m : List A) (n k : ℕ) (long : length m ≡ k) (fits :
   take-stored = rw parts (take-at (take n l ++ m) (drop (n + k) l) (n + k) whole)
 
   pub drop-stored : (b : List A) → drop n l ≡ drop n b → drop (n + k) (sets l n m) ≡ drop (n + k) b
-  drop-stored b e = rw parts (drop-at (take n l ++ m) (drop (n + k) l) (n + k) whole ∙ sym (drop-drop k n l) ∙ ap (drop k) e ∙ drop-drop k n b)
+  drop-stored b e = rw parts (drop-at (take n l ++ m) (drop (n + k) l) (n + k) whole ∙ sym (drop-drop k n l)
+      ∙ ap (drop k) e ∙ drop-drop k n b)
 
 -- a batch without a fault fits, and so do its origins
 pub record Fitting (n : ℕ) (xs : List Float) (os : List ℕ) : Type 0 where
@@ -53,27 +55,39 @@ batch-fits n xs os h =
     let b = ⊳-fine (fours xs) (a .1) in
     let c = ⊳-fine (originsFault (length (linesOf xs)) os) (b .1) in
     let d = ⊳-fine (must (leb (n + length (linesOf xs)) mostLines) 4) (c .1) in
-    record { whole-lines = b .0; theirs = c .0; room = leb-true _ _ (must-fine (leb (n + length (linesOf xs)) mostLines) 4 (d .0)) }
+    record {
+      whole-lines = b .0;
+      theirs = c .0;
+      room = leb-true _ _ (must-fine (leb (n + length (linesOf xs)) mostLines) 4 (d .0));
+    }
 
 -- as the code counts lines
-pub batch-counts : (n : ℕ) (xs : List Float) (os : List ℕ) → fine ≡ batchFault n xs os → (n + length xs / 4 ≤ mostLines) × (fitting (length os) (length xs / 4) ≡ true)
+pub batch-counts : (n : ℕ) (xs : List Float) (os : List ℕ) → fine ≡ batchFault n xs os → (n + length xs / 4 ≤ mostLines)
+    × (fitting (length os) (length xs / 4) ≡ true)
 batch-counts n xs os h =
     let f = batch-fits n xs os (sym h) in
     rw (← lines-long xs) (f .room, must-fine (fitting (length os) (length (linesOf xs))) 2 (f .theirs))
 
-module _ (s : Session) (xs : List Float) (os : List ℕ) (size : length (s .lines) ≡ mostLines) (fits : s .count + length xs / 4 ≤ mostLines) where
+module _ (s : Session) (xs : List Float) (os : List ℕ) (size : length (s .lines)
+    ≡ mostLines) (fits : s .count + length xs / 4 ≤ mostLines) where
   -- all lines, from the first new one on
-  all-lines : resumedCall (s .rigid) (s .wish) (s .limit) (sets (s .lines) (s .count) (linesOf xs)) (s .count + length (linesOf xs)) (s .count) (phaseOf (s .phase)) (failedOf (s .failed)) ≡ worked s (linesOf xs)
+  all-lines : resumedCall (s .rigid) (s .wish) (s .limit) (sets (s .lines) (s .count) (linesOf xs))
+      (s .count + length (linesOf xs)) (s .count) (phaseOf (s .phase)) (failedOf (s .failed)) ≡ worked s (linesOf xs)
   unfolding resumedCall worked
   all-lines =
       let n : length (linesOf xs) ≡ length xs / 4 = lines-long xs in
-      rw (le-leb (s .count + length (linesOf xs)) mostLines (omega arith), take-stored (s .lines) (linesOf xs) (s .count) (length (linesOf xs)) refl (omega arith))
+      rw (
+        le-leb (s .count + length (linesOf xs)) mostLines (omega arith),
+        take-stored (s .lines) (linesOf xs) (s .count) (length (linesOf xs)) refl (omega arith),
+      )
 
-  pub worked-right : (lines : List Line) (origins : List Origin) (n : ℕ) (o : Outcome) → lines ≡ sets (s .lines) (s .count) (linesOf xs) →
+  pub worked-right : (lines : List Line) (origins : List Origin) (n : ℕ) (o : Outcome) →
+      lines ≡ sets (s .lines) (s .count) (linesOf xs) →
       origins ≡ sets (s .origins) (s .count) (originsFor (length xs / 4) os) → n ≡ s .count + length xs / 4 →
       o ≡ resumedCall (s .rigid) (s .wish) (s .limit) lines n (s .count) (phaseOf (s .phase)) (failedOf (s .failed)) →
       settledOn s lines origins n o ≡ settled s (linesOf xs) os (worked s (linesOf xs))
   worked-right lines origins n o e g k h =
       let m : n ≡ s .count + length (linesOf xs) = k ∙ ap (λ (i : ℕ). s .count + i) (sym (lines-long xs)) in
-      let p : origins ≡ sets (s .origins) (s .count) (originsFor (length (linesOf xs)) os) = g ∙ ap (λ (i : ℕ). sets (s .origins) (s .count) (originsFor i os)) (sym (lines-long xs)) in
+      let p : origins ≡ sets (s .origins) (s .count) (originsFor (length (linesOf xs)) os) = g
+      ∙ ap (λ (i : ℕ). sets (s .origins) (s .count) (originsFor i os)) (sym (lines-long xs)) in
       rw (h, e, p, m, all-lines)

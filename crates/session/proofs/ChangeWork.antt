@@ -33,7 +33,12 @@ module _ (count low : ℕ) (is : List ℕ) (k : ℕ) where
   pub ascending-on : k < length is → low ≤ getD is k 0 → getD is k 0 < count →
       ascendingFault count low (drop k is) ≡ ascendingFault count (getD is k 0 + 1) (drop (k + 1) is)
   unfolding ascendingFault
-  ascending-on h above below = rw (drop-cons is k 0 h, le-leb low (getD is k 0) above, lt-ltb (getD is k 0) count below, add-one k) refl
+  ascending-on h above below = rw (
+    drop-cons is k 0 h,
+    le-leb low (getD is k 0) above,
+    lt-ltb (getD is k 0) count below,
+    add-one k,
+  ) refl
 
   pub ascending-low : k < length is → getD is k 0 < low → ascendingFault count low (drop k is) ≡ fault 15
   unfolding ascendingFault
@@ -49,7 +54,8 @@ module _ (count low : ℕ) (is : List ℕ) (k : ℕ) where
 
 -- ---- indices below the rigid count
 
-pub below-on : (rigid : ℕ) (is : List ℕ) (k : ℕ) → k < length is → belowIn rigid (drop k is) ≡ (if ltb (getD is k 0) rigid then 1 else 0) + belowIn rigid (drop (k + 1) is)
+pub below-on : (rigid : ℕ) (is : List ℕ) (k : ℕ) → k < length is → belowIn rigid (drop k is)
+    ≡ (if ltb (getD is k 0) rigid then 1 else 0) + belowIn rigid (drop (k + 1) is)
 unfolding belowIn
 below-on rigid is k h = rw (drop-cons is k 0 h, add-one k) refl
 
@@ -84,10 +90,12 @@ module _ (kind place : ℕ) (os : List Origin) (count i : ℕ) (size : count ≤
   found-done h = rw (left-none os count i size h)
 
   -- one origin more, and none left, of those that are looked for
-  pub found-next : i < count → {w : Bool} → w ≡ isOf kind place (getD os i unknown) → (all p q : List ℕ) → all ≡ p ++ indicesFrom kind place i (drop i (take count os)) →
+  pub found-next : i < count → {w : Bool} → w ≡ isOf kind place (getD os i unknown) → (all p q : List ℕ) →
+      all ≡ p ++ indicesFrom kind place i (drop i (take count os)) →
       q ≡ p ++ indexIf w i → all ≡ q ++ indicesFrom kind place (i + 1) (drop (i + 1) (take count os))
   found-next h {w} e all p q g f =
-      g ∙ rw (found-on h, f, e) (sym (append-assoc p (indexIf (isOf kind place (getD os i unknown)) i) (indicesFrom kind place (i + 1) (drop (i + 1) (take count os)))))
+      g ∙ rw (found-on h, f, e) (sym (append-assoc p (indexIf (isOf kind place (getD os i unknown)) i)
+      (indicesFrom kind place (i + 1) (drop (i + 1) (take count os)))))
 
   pub found-all : count ≤ i → (all p : List ℕ) → all ≡ p ++ indicesFrom kind place i (drop i (take count os)) → p ≡ all
   found-all h all p g = sym (g ∙ rw (found-done h) (append-nil p))
@@ -104,7 +112,8 @@ not-noted l n i = sym (append-nil (take n l))
 
 -- no more indices than lines, and what is left of these are all but as many
 module _ {A : Type 0} where
-  without-all-few : (is : List ℕ) (low n : ℕ) (l : List A) → ascendingFault n low is ≡ fine → low ≤ n → length l ≤ n → (low + length is ≤ n) × (length (withoutAll is l) ≤ n - length is)
+  without-all-few : (is : List ℕ) (low n : ℕ) (l : List A) → ascendingFault n low is ≡ fine → low ≤ n → length l ≤ n →
+      (low + length is ≤ n) × (length (withoutAll is l) ≤ n - length is)
   unfolding ascendingFault withoutAll
   without-all-few [] low n l e h m = (omega arith, omega arith)
   without-all-few (i ∷ is) low n l e h m =
@@ -112,8 +121,11 @@ module _ {A : Type 0} where
       let b = ⊳-fine (must (ltb i n) 15) (a .1) in
       let above = leb-true low i (must-fine (leb low i) 15 (a .0)) in
       let below = ltb-true i n (must-fine (ltb i n) 15 (b .0)) in
-      let rest = without-all-few is (i + 1) n l (b .1) (omega arith) m in
-      (omega (arith, rest .0), rw (omega-eq n (length is)) (without-few i (n - length is) (withoutAll is l) (omega (arith, rest .0)) (rest .1)))
+      let rest = without-all-few is (i + 1) n l (b .1) (omega arith) m in (
+        omega (arith, rest .0),
+        rw (omega-eq n (length is)) (without-few i (n - length is) (withoutAll is l)
+            (omega (arith, rest .0)) (rest .1)),
+      )
     where
       omega-eq : (n m : ℕ) → n - suc m ≡ n - m - 1
       omega-eq n m = omega arith
@@ -123,24 +135,37 @@ pub change-fits : (count : ℕ) (is : List ℕ) → fine ≡ changeFault count i
 unfolding changeFault
 change-fits count is e =
     let a = ⊳-fine (must (leb count mostLines) 4) (sym e) in
-    let none : List ℕ = [] in
-    (omega (arith, without-all-few is 0 count none (a .1) (omega arith) (omega arith) .0), leb-true count mostLines (must-fine (leb count mostLines) 4 (a .0)))
+    let none : List ℕ = [] in (
+      omega (arith, without-all-few is 0 count none (a .1) (omega arith) (omega arith) .0),
+      leb-true count mostLines (must-fine (leb count mostLines) 4 (a .0)),
+    )
 
-left-all : {A : Type 0} (l : List A) (count : ℕ) (is : List ℕ) → fine ≡ changeFault count is → leftOf is count l ≡ withoutAll is (take count l)
+left-all : {A : Type 0} (l : List A) (count : ℕ) (is : List ℕ) → fine ≡ changeFault count is →
+    leftOf is count l ≡ withoutAll is (take count l)
 unfolding changeFault
 left-all l count is e =
     let a = ⊳-fine (must (leb count mostLines) 4) (sym e) in
-    take-all (count - length is) (withoutAll is (take count l)) (without-all-few is 0 count (take count l) (a .1) (omega arith) (taken-most count l (omega arith)) .1)
+    take-all (count - length is) (withoutAll is (take count l)) (without-all-few is 0 count (take count l) (a .1)
+    (omega arith) (taken-most count l (omega arith)) .1)
 
 module _ (s : Session) (is : List ℕ) (xs : List Float) (os : List ℕ) where
-  pub change-refused : {r : ℕ} → fault r ≡ changeFault (s .count) is → {j : Judged} → j ≡ judged.Fault r → record { judged = j; session = s } ≡ changedAs s is xs os
+  pub change-refused : {r : ℕ} → fault r ≡ changeFault (s .count) is → {j : Judged} → j ≡ judged.Fault r →
+      record { judged = j; session = s } ≡ changedAs s is xs os
   unfolding changedAs
   change-refused e j = rw (← e, j)
 
   pub changed-right : fine ≡ changeFault (s .count) is → {rigid : ℕ} {t u r : Fed} → rigid ≡ loweredBy is (s .rigid) →
-      t ≡ freshAs (s .wish) (s .limit) rigid (leftOf is (s .count) (s .lines)) (leftOf is (s .count) (s .origins)) → u ≡ thenFed t xs os → r ≡ orGiven s u → r ≡ changedAs s is xs os
+      t ≡ freshAs (s .wish) (s .limit) rigid (leftOf is (s .count) (s .lines)) (leftOf is (s .count) (s .origins)) →
+      u ≡ thenFed t xs os → r ≡ orGiven s u → r ≡ changedAs s is xs os
   unfolding changedAs
-  changed-right e l h f k = rw (← e, ← l, ← left-all (s .lines) (s .count) is e, ← left-all (s .origins) (s .count) is e, ← h, ← f) k
+  changed-right e l h f k = rw (
+    ← e,
+    ← l,
+    ← left-all (s .lines) (s .count) is e,
+    ← left-all (s .origins) (s .count) is e,
+    ← h,
+    ← f,
+  ) k
 
 -- a change of a session of more than 256 lines, whatever is named
 pub origin-over : (s : Session) (kind place : ℕ) (xs : List Float) (os : List ℕ) → mostLines < s .count →
@@ -149,7 +174,8 @@ unfolding originChangedAs changedAs changeFault
 origin-over s kind place xs os h = rw (lt-leb (s .count) mostLines h)
 
 -- a change of the lines that were found
-pub origin-right : (s : Session) (kind place : ℕ) (xs : List Float) (os : List ℕ) (b : List ℕ) (n m : ℕ) → m ≡ n → take n b ≡ indicesOf s kind place → n ≤ length b →
+pub origin-right : (s : Session) (kind place : ℕ) (xs : List Float) (os : List ℕ) (b : List ℕ) (n m : ℕ) → m ≡ n →
+    take n b ≡ indicesOf s kind place → n ≤ length b →
     {f : Fed} {r : Changed} → f ≡ changedAs s (take m b) xs os → r ≡ withdrawing n f → r ≡ originChangedAs s kind place xs os
 unfolding originChangedAs
 origin-right s kind place xs os b n m e g h f k =

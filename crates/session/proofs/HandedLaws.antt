@@ -1,4 +1,5 @@
--- A batch hands a session on: what it tells is what the single call over all lines tells, and a refused batch leaves it as it was. Assumes nothing.
+-- A batch hands a session on: what it tells is what the single call over all lines tells, and a refused batch leaves it
+-- as it was. Assumes nothing.
 use Prim.Native.Nat.{ℕ, _+_, _%_, _^_, _≤_}
 use mathlib.Core.Path.{_≡_, refl, sym, _∙_, ap}
 use mathlib.Core.Bool.{true}
@@ -43,7 +44,8 @@ module _ (s : Session) (h : Handed s) where
   pub fault-free : FaultFree
   unfolding judgedList
   fault-free =
-      let passed = ⟫-stands (must (leb (length (linesIn s)) mostLines) 4 ⊳ wishFault (s .wish) (s .limit) ⊳ linesFault (linesIn s)) (h .stand) in
+      let passed = ⟫-stands (must (leb (length (linesIn s)) mostLines) 4 ⊳ wishFault (s .wish) (s .limit) ⊳ linesFault
+      (linesIn s)) (h .stand) in
       let few = ⊳-fine (must (leb (length (linesIn s)) mostLines) 4) (passed .0) in
       let faults = ⊳-fine (wishFault (s .wish) (s .limit)) (few .1) in
       record { wished = faults .0; lined = faults .1; stood = passed .1 }
@@ -59,14 +61,22 @@ module _ (s : Session) (h : Handed s) where
   all-judged xs os =
       let theirs = originsFault (length (linesOf xs)) os in
       let rest = must (leb (s .count + length (linesOf xs)) mostLines) 4 ⊳ linesFault (linesOf xs) in
-      rw (length-append (linesIn s) (linesOf xs), faults-append, fault-free .wished, fault-free .lined, count-is, le-leb (s .count) mostLines (h .fits))
+      rw (
+        length-append (linesIn s) (linesOf xs),
+        faults-append,
+        fault-free .wished,
+        fault-free .lined,
+        count-is,
+        le-leb (s .count) mostLines (h .fits),
+      )
       (sym (⟫-assoc (fours xs) (theirs ⊳ rest) _ ∙ ap (λ (o : Outcome). fours xs ⟫ o) (⟫-assoc theirs rest _)))
 
   -- the solve over the new lines, the probes before added, is the whole-list rules over all lines
   solved-on : (m : List Line) → addProbes (s .probes) (worked s m) ≡ wholeList (s .rigid) (s .wish) (s .limit) (linesIn s ++ m)
   unfolding worked
   solved-on m =
-      ap (λ (k : ℕ). addProbes (s .probes) (resumed (s .rigid) (s .wish) (s .limit) (linesIn s ++ m) k (phaseOf (s .phase)) (failedOf (s .failed)))) (sym count-is)
+      ap (λ (k : ℕ). addProbes (s .probes) (resumed (s .rigid) (s .wish) (s .limit) (linesIn s ++ m) k
+      (phaseOf (s .phase)) (failedOf (s .failed)))) (sym count-is)
       ∙ resumed-whole (s .rigid) (s .wish) (s .limit) (linesIn s) m (fault-free .stood)
 
   module _ (m : List Line) (os : List ℕ) (room : s .count + length m ≤ mostLines) where
@@ -76,7 +86,8 @@ module _ (s : Session) (h : Handed s) where
     -- no total comes round
     total : (ph : Phase) (f : Failed) (n : ℕ) → worked s m ≡ stands ph f n → (s .probes + n) % 2 ^ 32 ≡ s .probes + n
     total ph f n e =
-        let w : wholeList (s .rigid) (s .wish) (s .limit) (linesIn s ++ m) ≡ stands ph f (s .probes + n) = sym (solved-on m) ∙ ap (addProbes (s .probes)) e in
+        let w : wholeList (s .rigid) (s .wish) (s .limit) (linesIn s ++ m) ≡ stands ph f (s .probes + n) =
+        sym (solved-on m) ∙ ap (addProbes (s .probes)) e in
         mod-eq-of-lt (omega (arith, whole-fits (s .rigid) (s .wish) (s .limit) (linesIn s ++ m) all-few w))
 
     settled-tells : (o : Outcome) → worked s m ≡ o → toldBy (settled s m os o) ≡ addProbes (s .probes) o
@@ -95,10 +106,12 @@ module _ (s : Session) (h : Handed s) where
       own = originsFor (length m) os
 
       origins-on : take (s .count + length m) (sets (s .origins) (s .count) own) ≡ originsIn s ++ own
-      origins-on = take-stored (s .origins) own (s .count) (length m) (origins-many (length m) os theirs) (omega (arith, h .origins-size))
+      origins-on = take-stored (s .origins) own (s .count) (length m) (origins-many (length m) os theirs)
+          (omega (arith, h .origins-size))
 
       origins-blank : drop (s .count + length m) (sets (s .origins) (s .count) own) ≡ drop (s .count + length m) blankOrigins
-      origins-blank = drop-stored (s .origins) own (s .count) (length m) (origins-many (length m) os theirs) (omega (arith, h .origins-size)) blankOrigins (h .blank-origins)
+      origins-blank = drop-stored (s .origins) own (s .count) (length m) (origins-many (length m) os theirs)
+          (omega (arith, h .origins-size)) blankOrigins (h .blank-origins)
 
   -- ---- a batch hands the session on
 
@@ -113,7 +126,8 @@ module _ (s : Session) (h : Handed s) where
     abbrev all-told : Outcome
     all-told = fours xs ⟫ (originsFault (length L) os ⟫ judgedList (s .rigid) (s .wish) (s .limit) after)
 
-    whole-told : batchFault (s .count) xs os ≡ fine → judgedList (s .rigid) (s .wish) (s .limit) after ≡ addProbes (s .probes) (worked s L)
+    whole-told : batchFault (s .count) xs os ≡ fine → judgedList (s .rigid) (s .wish) (s .limit) after
+        ≡ addProbes (s .probes) (worked s L)
     whole-told e =
         let f = batch-fits (s .count) xs os e in
         (rw (f .whole-lines, f .theirs, e) at (all-judged xs os)) ∙ sym (solved-on L)
@@ -134,7 +148,8 @@ module _ (s : Session) (h : Handed s) where
         let fitted = batch-fits (s .count) xs os e in
         let room = fitted .room in
         let theirs = must-fine (fitting (length os) (length L)) 2 (fitted .theirs) in
-        let whole : judgedList (s .rigid) (s .wish) (s .limit) after ≡ stands ph f (s .probes + n) = whole-told e ∙ ap (addProbes (s .probes)) w in
+        let whole : judgedList (s .rigid) (s .wish) (s .limit) after ≡ stands ph f (s .probes + n) = whole-told e
+        ∙ ap (addProbes (s .probes)) w in
         record {
           handed = record {
             size = length-sets (s .lines) (s .count) L ∙ h .size;
@@ -160,5 +175,6 @@ module _ (s : Session) (h : Handed s) where
     continues = judged-on (batchFault (s .count) xs os) refl
 
 -- as the contracts of `batch_with_origins` and `batch` say it
-pub continues-by : (s : Session) (xs : List Float) (os : List ℕ) (r : Fed) → r ≡ fedWith s xs os → (r ≡ fedWith s xs os) × (Handed s → ContinuesWith s xs os r)
+pub continues-by : (s : Session) (xs : List Float) (os : List ℕ) (r : Fed) → r ≡ fedWith s xs os → (r ≡ fedWith s xs os)
+    × (Handed s → ContinuesWith s xs os r)
 continues-by s xs os r e = (e, λ h. rw e (continues s h xs os))

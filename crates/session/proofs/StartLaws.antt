@@ -1,4 +1,5 @@
--- A start hands a session out, the blank one beside a refusal too, and tells what the single call over no lines tells. Assumes nothing.
+-- A start hands a session out, the blank one beside a refusal too, and tells what the single call over no lines tells.
+-- Assumes nothing.
 use Prim.Native.Nat.{ℕ}
 use mathlib.Core.Path.{_≡_, refl, sym}
 use mathlib.Core.List.{[]}
@@ -33,9 +34,17 @@ nothing-wished = refl
 
 blank-handed : Handed blankSession
 unfolding blankSession
-blank-handed = record { size = blank-size; origins-size = blank-origins-size; fits = omega arith; blank = refl; blank-origins = refl; stand = nothing-wished }
+blank-handed = record {
+  size = blank-size;
+  origins-size = blank-origins-size;
+  fits = omega arith;
+  blank = refl;
+  blank-origins = refl;
+  stand = nothing-wished;
+}
 
-begun : (wish : Vec2) (limit : Float) (rigid : ℕ) (o : Outcome) → listCall rigid wish limit [] ≡ o → Begins wish limit rigid (startedBy wish limit rigid o)
+begun : (wish : Vec2) (limit : Float) (rigid : ℕ) (o : Outcome) → listCall rigid wish limit [] ≡ o →
+    Begins wish limit rigid (startedBy wish limit rigid o)
 unfolding listCall linesOf
 begun wish limit rigid (stands ph f n) e = record {
   handed = record {
@@ -55,5 +64,6 @@ unfolding startedAs
 begins wish limit rigid = begun wish limit rigid (listCall rigid wish limit []) refl
 
 -- as the contract of `start` says it
-pub begins-by : (wish : Vec2) (limit : Float) (rigid : ℕ) (r : Fed) → r ≡ startedAs wish limit rigid → (r ≡ startedAs wish limit rigid) × Begins wish limit rigid r
+pub begins-by : (wish : Vec2) (limit : Float) (rigid : ℕ) (r : Fed) → r ≡ startedAs wish limit rigid →
+    (r ≡ startedAs wish limit rigid) × Begins wish limit rigid r
 begins-by wish limit rigid r e = (e, rw e (begins wish limit rigid))

@@ -1,4 +1,5 @@
--- A loop that stores a list behind the first n places: one element more, and no element left; and the origins that it stores. Assumes nothing.
+-- A loop that stores a list behind the first n places: one element more, and no element left; and the origins that it
+-- stores. Assumes nothing.
 use Prim.Native.Nat.{ℕ, suc, _+_, _*_, _/_, _%_, _≤_, _<_}
 use mathlib.Core.Path.{_≡_, refl, sym, _∙_}
 use mathlib.Core.Bool.{Bool, true, false, false≢true}
@@ -14,7 +15,8 @@ use Rattle.lines.proofs.OriginRows.{origins-long}
 use Rattle.session.specs.Batches.{originsFor, fitting}
 
 module _ {A : Type 0} (l m : List A) (n i : ℕ) where
-  pub store-on : (d x : A) → i < length m → x ≡ getD m i d → sets l (n + i) (drop i m) ≡ sets (set l (n + i) x) (n + (i + 1)) (drop (i + 1) m)
+  pub store-on : (d x : A) → i < length m → x ≡ getD m i d → sets l (n + i) (drop i m)
+      ≡ sets (set l (n + i) x) (n + (i + 1)) (drop (i + 1) m)
   store-on d x h e =
       let k : n + (i + 1) ≡ suc (n + i) = omega arith in
       rw (drop-cons m i d h, e, k, add-one)

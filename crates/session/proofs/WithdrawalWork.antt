@@ -41,7 +41,8 @@ unfolding sourceOf if_then_else_
 source-above i n h = simp (le-ltb n i h)
 
 -- turn by turn over the indices
-pub source-on : (is : List ℕ) (k n : ℕ) → k < length is → sourceIn (drop k is) n ≡ sourceIn (drop (k + 1) is) (sourceOf (getD is k 0) n)
+pub source-on : (is : List ℕ) (k n : ℕ) → k < length is → sourceIn (drop k is) n
+    ≡ sourceIn (drop (k + 1) is) (sourceOf (getD is k 0) n)
 unfolding sourceIn
 source-on is k n h = rw (drop-cons is k 0 h, add-one) refl
 
@@ -98,12 +99,19 @@ module _ {A : Type 0} where
   left-in (i ∷ is) n l d = left-at i n (withoutAll is l) d ∙ left-in is (sourceOf i n) l d
 
   -- one element more of those that are left
-  module _ (l : List A) (count : ℕ) (is : List ℕ) (n : ℕ) (size : count ≤ length l) (more : n < count - length is) (near : sourceIn is n ≤ n + length is) where
-    pub laid-next : (d x : A) → x ≡ getD l (sourceIn is n) d → take (n + 1) (withoutAll is (take count l)) ≡ take n (withoutAll is (take count l)) ++ (x ∷ [])
+  module _ (l : List A) (count : ℕ) (is : List ℕ) (n : ℕ) (size : count ≤ length l) (more : n < count - length is)
+      (near : sourceIn is n ≤ n + length is) where
+    pub laid-next : (d x : A) → x ≡ getD l (sourceIn is n) d → take (n + 1) (withoutAll is (take count l))
+        ≡ take n (withoutAll is (take count l)) ++ (x ∷ [])
     laid-next d x e =
         let k = length-take-le count l size in
         let h = without-all-most is (take count l) in
-        rw (take-next (withoutAll is (take count l)) n (omega arith) d, left-in is n (take count l) d, getD-take count l (sourceIn is n) d (omega (arith, near)), e)
+        rw (
+          take-next (withoutAll is (take count l)) n (omega arith) d,
+          left-in is n (take count l) d,
+          getD-take count l (sourceIn is n) d (omega (arith, near)),
+          e,
+        )
 
   -- an index that is below a bound of the list's length
   pub without-few : (i n : ℕ) (l : List A) → i < n → length l ≤ n → length (without i l) ≤ n - 1
@@ -115,7 +123,8 @@ module _ {A : Type 0} where
   -- one index below the count leaves all but one
   pub left-one : (l : List A) (count i : ℕ) → i < count → leftOf (i ∷ []) count l ≡ without i (take count l)
   unfolding withoutAll
-  left-one l count i below = take-all (count - 1) (without i (take count l)) (without-few i count (take count l) below (taken-most count l (omega arith)))
+  left-one l count i below = take-all (count - 1) (without i (take count l))
+      (without-few i count (take count l) below (taken-most count l (omega arith)))
 
 -- ---- origins as numbers, there and back
 
@@ -151,7 +160,8 @@ origins-take b (suc n) =
     let e : 3 * suc n ≡ suc (suc (suc (3 * n))) = omega arith in
     rw e (three-more n (λ r. origins-take r n) b)
 
-pub three-set : (b : List ℕ) (i k p q s : ℕ) → k ≡ 3 * i → k + 3 ≤ length b → originsOf (set (set (set b k p) (k + 1) q) (k + 2) s) ≡ set (originsOf b) i (origin p q s)
+pub three-set : (b : List ℕ) (i k p q s : ℕ) → k ≡ 3 * i → k + 3 ≤ length b →
+    originsOf (set (set (set b k p) (k + 1) q) (k + 2) s) ≡ set (originsOf b) i (origin p q s)
 unfolding originsOf
 three-set [] i k p q s e h = absurd (omega arith)
 three-set (x ∷ []) i k p q s e h = absurd (omega arith)
@@ -166,12 +176,14 @@ three-set (x ∷ y ∷ z ∷ r) (suc i) k p q s e h =
 
 -- ---- the numbers that were laid out are those of what is left
 
-pub laid-lines : (b : List Float) (n m : ℕ) (ls : List Line) → m ≡ 4 * n → m ≤ length b → take n (linesOf b) ≡ ls → take m b ≡ numbersOf ls
+pub laid-lines : (b : List Float) (n m : ℕ) (ls : List Line) → m ≡ 4 * n → m ≤ length b → take n (linesOf b) ≡ ls →
+    take m b ≡ numbersOf ls
 laid-lines b n m ls f h e =
     let size : length (take m b) ≡ m = length-take-le m b h in
     sym (numbers-back (take m b) (omega arith)) ∙ ap numbersOf (rw f (lines-take b n) ∙ e)
 
-pub laid-origins : (b : List ℕ) (n m : ℕ) (os : List Origin) → m ≡ 3 * n → m ≤ length b → take n (originsOf b) ≡ os → take m b ≡ threesOf os
+pub laid-origins : (b : List ℕ) (n m : ℕ) (os : List Origin) → m ≡ 3 * n → m ≤ length b → take n (originsOf b) ≡ os →
+    take m b ≡ threesOf os
 laid-origins b n m os f h e =
     let size : length (take m b) ≡ m = length-take-le m b h in
     sym (threes-back (take m b) (omega arith)) ∙ ap threesOf (rw f (origins-take b n) ∙ e)
@@ -186,8 +198,10 @@ module _ (f : Fed) (xs : List Float) (os : List ℕ) where
   fed-then j h = rw j h
 
 -- a start fed the numbers that were laid out is the fresh session over what is left
-pub refilled : (wish : Vec2) (limit : Float) (rigid : ℕ) {f r : Fed} (b : List Float) (m : ℕ) (ls : List Line) (t : List ℕ) (k : ℕ) (os : List Origin) →
-    take m b ≡ numbersOf ls → take k t ≡ threesOf os → f ≡ startedAs wish limit rigid → r ≡ thenFed f (take m b) (take k t) → r ≡ freshAs wish limit rigid ls os
+pub refilled : (wish : Vec2) (limit : Float) (rigid : ℕ) {f r : Fed} (b : List Float) (m : ℕ) (ls : List Line)
+    (t : List ℕ) (k : ℕ) (os : List Origin) →
+    take m b ≡ numbersOf ls → take k t ≡ threesOf os → f ≡ startedAs wish limit rigid →
+    r ≡ thenFed f (take m b) (take k t) → r ≡ freshAs wish limit rigid ls os
 unfolding startedWith
 refilled wish limit rigid b m ls t k os x y e h = rw (← x, ← y, ← e) h
 
@@ -201,12 +215,14 @@ below-count count i e =
     (ltb-true i count (must-fine (ltb i count) 15 (k .1)), leb-true count mostLines (must-fine (leb count mostLines) 4 (k .0)))
 
 module _ (s : Session) (i : ℕ) where
-  pub withdrawal-refused : {r : ℕ} → fault r ≡ withdrawalFault (s .count) i → {j : Judged} → j ≡ judged.Fault r → record { judged = j; session = s } ≡ withdrawnAs s i
+  pub withdrawal-refused : {r : ℕ} → fault r ≡ withdrawalFault (s .count) i → {j : Judged} → j ≡ judged.Fault r →
+      record { judged = j; session = s } ≡ withdrawnAs s i
   unfolding withdrawnAs
   withdrawal-refused e j = rw (← e, j)
 
   pub withdrawn-right : fine ≡ withdrawalFault (s .count) i → {rigid : ℕ} {t r : Fed} → rigid ≡ lowered i (s .rigid) →
-      t ≡ freshAs (s .wish) (s .limit) rigid (leftOf (i ∷ []) (s .count) (s .lines)) (leftOf (i ∷ []) (s .count) (s .origins)) → r ≡ orGiven s t → r ≡ withdrawnAs s i
+      t ≡ freshAs (s .wish) (s .limit) rigid (leftOf (i ∷ []) (s .count) (s .lines))
+      (leftOf (i ∷ []) (s .count) (s .origins)) → r ≡ orGiven s t → r ≡ withdrawnAs s i
   unfolding withdrawnAs
   withdrawn-right e l h k =
       let b = below-count (s .count) i e in

@@ -1,5 +1,5 @@
--- A batch (01, "Refusal numbers": "A batch has the same order without wish, limit and starting point") and the origins that it may bring (02, T-06): what
--- comes back, whole. Definitions only. Assumes nothing.
+-- A batch (01, "Refusal numbers": "A batch has the same order without wish, limit and starting point") and the origins
+-- that it may bring (02, T-06): what comes back, whole. Definitions only. Assumes nothing.
 use Prim.Native.Nat.{ℕ, _+_, _*_, _%_, _^_}
 use mathlib.Core.Bool.{Bool, _||_}
 use mathlib.Core.List.{List, [], _∷_, _++_}
@@ -34,8 +34,8 @@ fitting numbers lines = eqb numbers 0 || eqb numbers (3 * lines)
 abbrev pub originsFault : ℕ → List ℕ → Fault
 originsFault n os = must (fitting (length os) n) 2
 
--- "any other value gets 4 if its count is over 256"; then "four numbers a line, else 2", and their origins "where the lines' own count is judged";
--- "4; lines in order (6, 7)"
+-- "any other value gets 4 if its count is over 256"; then "four numbers a line, else 2", and their origins "where the
+-- lines' own count is judged"; "4; lines in order (6, 7)"
 unfoldable pub batchFault : ℕ → List Float → List ℕ → Fault
 batchFault count xs os =
     must (leb count mostLines) 4
@@ -44,8 +44,8 @@ batchFault count xs os =
     ⊳ must (fitsBehind mostLines count (length (linesOf xs))) 4
     ⊳ linesFault (linesOf xs)
 
--- the lines and origins behind those that stand, as the solve leaves them; or the session as it was. Probes are added modulo 2 ^ 32: only a session that
--- was not handed out can come there
+-- the lines and origins behind those that stand, as the solve leaves them; or the session as it was. Probes are added
+-- modulo 2 ^ 32: only a session that was not handed out can come there
 abbrev pub settledOn : Session → List Line → List Origin → ℕ → Outcome → Fed
 settledOn s lines origins count (stands ph f n) = record {
   judged = judgedAs fine;
@@ -65,11 +65,13 @@ settledOn s lines origins count (refusal r) = record { judged = judgedAs (fault 
 
 abbrev pub settled : Session → List Line → List ℕ → Outcome → Fed
 settled s lines os o =
-    settledOn s (sets (s .lines) (s .count) lines) (sets (s .origins) (s .count) (originsFor (length lines) os)) (s .count + length lines) o
+    settledOn s (sets (s .lines) (s .count) lines) (sets (s .origins) (s .count) (originsFor (length lines) os))
+    (s .count + length lines) o
 
 -- only the new lines are worked, behind the lines that stand; no origin is looked at
 unfoldable pub worked : Session → List Line → Outcome
-worked s lines = resumed (s .rigid) (s .wish) (s .limit) (linesIn s ++ lines) (s .count) (phaseOf (s .phase)) (failedOf (s .failed))
+worked s lines =
+    resumed (s .rigid) (s .wish) (s .limit) (linesIn s ++ lines) (s .count) (phaseOf (s .phase)) (failedOf (s .failed))
 
 -- "A batch may bring origins beside its lines"
 unfoldable pub fedWith : Session → List Float → List ℕ → Fed

@@ -1,4 +1,5 @@
--- Lines taken back and a batch added in one step (docs/changes/change.md): what comes back, whole. Definitions only. Assumes nothing.
+-- Lines taken back and a batch added in one step (docs/changes/change.md): what comes back, whole. Definitions only.
+-- Assumes nothing.
 use Prim.Native.Nat.{ℕ, _+_, _-_}
 use mathlib.Core.Bool.{Bool, _&&_}
 use mathlib.Core.List.{List, [], _∷_, _++_}
@@ -36,7 +37,8 @@ loweredBy is rigid = rigid - belowIn rigid is
 unfoldable pub changedAs : Session → List ℕ → List Float → List ℕ → Fed
 changedAs s is xs os =
     unlessFault (refusedBy s) (changeFault (s .count) is)
-    (orGiven s (thenFed (freshAs (s .wish) (s .limit) (loweredBy is (s .rigid)) (withoutAll is (linesIn s)) (withoutAll is (originsIn s))) xs os))
+    (orGiven s (thenFed (freshAs (s .wish) (s .limit) (loweredBy is (s .rigid)) (withoutAll is (linesIn s))
+    (withoutAll is (originsIn s))) xs os))
 
 -- ---- by origin
 

@@ -1,4 +1,5 @@
--- Lines that a point strictly meets (02, T-13): which line of a batch is the first that it does not. Definitions only. Assumes nothing.
+-- Lines that a point strictly meets (02, T-13): which line of a batch is the first that it does not. Definitions only.
+-- Assumes nothing.
 use Prim.Native.Nat.{ℕ, _+_}
 use mathlib.Core.Bool.{Bool}
 use mathlib.Core.List.{List, [], _∷_}
@@ -18,7 +19,8 @@ use Rattle.session.specs.declared.Unmet.{Unmet}
 use Rattle.session.specs.declared.Unmet.the-variants as unmet
 use Rattle.session.specs.Batches.{batchFault}
 
--- 01, "A line is met if determinant(direction, point now − line point) > 0": the 2D pass's own test. Exactly 0 is not strictly met
+-- 01, "A line is met if determinant(direction, point now − line point) > 0": the 2D pass's own test. Exactly 0 is not
+-- strictly met
 unfoldable pub isMet : Vec2 → Line → Bool
 isMet p l = 0ᶠ <ᶠ determinantOf (l .direction) (subOf p (l .point))
 

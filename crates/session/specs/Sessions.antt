@@ -1,4 +1,5 @@
--- A session, and how one starts (01, "What must change shape"; the order of a line list's faults without lines). Definitions only. Assumes nothing.
+-- A session, and how one starts (01, "What must change shape"; the order of a line list's faults without lines).
+-- Definitions only. Assumes nothing.
 use Prim.Native.Nat.{ℕ}
 use mathlib.Core.List.{List, []}
 use lib.ListN.{take, replicate}

@@ -1,5 +1,6 @@
-// The batch session (01, "The session has three phases"): lines come in batches, with their origins or without, and can be taken back (02, T-12); after each
-// call the session stands as the whole list of its lines does. It can be asked which line of a batch matters (02, T-13).
+// The batch session (01, "The session has three phases"): lines come in batches, with their origins or without, and can
+// be taken back (02, T-12); after each call the session stands as the whole list of its lines does. It can be asked
+// which line of a batch matters (02, T-13).
 use admission::Judged;
 use common::Vec2;
 use linear_programming::Answer;
@@ -26,8 +27,8 @@ ghost use Rattle.session.specs.Changes.{ascendingFault, changeFault, bel
 ghost use Rattle.session.specs.Meeting.{isMet, firstUnmet, pointNow, named, unmetAs};
 ghost use Rattle.session.specs.Handed.{Handed, Begins, Continues, ContinuesWith};
 
-// The lines so far, the origin of each and their count, what they are solved for, and how they stand: the phase, the failed line beside it, and the probes.
-// No origin changes how they stand.
+// The lines so far, the origin of each and their count, what they are solved for, and how they stand: the phase, the
+// failed line beside it, and the probes. No origin changes how they stand.
 pub struct Session {
     pub lines: [Line; Line::MOST],
     pub origins: [Origin; Line::MOST],
@@ -52,8 +53,8 @@ pub struct Changed {
     pub fed: Fed,
 }
 
-// The first line of a batch that a session's point does not strictly meet, by the index that the line gets; or that there is none; or why a batch would be
-// refused.
+// The first line of a batch that a session's point does not strictly meet, by the index that the line gets; or that
+// there is none; or why a batch would be refused.
 pub enum Unmet {
     At(usize),
     Nothing,
@@ -102,8 +103,8 @@ fn is_fitting(numbers: usize, lines: usize) -> bool
     numbers / 3 == lines
 }
 
-// The first fault of a batch for a session of `count` lines: more lines than a session holds (4), numbers that are no whole lines, or origins that are
-// not theirs (2), too many lines with those that stand (4), a line (6, 7).
+// The first fault of a batch for a session of `count` lines: more lines than a session holds (4), numbers that are no
+// whole lines, or origins that are not theirs (2), too many lines with those that stand (4), a line (6, 7).
 fn judge_batch(count: usize, numbers: &[f32], origins: &[u32]) -> Judged
     ensures { λ r. ⌜ faultOf r ≡ batchFault count (now (numbers .entry)) (now (origins .entry)) ⌝ }
 {
@@ -156,8 +157,8 @@ fn store_origins(
 }
 
 impl Session {
-    // A session with no lines yet. Refused: a wish or limit out of range (6), a starting point that is not finite (9). The last stands in 01's
-    // order, but no admitted wish and limit meet it (law `never-refused`).
+    // A session with no lines yet. Refused: a wish or limit out of range (6), a starting point that is not finite (9).
+    // The last stands in 01's order, but no admitted wish and limit meet it (law `never-refused`).
     pub fn start(wish: Vec2, limit: f32, rigid: usize) -> Fed
         ensures { λ r. ⌜ r ≡ startedAs wish limit rigid ⌝ }
         ensures { λ r. ⌜ Begins wish limit rigid r ⌝ }
@@ -186,10 +187,11 @@ impl Session {
         }
     }
 
-    // The session with a batch of lines, four numbers each, behind its own, and how all of them stand. Only the new lines are worked, and their origins are
-    // unknown. A refused batch leaves the session as it was: refused are a session of more than 256 lines (4), numbers that are no whole lines (2),
-    // too many lines (4), a line (6, 7), the solve (8, 9). The last two stand in 01's order, but no session that a start and later batches
-    // handed out meets them (law `never-refused`).
+    // The session with a batch of lines, four numbers each, behind its own, and how all of them stand. Only the new
+    // lines are worked, and their origins are unknown. A refused batch leaves the session as it was: refused are a
+    // session of more than 256 lines (4), numbers that are no whole lines (2), too many lines (4), a line (6, 7), the
+    // solve (8, 9). The last two stand in 01's order, but no session that a start and later batches handed out meets
+    // them (law `never-refused`).
     pub fn batch(self, numbers: &[f32]) -> Fed
         ensures { λ r. ⌜ r ≡ fedAs self (now (numbers .entry)) ⌝ }
         ensures { λ r. ⌜ (Handed self → Continues self (now (numbers .entry)) r) ⌝ }
@@ -198,8 +200,8 @@ impl Session {
         self.batch_with_origins(numbers, &none[0..0])
     }
 
-    // The same for a batch that brings the origins of its lines, three numbers each, which are kept as they stand; or none. Another count of them is
-    // refused (2), as numbers that are no whole lines are.
+    // The same for a batch that brings the origins of its lines, three numbers each, which are kept as they stand; or
+    // none. Another count of them is refused (2), as numbers that are no whole lines are.
     pub fn batch_with_origins(self, numbers: &[f32], origins: &[u32]) -> Fed
         ensures { λ r. ⌜ r ≡ fedWith self (now (numbers .entry)) (now (origins .entry)) ⌝ }
         ensures { λ r. ⌜ (Handed self → ContinuesWith self (now (numbers .entry)) (now (origins .entry)) r) ⌝ }
@@ -215,9 +217,10 @@ impl Session {
         work(self, numbers, origins)
     }
 
-    // The session without the line at `index`: a fresh one with the same wish and limit, fed the lines that are left in their order, with their origins. Later
-    // lines move down by one, and the rigid count is one less if the index was below it. Refused, the session is the one given: a session of more than 256
-    // lines (4), an index that is not below the line count (15), the lines that are left, solved afresh (8, 9). The last two stand in 02's order, but no
+    // The session without the line at `index`: a fresh one with the same wish and limit, fed the lines that are left in
+    // their order, with their origins. Later lines move down by one, and the rigid count is one less if the index was
+    // below it. Refused, the session is the one given: a session of more than 256 lines (4), an index that is not below
+    // the line count (15), the lines that are left, solved afresh (8, 9). The last two stand in 02's order, but no
     // session that was handed out meets them (law `withdrawn-told`).
     pub fn withdraw(self, index: usize) -> Fed
         ensures { λ r. ⌜ r ≡ withdrawnAs self index ⌝ }
@@ -235,10 +238,12 @@ impl Session {
         or_given(self, fresh)
     }
 
-    // The session without the lines at several indices of it as it stands, strictly ascending, and with a batch behind those that are left: one step, which
-    // happens whole or not at all. The rigid count is one less for each index below it. Refused, the session is the one given: a session of more than 256
-    // lines (4), an index that is not below the line count or not above the one before (15), then as a batch of the lines that are left (2, 4 with the
-    // places freed, 6, 7, 8, 9). The last two stand in the order, but no session that was handed out meets them (law `change-told`).
+    // The session without the lines at several indices of it as it stands, strictly ascending, and with a batch behind
+    // those that are left: one step, which happens whole or not at all. The rigid count is one less for each index
+    // below it. Refused, the session is the one given: a session of more than 256 lines (4), an index that is not below
+    // the line count or not above the one before (15), then as a batch of the lines that are left (2, 4 with the places
+    // freed, 6, 7, 8, 9). The last two stand in the order, but no session that was handed out meets them (law
+    // `change-told`).
     pub fn change(self, withdrawn: &[usize], numbers: &[f32], origins: &[u32]) -> Fed
         ensures { λ r. ⌜ r ≡ changedAs self (now (withdrawn .entry)) (now (numbers .entry)) (now (origins .entry)) ⌝ }
     {
@@ -255,9 +260,10 @@ impl Session {
         or_given(self, changed)
     }
 
-    // The same for every line whose origin has this kind and place, all lines of one obstacle, say: a gate is named by its wall, not by an index that moved.
-    // Where no line has it, nothing is withdrawn and the batch is added; how many were withdrawn is told. Kind 0 and place 0 are those of an unknown origin: they
-    // name every line that came without one.
+    // The same for every line whose origin has this kind and place, all lines of one obstacle, say: a gate is named by
+    // its wall, not by an index that moved. Where no line has it, nothing is withdrawn and the batch is added; how many
+    // were withdrawn is told. Kind 0 and place 0 are those of an unknown origin: they name every line that came without
+    // one.
     pub fn change_origin(self, kind: u32, place: u32, numbers: &[f32], origins: &[u32]) -> Changed
         ensures { λ r. ⌜ r ≡ originChangedAs self kind place (now (numbers .entry)) (now (origins .entry)) ⌝ }
     {
@@ -278,9 +284,10 @@ impl Session {
         told_withdrawn(n, fed)
     }
 
-    // The first line of a batch, by the index that it gets in the session, that the session's point does not strictly meet: its determinant is not above 0.
-    // Asked of the session as it stands when the batch arrives. Refused is what `batch` refuses before its solve: 4, 2, 4, 6, 7. Where it is `Nothing` and
-    // the session is solving, the batch changes neither phase nor point (law `nothing-unmet`).
+    // The first line of a batch, by the index that it gets in the session, that the session's point does not strictly
+    // meet: its determinant is not above 0. Asked of the session as it stands when the batch arrives. Refused is what
+    // `batch` refuses before its solve: 4, 2, 4, 6, 7. Where it is `Nothing` and the session is solving, the batch
+    // changes neither phase nor point (law `nothing-unmet`).
     pub fn first_unmet(self, numbers: &[f32]) -> Unmet
         ensures { λ r. ⌜ r ≡ unmetAs self (now (numbers .entry)) ⌝ }
     {
@@ -296,8 +303,8 @@ impl Session {
     }
 }
 
-// The first fault of a change of a session of `count` lines before its batch: more lines than a session holds (4), an index that is not below them, or not
-// above the one before (15).
+// The first fault of a change of a session of `count` lines before its batch: more lines than a session holds (4), an
+// index that is not below them, or not above the one before (15).
 fn judge_change(count: usize, withdrawn: &[usize]) -> Judged
     ensures { λ r. ⌜ faultOf r ≡ changeFault count (now (withdrawn .entry)) ⌝ }
 {
@@ -391,7 +398,8 @@ fn find(
     found: &mut [usize],
 ) -> usize
     requires { ⌜ (count ≤ mostLines) × (length (now found) ≡ mostLines) ⌝ }
-    ensures { λ r. ⌜ (r ≤ mostLines) × (length (now (found .exit)) ≡ mostLines) × (take r (now (found .exit)) ≡ indicesFrom kind place 0 (take count origins)) ⌝ }
+    ensures { λ r. ⌜ (r ≤ mostLines) × (length (now (found .exit)) ≡ mostLines)
+        × (take r (now (found .exit)) ≡ indicesFrom kind place 0 (take count origins)) ⌝ }
 {
     let mut n = 0usize;
     let mut i = 0usize;
@@ -459,7 +467,8 @@ fn name(count: usize, most: usize, place: usize) -> Unmet
     Unmet::Nothing
 }
 
-// The first fault of a withdrawal from a session of `count` lines: more lines than a session holds (4), an index behind them (15).
+// The first fault of a withdrawal from a session of `count` lines: more lines than a session holds (4), an index behind
+// them (15).
 fn judge_withdrawal(count: usize, index: usize) -> Judged
     ensures { λ r. ⌜ faultOf r ≡ withdrawalFault count index ⌝ }
 {
@@ -510,7 +519,9 @@ fn source_in(withdrawn: &[usize], n: usize) -> usize
 // The first `count` lines without those at several indices, laid out as numbers.
 fn lay_lines(lines: [Line; Line::MOST], count: usize, withdrawn: &[usize], numbers: &mut [f32])
     requires { ⌜ (length (now withdrawn) ≤ count) × (count ≤ mostLines) × (length (now numbers) ≡ 4 * mostLines) ⌝ }
-    ensures { λ _. ⌜ (length (now (numbers .exit)) ≡ 4 * mostLines) × (take (count - length (now (withdrawn .entry))) (linesOf (now (numbers .exit))) ≡ leftOf (now (withdrawn .entry)) count lines) ⌝ }
+    ensures { λ _. ⌜ (length (now (numbers .exit)) ≡ 4 * mostLines)
+        × (take (count - length (now (withdrawn .entry))) (linesOf (now (numbers .exit)))
+        ≡ leftOf (now (withdrawn .entry)) count lines) ⌝ }
 {
     let mut n = 0usize;
     while n < count - withdrawn.len() {
@@ -528,7 +539,9 @@ fn lay_origins(
     numbers: &mut [u32],
 )
     requires { ⌜ (length (now withdrawn) ≤ count) × (count ≤ mostLines) × (length (now numbers) ≡ 3 * mostLines) ⌝ }
-    ensures { λ _. ⌜ (length (now (numbers .exit)) ≡ 3 * mostLines) × (take (count - length (now (withdrawn .entry))) (originsOf (now (numbers .exit))) ≡ leftOf (now (withdrawn .entry)) count origins) ⌝ }
+    ensures { λ _. ⌜ (length (now (numbers .exit)) ≡ 3 * mostLines)
+        × (take (count - length (now (withdrawn .entry))) (originsOf (now (numbers .exit)))
+        ≡ leftOf (now (withdrawn .entry)) count origins) ⌝ }
 {
     let mut n = 0usize;
     while n < count - withdrawn.len() {
@@ -552,7 +565,9 @@ fn put_origin(numbers: &mut [u32], i: usize, origin: Origin)
 // A fresh session, fed the lines of another but for those at several indices, with their origins.
 fn refill(session: Session, withdrawn: &[usize], rigid: usize) -> Fed
     requires { ⌜ (length (now withdrawn) ≤ session .count) × (session .count ≤ mostLines) ⌝ }
-    ensures { λ r. ⌜ r ≡ freshAs (session .wish) (session .limit) rigid (leftOf (now (withdrawn .entry)) (session .count) (session .lines)) (leftOf (now (withdrawn .entry)) (session .count) (session .origins)) ⌝ }
+    ensures { λ r. ⌜ r ≡ freshAs (session .wish) (session .limit) rigid
+        (leftOf (now (withdrawn .entry)) (session .count) (session .lines))
+        (leftOf (now (withdrawn .entry)) (session .count) (session .origins)) ⌝ }
 {
     let count = session.count;
     let lines = session.lines;
@@ -595,8 +610,10 @@ fn or_given(session: Session, fed: Fed) -> Fed
 
 // A batch that is admitted and fits, stored and worked.
 fn work(session: Session, numbers: &[f32], brought: &[u32]) -> Fed
-    requires { ⌜ (session .count + length (now numbers) / 4 ≤ mostLines) × (fitting (length (now brought)) (length (now numbers) / 4) ≡ true) ⌝ }
-    ensures { λ r. ⌜ r ≡ settled session (linesOf (now (numbers .entry))) (now (brought .entry)) (worked session (linesOf (now (numbers .entry)))) ⌝ }
+    requires { ⌜ (session .count + length (now numbers) / 4 ≤ mostLines)
+        × (fitting (length (now brought)) (length (now numbers) / 4) ≡ true) ⌝ }
+    ensures { λ r. ⌜ r ≡ settled session (linesOf (now (numbers .entry))) (now (brought .entry))
+        (worked session (linesOf (now (numbers .entry)))) ⌝ }
 {
     let from = session.count;
     let count = from + numbers.len() / 4;

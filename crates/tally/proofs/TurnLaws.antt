@@ -21,7 +21,8 @@ use Rattle.tally.specs.declared.Reading.{Reading}
 use Rattle.tally.specs.Turns.{held, endedOver, wentOn, readAs, readOver, Follows, at-end, brought}
 
 -- a step uses no more bytes than there are
-used-by : (left place : ℕ) (s : List ℕ) (t : DayTally) (w : Wholes) → wholesFrom left place s ≡ w → progress 0 place t w .used ≤ length s
+used-by : (left place : ℕ) (s : List ℕ) (t : DayTally) (w : Wholes) → wholesFrom left place s ≡ w →
+    progress 0 place t w .used ≤ length s
 unfolding going stoppedAt
 used-by left place s t (reached l used) e = omega (arith, few-left left place s e .0)
 used-by left place s t (stopped n p) e = omega arith
@@ -30,7 +31,8 @@ used-within : (most place : ℕ) (s : List ℕ) (t : DayTally) → advanced most
 unfolding advanced
 used-within most place s t = used-by (most - place) place s t (wholesFrom (most - place) place s) refl
 
-module _ (input : List ℕ) (there : ℕ) (before : Reading) (fits : there ≤ length input) (p : Progress) (e : p ≡ advanced mostRecords (take (there - 0) input) (before .place) (before .tally)) where
+module _ (input : List ℕ) (there : ℕ) (before : Reading) (fits : there ≤ length input) (p : Progress) (e : p
+    ≡ advanced mostRecords (take (there - 0) input) (before .place) (before .tally)) where
   step : Progress
   step = advanced mostRecords (take there input) (before .place) (before .tally)
 
@@ -43,14 +45,24 @@ module _ (input : List ℕ) (there : ℕ) (before : Reading) (fits : there ≤ l
   read-as = ap (readAs input there before) (sym same)
 
   pub refused-read : (n at : ℕ) → p .walked ≡ walked.Refused n at →
-      held (record { stage = stage.Ended (walked.Refused n at); kept = before .kept; place = before .place; tally = p .tally }) input ≡ readOver input there before
+      held (record {
+        stage = stage.Ended (walked.Refused n at);
+        kept = before .kept;
+        place = before .place;
+        tally = p .tally;
+      }) input ≡ readOver input there before
   refused-read n at w = sym (read-as ∙ ap (wentOn input there before p) w)
 
   pub whole-read : p .walked ≡ walked.Whole → (k : ℕ) (out : List ℕ) → kept k out ≡ keptOver (p .used) there input →
       held (record { stage = stage.Open; kept = k; place = p .place; tally = p .tally }) out ≡ readOver input there before
   unfolding step
   whole-read w k out moved =
-      let used : p .used ≤ there = omega (arith, ap (λ (x : Progress). x .used) same, used-within mostRecords (before .place) (take there input) (before .tally), length-take-le there input fits) in
+      let used : p .used ≤ there = omega (
+        arith,
+        ap (λ (x : Progress). x .used) same,
+        used-within mostRecords (before .place) (take there input) (before .tally),
+        length-take-le there input fits,
+      ) in
       let m = moved ∙ kept-there (p .used) there input used fits in
       rw (ap (λ (x : Kept). x .count) m, ap (λ (x : Kept). x .contents) m) (sym (read-as ∙ ap (wentOn input there before p) w))
 
@@ -62,7 +74,9 @@ module _ (input part after : List ℕ) (before next : Reading) (h : before .kept
   -- a read that met the end has left what was kept
   pub end-read : next ≡ endedOver (take (before .kept - 0) filled) before → Follows before input next after
   end-read e =
-      at-end (e ∙ ap (λ (n : ℕ). endedOver (take n filled) before) (sub-zero (before .kept)) ∙ ap (λ (s : List ℕ). endedOver s before) (kept-stays (before .kept) input part h))
+      at-end (e ∙ ap (λ (n : ℕ). endedOver (take n filled) before) (sub-zero (before .kept))
+      ∙ ap (λ (s : List ℕ). endedOver s before) (kept-stays (before .kept) input part h))
 
-  pub some-read : (count : ℕ) → before .kept + count ≤ length filled → held next after ≡ readOver filled (before .kept + count) before → Follows before input next after
+  pub some-read : (count : ℕ) → before .kept + count ≤ length filled →
+      held next after ≡ readOver filled (before .kept + count) before → Follows before input next after
   some-read count fits e = brought filled (before .kept + count) (kept-stays (before .kept) input part h) (omega arith) fits e

@@ -31,9 +31,15 @@ endedOver rest before = endedAs before (finished mostRecords rest (before .place
 -- behind whole records it goes on, and what is left of the bytes waits at the input's start; a refusal ends it
 abbrev pub wentOn : List ℕ → ℕ → Reading → Progress → Walked → Held
 wentOn input there before p walked.Whole =
-    held (record { stage = stage.Open; kept = there - p .used; place = p .place; tally = p .tally }) (shifted (p .used) (there - p .used) input)
+    held (record { stage = stage.Open; kept = there - p .used; place = p .place; tally = p .tally })
+    (shifted (p .used) (there - p .used) input)
 wentOn input there before p (walked.Refused n at) =
-    held (record { stage = stage.Ended (walked.Refused n at); kept = before .kept; place = before .place; tally = p .tally }) input
+    held (record {
+      stage = stage.Ended (walked.Refused n at);
+      kept = before .kept;
+      place = before .place;
+      tally = p .tally;
+    }) input
 
 abbrev pub readAs : List ℕ → ℕ → Reading → Progress → Held
 readAs input there before p = wentOn input there before p (p .walked)
@@ -47,6 +53,7 @@ readOver input there before = readAs input there before (advanced mostRecords (t
 pub data Follows (before : Reading) (input : List ℕ) (next : Reading) (after : List ℕ) : Type 0 where
   failed : next .stage ≡ stage.Failed → Follows before input next after
   at-end : next ≡ endedOver (take (before .kept) input) before → Follows before input next after
-  brought : (filled : List ℕ) (there : ℕ) → take (before .kept) filled ≡ take (before .kept) input → before .kept ≤ there → there ≤ length filled →
+  brought : (filled : List ℕ) (there : ℕ) → take (before .kept) filled ≡ take (before .kept) input →
+      before .kept ≤ there → there ≤ length filled →
       held next after ≡ readOver filled there before → Follows before input next after
   no-room : length input < before .kept → next ≡ before → Follows before input next after

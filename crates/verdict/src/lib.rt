@@ -18,7 +18,8 @@ impl Tally {
         first: 0,
     };
 
-    // The tally with one vector more. Its name is kept if it is the first bad one. A count at the last u64 stays there, and never comes round to 0.
+    // The tally with one vector more. Its name is kept if it is the first bad one. A count at the last u64 stays there,
+    // and never comes round to 0.
     pub fn with(self, good: bool, name: u32) -> Tally
         ensures { λ r. ⌜ r ≡ withOf self good name ⌝ }
     {

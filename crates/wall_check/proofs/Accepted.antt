@@ -13,7 +13,8 @@ use Rattle.layouts.specs.Layouts.{lentFault, layoutFault}
 use Rattle.wall_check.specs.Crossings.{moveFault}
 
 -- its obstacles pass
-pub obstacles-pass : (from to : Vec2) (n : ℕ) (ks cs : List ℕ) (xs : List Float) → moveFault from to n ks cs xs ≡ fine → lentFault 0 n ks cs xs ≡ fine
+pub obstacles-pass : (from to : Vec2) (n : ℕ) (ks cs : List ℕ) (xs : List Float) → moveFault from to n ks cs xs ≡ fine →
+    lentFault 0 n ks cs xs ≡ fine
 unfolding moveFault layoutFault
 obstacles-pass from to n ks cs xs e =
     let positions = ⊳-fine (vectorFault from ⊳ vectorFault to) e in

@@ -1,4 +1,5 @@
--- Moves over a few edges, checked by computing: ends, corners, both sides, parallel by an exact 0, and the order of refusals. Assumes nothing.
+-- Moves over a few edges, checked by computing: ends, corners, both sides, parallel by an exact 0, and the order of
+-- refusals. Assumes nothing.
 use mathlib.Core.Path.{_≡_, refl}
 use mathlib.Core.Bool.{false}
 use mathlib.Core.List.{[], _∷_}
@@ -53,7 +54,8 @@ pub ends :
     ∷ overWall atRest (vec 2ᶠ 0ᶠ)
     ∷ overWall (vec -2ᶠ 1ᶠ) (vec 2ᶠ 1ᶠ)
     ∷ [])
-    ≡ (check.Crossed 0 0 1 ∷ check.Crossed 0 0 1 ∷ check.Clear ∷ check.Crossed 0 0 1 ∷ check.Clear ∷ check.Clear ∷ check.Clear ∷ [])
+    ≡ (check.Crossed 0 0 1 ∷ check.Crossed 0 0 1 ∷ check.Clear ∷ check.Crossed 0 0 1 ∷ check.Clear ∷ check.Clear
+    ∷ check.Clear ∷ [])
 unfolding checksComputed
 ends = refl
 
@@ -70,7 +72,8 @@ unfolding checksComputed
 turned = refl
 
 -- 192 edges at once: three closed obstacles whose vertices are (0,0) and (1,0) by turns
-pub most-crossed : checkedMove (vec halfᶠ -1ᶠ) (vec halfᶠ 1ᶠ) 3 (1 ∷ 1 ∷ 1 ∷ []) (64 ∷ 64 ∷ 64 ∷ []) (alternating 96) ≡ check.Crossed 0 0 192
+pub most-crossed : checkedMove (vec halfᶠ -1ᶠ) (vec halfᶠ 1ᶠ) 3 (1 ∷ 1 ∷ 1 ∷ []) (64 ∷ 64 ∷ 64 ∷ []) (alternating 96)
+    ≡ check.Crossed 0 0 192
 unfolding checksComputed
 most-crossed = refl
 
@@ -97,8 +100,10 @@ edges-none = refl
 
 -- the determinant that is computed decides: 2 ^ -80 underflows to 0, 2 ^ -75 does not; an infinite time is outside
 pub computed-determinant :
-    (checkedMove (vec (bits 0x9780_0000) 0ᶠ) (vec (bits 0x1780_0000) 0ᶠ) 1 (2 ∷ []) (2 ∷ []) (0ᶠ ∷ bits 0x9780_0000 ∷ 0ᶠ ∷ bits 0x1780_0000 ∷ [])
-    ∷ checkedMove (vec (bits 0x9A00_0000) 0ᶠ) (vec (bits 0x1A00_0000) 0ᶠ) 1 (2 ∷ []) (2 ∷ []) (0ᶠ ∷ bits 0x9A00_0000 ∷ 0ᶠ ∷ bits 0x1A00_0000 ∷ [])
+    (checkedMove (vec (bits 0x9780_0000) 0ᶠ) (vec (bits 0x1780_0000) 0ᶠ) 1 (2 ∷ []) (2 ∷ []) (0ᶠ ∷ bits 0x9780_0000 ∷ 0ᶠ
+    ∷ bits 0x1780_0000 ∷ [])
+    ∷ checkedMove (vec (bits 0x9A00_0000) 0ᶠ) (vec (bits 0x1A00_0000) 0ᶠ) 1 (2 ∷ []) (2 ∷ []) (0ᶠ ∷ bits 0x9A00_0000
+    ∷ 0ᶠ ∷ bits 0x1A00_0000 ∷ [])
     ∷ checkedMove atRest (vec (bits 1) 0ᶠ) 1 (2 ∷ []) (2 ∷ []) (bits 0xC780_0000 ∷ -1ᶠ ∷ bits 0xC780_0000 ∷ 1ᶠ ∷ [])
     ∷ [])
     ≡ (check.Clear ∷ check.Crossed 0 0 1 ∷ check.Clear ∷ [])
@@ -113,7 +118,8 @@ pub times-told :
     ∷ timesOf atRest (vec 2ᶠ 2ᶠ) (vec -1ᶠ 1ᶠ) (vec 1ᶠ 1ᶠ)
     ∷ timesOf atRest (vec 2ᶠ 0ᶠ) (vec -1ᶠ 1ᶠ) (vec 1ᶠ 1ᶠ)
     ∷ [])
-    ≡ (times.At (vec halfᶠ halfᶠ) ∷ times.At (vec 1ᶠ halfᶠ) ∷ times.At (vec (bits 0x3F80_0001) halfᶠ) ∷ times.At (vec halfᶠ 1ᶠ) ∷ times.Parallel ∷ [])
+    ≡ (times.At (vec halfᶠ halfᶠ) ∷ times.At (vec 1ᶠ halfᶠ) ∷ times.At (vec (bits 0x3F80_0001) halfᶠ)
+    ∷ times.At (vec halfᶠ 1ᶠ) ∷ times.Parallel ∷ [])
 unfolding checksComputed
 times-told = refl
 
@@ -133,7 +139,8 @@ pub refusals :
     ∷ checkedMove atRest (vec 0ᶠ 2ᶠ) 1 (2 ∷ []) (2 ∷ []) (-1ᶠ ∷ nan ∷ 1ᶠ ∷ [])
     ∷ checkedMove atRest (vec 0ᶠ 2ᶠ) 1 (2 ∷ []) (2 ∷ []) (-1ᶠ ∷ 1ᶠ ∷ 1ᶠ ∷ 1ᶠ ∷ 0ᶠ ∷ [])
     ∷ [])
-    ≡ (check.Refused 6 ∷ check.Refused 6 ∷ check.Refused 4 ∷ check.Refused 3 ∷ check.Refused 5 ∷ check.Refused 2 ∷ check.Refused 6 ∷ check.Refused 2 ∷ [])
+    ≡ (check.Refused 6 ∷ check.Refused 6 ∷ check.Refused 4 ∷ check.Refused 3 ∷ check.Refused 5 ∷ check.Refused 2
+    ∷ check.Refused 6 ∷ check.Refused 2 ∷ [])
 unfolding checksComputed
 refusals = refl
 

@@ -34,7 +34,8 @@ behind-append check.Clear [] b = refl
 behind-append check.Clear (w ∷ ws) b = ap (λ (m : ℕ). check.Crossed (w .obstacle) (w .vertex) m) (length-append (w ∷ ws) b)
 behind-append (check.Refused r) a b = refl
 
-behind-kept : (s : WallCheck) (b : Bool) (w : Wall) (ws : List Wall) → behind s (keptIf b w ws) ≡ behind (oneMore s b (w .obstacle) (w .vertex)) ws
+behind-kept : (s : WallCheck) (b : Bool) (w : Wall) (ws : List Wall) → behind s (keptIf b w ws)
+    ≡ behind (oneMore s b (w .obstacle) (w .vertex)) ws
 unfolding behind foundIn oneMore
 behind-kept (check.Crossed o i n) true w ws = ap (λ (m : ℕ). check.Crossed o i m) (omega arith)
 behind-kept check.Clear true w ws = ap (λ (m : ℕ). check.Crossed (w .obstacle) (w .vertex) m) (omega arith)
@@ -49,7 +50,8 @@ module _ (from to : Vec2) where
   crossed-append : (a b : List Wall) → crossedIn from to (a ++ b) ≡ (crossedIn from to a ++ crossedIn from to b)
   unfolding crossedIn
   crossed-append [] b = refl
-  crossed-append (w ∷ ws) b = rw (crossed-append ws b) (sym (kept-append (isCrossed from to w) w (crossedIn from to ws) (crossedIn from to b)))
+  crossed-append (w ∷ ws) b =
+      rw (crossed-append ws b) (sym (kept-append (isCrossed from to w) w (crossedIn from to ws) (crossedIn from to b)))
 
   -- ---- the edges of an obstacle, from that of the vertex i on
 
@@ -111,11 +113,13 @@ module _ (from to : Vec2) where
         let e : n - i ≡ suc (n - (i + 1)) = omega arith in
         rw (e, front-of cs i, front-of ks i, beyond total (getD cs i 0) xs, drop-drop 1 i ks, drop-drop 1 i cs)
 
-    pub obstacles-on : (s : WallCheck) {r : WallCheck} → i < n → r ≡ behind s (crossedIn from to (wallsHere (getD ks i 0) (getD cs i 0)))
+    pub obstacles-on : (s : WallCheck) {r : WallCheck} → i < n →
+        r ≡ behind s (crossedIn from to (wallsHere (getD ks i 0) (getD cs i 0)))
         → behind s (crossedIn from to wallsLeft) ≡ behind r (crossedIn from to (wallsLater (getD cs i 0)))
     obstacles-on s {r} h e =
         rw (walls-more h, crossed-append (wallsHere (getD ks i 0) (getD cs i 0)) (wallsLater (getD cs i 0)), e)
-        (behind-append s (crossedIn from to (wallsHere (getD ks i 0) (getD cs i 0))) (crossedIn from to (wallsLater (getD cs i 0))))
+        (behind-append s (crossedIn from to (wallsHere (getD ks i 0) (getD cs i 0)))
+        (crossedIn from to (wallsLater (getD cs i 0))))
 
     pub obstacles-done : {s : WallCheck} → n ≤ i → behind s (crossedIn from to wallsLeft) ≡ s
     unfolding wallsOf crossedIn

@@ -1,4 +1,5 @@
--- What an answer says of the edges: clear exactly when no edge is crossed, and no edge before the first crossed one is (02, T-08). Assumes nothing.
+-- What an answer says of the edges: clear exactly when no edge is crossed, and no edge before the first crossed one is
+-- (02, T-08). Assumes nothing.
 use Prim.Native.Nat.{ℕ}
 use native.Mathlib.Omega.{arith}
 use mathlib.Core.Path.{_≡_, refl, ap}
@@ -18,7 +19,8 @@ judged-clear : (f : Fault) (a : WallCheck) → unlessFault check.Refused f a ≡
 judged-clear fine a e = (refl, e)
 judged-clear (fault r) a e = let z : _≡_ {A = ℕ} 0 1 = cc in absurd (omega arith)
 
-judged-crossed : (f : Fault) (a : WallCheck) (o i n : ℕ) → unlessFault check.Refused f a ≡ check.Crossed o i n → (f ≡ fine) × (a ≡ check.Crossed o i n)
+judged-crossed : (f : Fault) (a : WallCheck) (o i n : ℕ) → unlessFault check.Refused f a ≡ check.Crossed o i n →
+    (f ≡ fine) × (a ≡ check.Crossed o i n)
 judged-crossed fine a o i n e = (refl, e)
 judged-crossed (fault r) a o i n e = let z : _≡_ {A = ℕ} 0 1 = cc in absurd (omega arith)
 
@@ -68,7 +70,16 @@ module _ (from to : Vec2) where
     where
       go : (b : Bool) → isCrossed from to w ≡ b → foundIn (keptIf b w (crossedIn from to ws)) ≡ check.Crossed o i n
           → (foundIn (crossedIn from to ws) ≡ check.Crossed o i n → FirstCrossed o i ws) → FirstCrossed o i (w ∷ ws)
-      go true t h ih = record { before = []; first = w; after = ws; stands = refl; none-before = no-edge; is-crossed = t; its-obstacle = cc; its-vertex = cc }
+      go true t h ih = record {
+        before = [];
+        first = w;
+        after = ws;
+        stands = refl;
+        none-before = no-edge;
+        is-crossed = t;
+        its-obstacle = cc;
+        its-vertex = cc;
+      }
       go false t h ih =
           let f = ih h in
           record {
@@ -94,7 +105,10 @@ module _ (from to : Vec2) where
         × ((moveFault from to n ks cs xs ≡ fine) × NoneCrossed walls → checkedMove from to n ks cs xs ≡ check.Clear)
     unfolding checkedMove foundIn
     clear-exactly = (
-      λ e. (let both = judged-clear (moveFault from to n ks cs xs) (foundIn (crossedIn from to walls)) e in (both .0, none-of walls (both .1))),
+      λ e. (let both = judged-clear (moveFault from to n ks cs xs) (foundIn (crossedIn from to walls)) e in (
+        both .0,
+        none-of walls (both .1),
+      )),
       λ h. rw (h .0, crossed-none walls (h .1)) refl,
     )
 

@@ -1,4 +1,5 @@
--- At most 192 edges are crossed: an obstacle has no more edges than vertices, and those that pass have at most 192 together. Assumes nothing.
+-- At most 192 edges are crossed: an obstacle has no more edges than vertices, and those that pass have at most 192
+-- together. Assumes nothing.
 use Prim.Native.Nat.{ℕ, zero, suc, _+_, _*_, _/_, _≤_}
 use native.Mathlib.Omega.{arith}
 use mathlib.Core.Path.{_≡_, refl, ap}
@@ -29,7 +30,8 @@ own-few o kind n xs =
     let long : length (take (2 * n) xs) ≤ 2 * n = rw length-take (omega arith) in
     rw from-long (omega (arith, edges, long))
 
-walls-few : (o total n : ℕ) (ks cs : List ℕ) (xs : List Float) → total ≤ 192 → lentFault total n ks cs xs ≡ fine → total + length (wallsOf o n ks cs xs) ≤ 192
+walls-few : (o total n : ℕ) (ks cs : List ℕ) (xs : List Float) → total ≤ 192 → lentFault total n ks cs xs ≡ fine →
+    total + length (wallsOf o n ks cs xs) ≤ 192
 unfolding wallsOf lentFault
 walls-few o total zero ks cs xs t e = omega arith
 walls-few o total (suc n) ks cs xs t e =
@@ -48,7 +50,8 @@ module _ (from to : Vec2) where
   crossed-few [] = omega arith
   crossed-few (w ∷ ws) = omega (arith, kept-few (isCrossed from to w) w (crossedIn from to ws), crossed-few ws)
 
-  pub few-crossed : (n : ℕ) (ks cs : List ℕ) (xs : List Float) (o i k : ℕ) → checkedMove from to n ks cs xs ≡ check.Crossed o i k → k ≤ 192
+  pub few-crossed : (n : ℕ) (ks cs : List ℕ) (xs : List Float) (o i k : ℕ) → checkedMove from to n ks cs xs
+      ≡ check.Crossed o i k → k ≤ 192
   few-crossed n ks cs xs o i k e =
       let told = first-crossed from to n ks cs xs o i k e in
       let passes = obstacles-pass from to n ks cs xs (told .0) in

@@ -1,5 +1,5 @@
--- 02, T-08: whether a move crosses an edge, and what is told over all edges of lent obstacles. The edges are those of 01, which `obstacles` defines.
--- Definitions only. Assumes nothing.
+-- 02, T-08: whether a move crosses an edge, and what is told over all edges of lent obstacles. The edges are those of
+-- 01, which `obstacles` defines. Definitions only. Assumes nothing.
 use Prim.Native.Nat.{ℕ, zero, suc, _+_, _*_, _/_}
 use mathlib.Core.Bool.{Bool, true, false, _&&_}
 use mathlib.Core.List.{List, [], _∷_, _++_}
@@ -56,7 +56,8 @@ ownWalls o kind xs = wallsFrom o kind xs 0 (edgeCount kind (length xs / 2))
 -- those of n obstacles, obstacle behind obstacle, the first of them being o
 unfoldable pub wallsOf : ℕ → ℕ → List ℕ → List ℕ → List Float → List Wall
 wallsOf o zero ks cs xs = []
-wallsOf o (suc n) ks cs xs = ownWalls o (ownKind ks) (take (2 * ownCount cs) xs) ++ wallsOf (o + 1) n (drop 1 ks) (drop 1 cs) (drop (2 * ownCount cs) xs)
+wallsOf o (suc n) ks cs xs = ownWalls o (ownKind ks) (take (2 * ownCount cs) xs) ++ wallsOf (o + 1) n (drop 1 ks)
+    (drop 1 cs) (drop (2 * ownCount cs) xs)
 
 -- ---- the crossed ones
 
@@ -81,10 +82,12 @@ foundIn (w ∷ ws) = check.Crossed (w .obstacle) (w .vertex) (length (w ∷ ws))
 
 -- "Refusals: 2 to 6 as in the scene's field order, the two positions judged first"; what is lent beyond the counts is told last
 unfoldable pub moveFault : Vec2 → Vec2 → ℕ → List ℕ → List ℕ → List Float → Fault
-moveFault from to n ks cs xs = (vectorFault from ⊳ vectorFault to) ⊳ layoutFault n ks cs xs ⊳ leftFault n (vertexTotal n cs) ks cs xs
+moveFault from to n ks cs xs =
+    (vectorFault from ⊳ vectorFault to) ⊳ layoutFault n ks cs xs ⊳ leftFault n (vertexTotal n cs) ks cs xs
 
 unfoldable pub checkedMove : Vec2 → Vec2 → ℕ → List ℕ → List ℕ → List Float → WallCheck
-checkedMove from to n ks cs xs = unlessFault check.Refused (moveFault from to n ks cs xs) (foundIn (crossedIn from to (wallsOf 0 n ks cs xs)))
+checkedMove from to n ks cs xs =
+    unlessFault check.Refused (moveFault from to n ks cs xs) (foundIn (crossedIn from to (wallsOf 0 n ks cs xs)))
 
 -- ---- on the way: what is known of the edges before, and those behind
 

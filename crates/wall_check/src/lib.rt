@@ -15,16 +15,18 @@ ghost use Rattle.obstacles.specs.Obstacles.{endsOf};
 ghost use Rattle.layouts.specs.Layouts.{lentFault};
 ghost use Rattle.wall_check.specs.Crossings.{areWithin, crosses, ownWalls, wallsOf, crossedIn, oneMore, foundIn, behind, countIn, moveFault, checkedMove};
 
-// The first crossed edge, as its obstacle and its left vertex, and how many are crossed; or none is; or the number of the first fault.
+// The first crossed edge, as its obstacle and its left vertex, and how many are crossed; or none is; or the number of
+// the first fault.
 pub enum WallCheck {
     Crossed(usize, usize, usize),
     Clear,
     Refused(u8),
 }
 
-// Checks a move over all edges of the obstacles, in order, whichever side of them it comes from. An edge is crossed where the lines of move and edge meet at
-// times that both lie from 0 to 1, ends counted; a move along an edge, or of no length, is parallel to it and does not cross it. Refused: a component of a
-// position that is not finite or out of range (6), `from` before `to`; then the obstacles as `layouts::judge_layout` tells them (4, 2, 3, 5, 6, 14); then
+// Checks a move over all edges of the obstacles, in order, whichever side of them it comes from. An edge is crossed
+// where the lines of move and edge meet at times that both lie from 0 to 1, ends counted; a move along an edge, or of
+// no length, is parallel to it and does not cross it. Refused: a component of a position that is not finite or out of
+// range (6), `from` before `to`; then the obstacles as `layouts::judge_layout` tells them (4, 2, 3, 5, 6, 14); then
 // kinds, counts or vertices lent beyond the counts (2).
 pub fn check_move(
     from: Vec2,
@@ -52,7 +54,8 @@ fn judge_move(
     counts: &[u8],
     vertices: &[f32],
 ) -> Judged
-    ensures { λ r. ⌜ faultOf r ≡ moveFault from to obstacles (now (kinds .entry)) (now (counts .entry)) (now (vertices .entry)) ⌝ }
+    ensures { λ r. ⌜ faultOf r ≡ moveFault from to obstacles (now (kinds .entry)) (now (counts .entry))
+        (now (vertices .entry)) ⌝ }
 {
     let judged = first_of(judge_vector(from), judge_vector(to));
     let Judged::Fine = judged else {
@@ -116,7 +119,8 @@ fn check_edge(
     known: WallCheck,
 ) -> WallCheck
     requires { ⌜ countIn known < 192 ⌝ }
-    ensures { λ r. ⌜ (r ≡ oneMore known (crosses from to (endsOf kind (now (vertices .entry)) i)) obstacle i) × (countIn r ≤ countIn known + 1) ⌝ }
+    ensures { λ r. ⌜ (r ≡ oneMore known (crosses from to (endsOf kind (now (vertices .entry)) i)) obstacle i)
+        × (countIn r ≤ countIn known + 1) ⌝ }
 {
     let ends = obstacles::edge_ends(kind, vertices, i);
     note_edge(known, is_crossed(from, to, ends), obstacle, i)
@@ -132,7 +136,8 @@ fn check_edges(
     before: WallCheck,
 ) -> WallCheck
     requires { ⌜ countIn before + length (now vertices) / 2 ≤ 192 ⌝ }
-    ensures { λ r. ⌜ (r ≡ behind before (crossedIn from to (ownWalls obstacle kind (now (vertices .entry))))) × (countIn r ≤ countIn before + length (now (vertices .entry)) / 2) ⌝ }
+    ensures { λ r. ⌜ (r ≡ behind before (crossedIn from to (ownWalls obstacle kind (now (vertices .entry)))))
+        × (countIn r ≤ countIn before + length (now (vertices .entry)) / 2) ⌝ }
 {
     let mut known = before;
     let mut i = 0usize;
@@ -153,7 +158,8 @@ fn check_obstacles(
     vertices: &[f32],
 ) -> WallCheck
     requires { ⌜ lentFault 0 obstacles (now kinds) (now counts) (now vertices) ≡ fine ⌝ }
-    ensures { λ r. ⌜ r ≡ foundIn (crossedIn from to (wallsOf 0 obstacles (now (kinds .entry)) (now (counts .entry)) (now (vertices .entry)))) ⌝ }
+    ensures { λ r. ⌜ r ≡ foundIn (crossedIn from to (wallsOf 0 obstacles (now (kinds .entry)) (now (counts .entry))
+        (now (vertices .entry)))) ⌝ }
 {
     let mut known = WallCheck::Clear;
     let mut total = 0usize;

@@ -52,7 +52,8 @@ pub fn number(pattern: u32) -> f32
     f32::from_bits(pattern)
 }
 
-// The pattern of a number, bit for bit: -0 and +0 differ. The NaN, whose own bits are not promised, gets the quiet one without a sign.
+// The pattern of a number, bit for bit: -0 and +0 differ. The NaN, whose own bits are not promised, gets the quiet one
+// without a sign.
 pub fn pattern(value: f32) -> u32
     ensures { λ r. ⌜ r ≡ toBits binary32 value ⌝ }
 {

@@ -1,4 +1,5 @@
-// Writes scene records again: each record of standard input that the reader accepts has its parts lent to the writer, which has to leave the same bytes.
+// Writes scene records again: each record of standard input that the reader accepts has its parts lent to the writer,
+// which has to leave the same bytes.
 use libc::STDIN_FILENO;
 use verdict::Tally;
 ghost use Prim.Native.Nat.{_≤_};

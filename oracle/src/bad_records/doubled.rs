@@ -1,4 +1,5 @@
-//! Doubled vertices (02, T-11): 14 at the second vertex of a pair behind its own 6, the closing pair behind the last vertex; and what is no pair.
+//! Doubled vertices (02, T-11): 14 at the second vertex of a pair behind its own 6, the closing pair behind the last
+//! vertex; and what is no pair.
 
 use super::counts::VERSION;
 use super::numbers::push;

@@ -1,7 +1,8 @@
-//! The vectors of records at fault: each refusal that a record can get, with the smallest record that gets it at each place, and beside them
-//! records at the very limits, which are admitted. Records one after the other, all whole, and in a file of their own the answers.
-//! Each record says here what it must get; the judge of records, which is written from the definition of the build, must say the same. The
-//! others are asked of the Rust, as those of scene_vectors are.
+//! The vectors of records at fault: each refusal that a record can get, with the smallest record that gets it at each
+//! place, and beside them records at the very limits, which are admitted. Records one after the other, all whole, and
+//! in a file of their own the answers. Each record says here what it must get; the judge of records, which is written
+//! from the definition of the build, must say the same. The others are asked of the Rust, as those of scene_vectors
+//! are.
 
 mod counts;
 mod doubled;

@@ -11,7 +11,8 @@ const SEED: u64 = 0x6E75_6D62;
 /// A number's place in what follows the length, and the ends of its range.
 type Field = (usize, f32, f32);
 
-/// Those of the scene below, but for its direction: position, velocity, margin, horizon, wish, limit, two vertices, a line's point.
+/// Those of the scene below, but for its direction: position, velocity, margin, horizon, wish, limit, two vertices, a
+/// line's point.
 const FIELDS: [Field; 15] = [
     (1, -REACH, REACH),
     (5, -REACH, REACH),

@@ -115,7 +115,8 @@ fn cases() -> Vec<Case> {
             answer: Err(Vec2::new(0.0, 1.5)),
             counts: failed_rigidly(1, Cause::Crossing(0), 3),
         },
-        // The second line's inner solve fails; the line that it looked at and the one examined for its list are probes all the same.
+        // The second line's inner solve fails; the line that it looked at and the one examined for its list are probes
+        // all the same.
         Case {
             name: "failing inner solve",
             list: list(

@@ -1,4 +1,5 @@
-//! Scene and answer records in bytes: the whole example of the definition of the build, and scenes whose second pass decides or that are refused.
+//! Scene and answer records in bytes: the whole example of the definition of the build, and scenes whose second pass
+//! decides or that are refused.
 
 use super::Outcome;
 use crate::scene_vectors::ask_record;

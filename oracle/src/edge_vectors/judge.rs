@@ -44,8 +44,8 @@ pub fn vertex<'a>(numbers: &mut impl Iterator<Item = &'a f32>) -> Result<Vec2, u
     Ok(Vec2::new(component()?, component()?))
 }
 
-/// An obstacle's vertices, one behind the other (T-11): none may be equal by value to the one before it (14), nor the last of a closed
-/// obstacle to the first (14).
+/// An obstacle's vertices, one behind the other (T-11): none may be equal by value to the one before it (14), nor the
+/// last of a closed obstacle to the first (14).
 pub fn outline(
     kind: u32,
     count: usize,

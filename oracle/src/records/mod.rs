@@ -1,4 +1,5 @@
-//! Scene and answer records, big-endian, as the definition of the build has them ("Records"), and scene records of version 2 (02, T-07).
+//! Scene and answer records, big-endian, as the definition of the build has them ("Records"), and scene records of
+//! version 2 (02, T-07).
 
 pub mod answers;
 pub mod reader;

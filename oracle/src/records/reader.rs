@@ -1,5 +1,6 @@
-//! The judge of scene records, written from the definition of the build and 02's T-07 and T-11 alone: a record's order of faults in "Refusal numbers",
-//! "Records", what version 2 changes of both, and doubled vertices. The first fault is told.
+//! The judge of scene records, written from the definition of the build and 02's T-07 and T-11 alone: a record's order
+//! of faults in "Refusal numbers", "Records", what version 2 changes of both, and doubled vertices. The first fault is
+//! told.
 
 use glam::Vec2;
 

@@ -1,5 +1,5 @@
-//! What the scenes must show: a table of rows, each with how many scenes show it, and how many of these the given lib.rs, unchanged, was asked
-//! for as a whole. No row may be 0.
+//! What the scenes must show: a table of rows, each with how many scenes show it, and how many of these the given
+//! lib.rs, unchanged, was asked for as a whole. No row may be 0.
 
 use glam::Vec2;
 

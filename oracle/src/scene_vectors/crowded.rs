@@ -66,8 +66,8 @@ pub fn longest(random: &mut Random) -> Scene {
     }
 }
 
-/// Three loops of 64 vertices round the agent, each edge with its line, and 64 neighbour lines: 256 lines. Where the outer loop comes first
-/// and the limit is beyond them, every loop has to be worked.
+/// Three loops of 64 vertices round the agent, each edge with its line, and 64 neighbour lines: 256 lines. Where the
+/// outer loop comes first and the limit is beyond them, every loop has to be worked.
 pub fn all_lines(random: &mut Random) -> Scene {
     let scene = with_lines(random, MOST_NEIGHBOURS);
     let radii = random.pick(&[[4.0, 5.0, 6.0], [6.0, 5.0, 4.0]]);

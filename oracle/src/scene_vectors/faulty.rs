@@ -1,5 +1,5 @@
-//! Records with one to three faults, so that the order of the faults decides as well: numbers out of their ranges, bytes replaced, cut
-//! off or left over. The judge says what a record gets, so one that is still admitted does no harm.
+//! Records with one to three faults, so that the order of the faults decides as well: numbers out of their ranges,
+//! bytes replaced, cut off or left over. The judge says what a record gets, so one that is still admitted does no harm.
 
 use super::drawn_numbers;
 use super::layouts::ordinary;

@@ -73,8 +73,8 @@ pub fn inside_by_rounding(random: &mut Random) -> Scene {
     beside(random, &[aimed::inside_by_rounding], &[made::short])
 }
 
-/// So fast that velocities lie far behind obstacles, where the lines of their shadows pass the origin by roundings, and limits so small
-/// that these decide: many first passes fail rigidly.
+/// So fast that velocities lie far behind obstacles, where the lines of their shadows pass the origin by roundings, and
+/// limits so small that these decide: many first passes fail rigidly.
 pub fn hurried(random: &mut Random) -> Scene {
     let encounters = [
         layouts::lattice,
@@ -122,8 +122,8 @@ pub fn fitted(random: &mut Random) -> Scene {
     }
 }
 
-/// A wall there and back, an end of it nearer than the margin and twice, but for so little that seen from the agent both are one: at rest that edge
-/// has no direction, but the line that a velocity gets may cover it.
+/// A wall there and back, an end of it nearer than the margin and twice, but for so little that seen from the agent
+/// both are one: at rest that edge has no direction, but the line that a velocity gets may cover it.
 pub fn covered_while_moving(random: &mut Random) -> Scene {
     let scene = beside(random, &[layouts::scattered], &[made::short]);
     let (left, right) = (random.vector_within(3.0), random.vector_within(3.0));

@@ -1,8 +1,9 @@
-//! The vectors of whole scenes: scene records, one after the other, and in a file of their own the answer records, as many.
-//! Velocities, failed lines and probes are the Rust's. The passes are worked out from both builds' edge lines and solves, and the given lib.rs,
-//! asked for the whole, must have the same lines in each pass and end in the same bits: the counted build unless the scene is refused, the plain one where
-//! the neighbours are agents or there are none. Refusals are those of the judges, 9 where the Rust made an edge line that is not
-//! admitted. coverage.rs says what the scenes must show, all of it.
+//! The vectors of whole scenes: scene records, one after the other, and in a file of their own the answer records, as
+//! many. Velocities, failed lines and probes are the Rust's. The passes are worked out from both builds' edge lines and
+//! solves, and the given lib.rs, asked for the whole, must have the same lines in each pass and end in the same bits:
+//! the counted build unless the scene is refused, the plain one where the neighbours are agents or there are none.
+//! Refusals are those of the judges, 9 where the Rust made an edge line that is not admitted. coverage.rs says what the
+//! scenes must show, all of it.
 
 mod coverage;
 mod crowded;

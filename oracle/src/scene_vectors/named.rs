@@ -1,5 +1,5 @@
-//! Scenes made by hand, each for a row of the coverage table, which it must show: the definition of the build's whole example, bench cases as
-//! scenes, and the smallest scenes known to bring out what surprises.
+//! Scenes made by hand, each for a row of the coverage table, which it must show: the definition of the build's whole
+//! example, bench cases as scenes, and the smallest scenes known to bring out what surprises.
 
 use glam::Vec2;
 

@@ -1,5 +1,5 @@
-//! Warehouse floors: shelves in rows with aisles between, a hall round them, gates across; carts nearby as neighbours, whose lines the
-//! given lib.rs makes. Other scenes get such neighbours here as well.
+//! Warehouse floors: shelves in rows with aisles between, a hall round them, gates across; carts nearby as neighbours,
+//! whose lines the given lib.rs makes. Other scenes get such neighbours here as well.
 
 use glam::Vec2;
 

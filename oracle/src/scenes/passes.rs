@@ -109,7 +109,8 @@ fn all_lines<'a>(
     edge_lines.iter().chain(&scene.lines).copied()
 }
 
-/// The passes that lib.rs runs have these lines, its velocity is the last one's point, and each counts what its solve counts alone.
+/// The passes that lib.rs runs have these lines, its velocity is the last one's point, and each counts what its solve
+/// counts alone.
 fn check_whole(scene: &Scene, passes: &[&Pass]) -> Result<(), String> {
     let (counted, counts) = ask_counted(scene);
     let differs = |build: &str| {
@@ -148,8 +149,8 @@ fn same_lines(made: impl Iterator<Item = EdgeLine>, given: &[EdgeLine]) -> bool 
     made.len() == given.len() && made.iter().zip(given).all(same)
 }
 
-/// The Rust goes on with lines that are not admitted, and its `clamp` mostly panics then: the second pass was begun, and if it came to an end
-/// it had these lines.
+/// The Rust goes on with lines that are not admitted, and its `clamp` mostly panics then: the second pass was begun,
+/// and if it came to an end it had these lines.
 fn check_fallback(scene: &Scene, lines: &[EdgeLine]) -> Result<(), String> {
     let loud = panic::take_hook();
     panic::set_hook(Box::new(|_| ()));

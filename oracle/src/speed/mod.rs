@@ -1,5 +1,6 @@
-//! `feed` and the plain build on the same admitted scenes, kind by kind and by turns, by processor time. The Rust is timed in memory, from its first
-//! record to its last answer; `feed` as a process, its start, its reading and its writing counted in.
+//! `feed` and the plain build on the same admitted scenes, kind by kind and by turns, by processor time. The Rust is
+//! timed in memory, from its first record to its last answer; `feed` as a process, its start, its reading and its
+//! writing counted in.
 
 mod child;
 #[path = "../../alone/processor_time.rs"]

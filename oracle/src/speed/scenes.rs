@@ -69,7 +69,8 @@ fn lone(random: &mut Random) -> Scene {
     }
 }
 
-/// `size` neighbour lines, each of which takes a little from what those before it left, so that each is solved again over all of them.
+/// `size` neighbour lines, each of which takes a little from what those before it left, so that each is solved again
+/// over all of them.
 fn again(random: &mut Random, size: usize) -> Scene {
     let scene = lone(random);
     let mut list = LineList {

@@ -1,5 +1,5 @@
-//! Moves over the obstacles of drawn scenes, aimed where the check is about to turn: at vertices, through them, along edges, just short of them. One in four is
-//! lent with up to three faults.
+//! Moves over the obstacles of drawn scenes, aimed where the check is about to turn: at vertices, through them, along
+//! edges, just short of them. One in four is lent with up to three faults.
 
 use glam::Vec2;
 

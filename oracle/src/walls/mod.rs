@@ -1,8 +1,9 @@
-//! The vectors of the wall check (02, T-08): moves over lent obstacles, each with what is told of it, one record after the other.
-//! A record, in words: from (2), to (2), the obstacles' count, how many kinds, counts and numbers of vertices are lent; the answer, 0 where the move is clear,
-//! 1 where it crosses an edge, 100 + number for a refusal; obstacle and left vertex of the first crossed edge, and how many are crossed, 0 where none is. Then
-//! the numbers, a word each, the kinds and the counts, a byte each.
-//! Whether an edge is crossed is by the times of the given `time_to_intersect_lines`. The Rust has no wall check: walk.rs is one, written from 01 and 02 alone.
+//! The vectors of the wall check (02, T-08): moves over lent obstacles, each with what is told of it, one record after
+//! the other. A record, in words: from (2), to (2), the obstacles' count, how many kinds, counts and numbers of
+//! vertices are lent; the answer, 0 where the move is clear, 1 where it crosses an edge, 100 + number for a refusal;
+//! obstacle and left vertex of the first crossed edge, and how many are crossed, 0 where none is. Then the numbers, a
+//! word each, the kinds and the counts, a byte each. Whether an edge is crossed is by the times of the given
+//! `time_to_intersect_lines`. The Rust has no wall check: walk.rs is one, written from 01 and 02 alone.
 
 mod drawn;
 mod named;

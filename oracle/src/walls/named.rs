@@ -1,5 +1,6 @@
-//! Moves by hand, each with what is told of it (02, T-08): ends, corners, both directions and edges turned, determinants that are computed as 0 or are not,
-//! as many crossed edges as there may be, and each refusal behind a bad position.
+//! Moves by hand, each with what is told of it (02, T-08): ends, corners, both directions and edges turned,
+//! determinants that are computed as 0 or are not, as many crossed edges as there may be, and each refusal behind a bad
+//! position.
 
 use glam::Vec2;
 

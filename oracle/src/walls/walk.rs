@@ -1,4 +1,5 @@
-//! The wall check, from 01's "What is admitted", "Refusal numbers" and "Rules of the edges" and 02's T-08 alone; the times are the given `time_to_intersect_lines`'s.
+//! The wall check, from 01's "What is admitted", "Refusal numbers" and "Rules of the edges" and 02's T-08 alone; the
+//! times are the given `time_to_intersect_lines`'s.
 
 use dodgy_plain::debug::time_to_intersect_lines;
 use glam::Vec2;

@@ -1,5 +1,5 @@
-//! Scenes of the kinds that the scene vectors are made of, lent with up to three faults: numbers out of range, counts one more or less than what is lent,
-//! parts cut or with more behind them; and buffers that just fit, or not.
+//! Scenes of the kinds that the scene vectors are made of, lent with up to three faults: numbers out of range, counts
+//! one more or less than what is lent, parts cut or with more behind them; and buffers that just fit, or not.
 
 use super::Writing;
 use crate::lent::{self, beside, replace, resize};

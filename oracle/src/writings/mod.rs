@@ -1,7 +1,9 @@
-//! Calls of the scene writer (02, T-01): the parts that are lent, and in a file of their own what the writer must tell and leave in the buffer.
-//! A call is sixteen words: position, velocity, margin, horizon, wish and limit, the obstacles' count, how many kinds, counts and numbers of vertices
-//! are lent, the neighbours' count, how many numbers of lines are lent, the buffer's length; then kinds and counts, a byte each, and the numbers of
-//! vertices and lines, a word each. An answer is a pair, the refusal's number or 0, a pair, the length or 0, and the whole buffer, which was all sentinels.
+//! Calls of the scene writer (02, T-01): the parts that are lent, and in a file of their own what the writer must tell
+//! and leave in the buffer. A call is sixteen words: position, velocity, margin, horizon, wish and limit, the
+//! obstacles' count, how many kinds, counts and numbers of vertices are lent, the neighbours' count, how many numbers
+//! of lines are lent, the buffer's length; then kinds and counts, a byte each, and the numbers of vertices and lines, a
+//! word each. An answer is a pair, the refusal's number or 0, a pair, the length or 0, and the whole buffer, which was
+//! all sentinels.
 
 mod drawn;
 mod named;
@@ -58,7 +60,8 @@ pub fn at_scale(random: &mut Random) -> Result<Parts, String> {
     calls::at_scale::<Writing>(random)
 }
 
-/// Every version 1 record of a stream that is accepted must be written again to its bytes; the line that tells how many there were.
+/// Every version 1 record of a stream that is accepted must be written again to its bytes; the line that tells how many
+/// there were.
 pub fn written_again(file: &str) -> Result<(), String> {
     let stream = fs::read(file).map_err(|fault| format!("{file}: {fault}"))?;
     let mut count = 0;

@@ -1,5 +1,5 @@
-//! Calls by hand, each with what the writer must tell (02, T-01): where the order of faults shows, each count one more and one less than what is lent, and
-//! buffers of every length.
+//! Calls by hand, each with what the writer must tell (02, T-01): where the order of faults shows, each count one more
+//! and one less than what is lent, and buffers of every length.
 
 use super::{Writing, Shown};
 use crate::lent::Lent;

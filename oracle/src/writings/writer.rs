@@ -1,5 +1,6 @@
-//! The writer, from 01's "Records" and "Refusal numbers" and 02's T-01 alone: fields in the record's order, each first for numbers that are not lent (2),
-//! then by its own rule; then numbers that are left over (2); then a buffer shorter than the record (10).
+//! The writer, from 01's "Records" and "Refusal numbers" and 02's T-01 alone: fields in the record's order, each first
+//! for numbers that are not lent (2), then by its own rule; then numbers that are left over (2); then a buffer shorter
+//! than the record (10).
 
 use glam::Vec2;
 

@@ -18,7 +18,8 @@ returns-3 c = at-cut _ _ (c .before .before .before .if1 .left) (c .before .pair
 returns-4 : tie.Need-returns-4
 returns-4 c =
     let sized = c .before .before .before .before in
-    c .replied .ensures ∙ at-reply _ _ (sized .before .before .if1 .left) (sized .pair-at .ensures) (c .before .read-answer .ensures)
+    c .replied .ensures ∙ at-reply _ _ (sized .before .before .if1 .left) (sized .pair-at .ensures)
+    (c .before .read-answer .ensures)
 
 pub logged-at-spec : {M : Type 1} → statement M
 logged-at-spec =

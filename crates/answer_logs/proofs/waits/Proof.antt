@@ -13,10 +13,14 @@ returns-2 : tie.Need-returns-2
 returns-2 c = let a = c .before .before .before .args in waits-short (now (a .part)) (a .at) (c .if2 .taken)
 
 returns-3 : tie.Need-returns-3
-returns-3 c = let a = c .before .before .before .before .before .args in waits-overlong (now (a .part)) (a .at) (c .before .before .if2 .left) (c .before .pair-at .ensures) (c .if3 .taken)
+returns-3 c =
+    let a = c .before .before .before .before .before .args in
+    waits-overlong (now (a .part)) (a .at) (c .before .before .if2 .left) (c .before .pair-at .ensures) (c .if3 .taken)
 
 returns-4 : tie.Need-returns-4
-returns-4 c = let a = c .before .before .before .before .before .args in waits-by-size (now (a .part)) (a .at) (c .before .before .if2 .left) (c .before .pair-at .ensures) (c .if3 .left)
+returns-4 c =
+    let a = c .before .before .before .before .before .args in
+    waits-by-size (now (a .part)) (a .at) (c .before .before .if2 .left) (c .before .pair-at .ensures) (c .if3 .left)
 
 pub waits-spec : {M : Type 1} → statement M
 waits-spec =

@@ -30,7 +30,13 @@ unfolding lengthOfCode if_then_else_
 returns-4 c =
     let matched = c .before .before .before .before in
     let k = matched .before .args .code in
-    rw (le-leb 1 k (omega arith), lt-leb k 5 (omega arith), le-leb 129 k (omega arith), lt-leb k 138 (omega arith), ne-eqb k 142 (λ e. matched .match .rest .1 e))
+    rw (
+      le-leb 1 k (omega arith),
+      lt-leb k 5 (omega arith),
+      le-leb 129 k (omega arith),
+      lt-leb k 138 (omega arith),
+      ne-eqb k 142 (λ e. matched .match .rest .1 e),
+    )
 
 returns-5 : tie.Need-returns-5
 unfolding lengthOfCode if_then_else_

@@ -1,5 +1,5 @@
--- What a comparison says of sizes, and sizes of a comparison. Each proof turns the test of `lib.Ieee` into one of two products of whole numbers.
--- Assumes nothing.
+-- What a comparison says of sizes, and sizes of a comparison. Each proof turns the test of `lib.Ieee` into one of two
+-- products of whole numbers. Assumes nothing.
 use mathlib.Core.Path.{_≡_, refl, sym, _∙_}
 use mathlib.Core.Logic.{_⊎_, inl, inr}
 use Prim.Native.Nat.{ℕ, zero, suc, _*_, _%_, _^_, _≤_, _<_, zero-le}
@@ -55,7 +55,8 @@ across x y de dd p q l h g =
     (le-trans (le-of-eq (mul-right-comm x dd (2 ^ 149)))
     (le-trans (mul-le-mul-right dd h)
     (le-trans (mul-le-mul-right dd (mul-le-mul-right de l))
-    (le-trans (le-of-eq (mul-right-comm q de dd)) (le-trans (mul-le-mul-right de g) (le-of-eq (mul-right-comm y (2 ^ 149) de)))))))
+    (le-trans (le-of-eq (mul-right-comm q de dd))
+    (le-trans (mul-le-mul-right de g) (le-of-eq (mul-right-comm y (2 ^ 149) de)))))))
     (pow-pos 149)
 
 across-lt : (x y de dd p q : ℕ) → 0 < de → 0 < dd → p < q → x * 2 ^ 149 ≤ p * de → q * dd ≤ y * 2 ^ 149 → x * dd < y * de
@@ -64,7 +65,8 @@ across-lt x y de dd p q E D l h g =
     (lt-of-le-of-lt (le-of-eq (mul-right-comm x dd (2 ^ 149)))
     (lt-of-le-of-lt (mul-le-mul-right dd h)
     (lt-of-lt-of-le (mul-lt-mul-of-pos-right (mul-lt-mul-of-pos-right l E) D)
-    (le-trans (le-of-eq (mul-right-comm q de dd)) (le-trans (mul-le-mul-right de g) (le-of-eq (mul-right-comm y (2 ^ 149) de)))))))
+    (le-trans (le-of-eq (mul-right-comm q de dd))
+    (le-trans (mul-le-mul-right de g) (le-of-eq (mul-right-comm y (2 ^ 149) de)))))))
 
 -- ---- |x| ≤ y
 
@@ -72,11 +74,15 @@ pub le-within : (x : Float) {k : ℕ} {y : Float} → NonNeg y → Within k y �
 unfolding le absOf
 le-within nan plain (within g) h = absurd (false≢true h)
 le-within (inf s) plain (within g) h = absurd (false≢true h)
-le-within (fin s m e) {k} plain (within {m = n} {e = d} g) h = within (under (m * up e) (n * up d) (down e) (down d) (2 ^ k) (down-pos d) (le-numbers (m * up e * down d) (n * up d * down e) h) g)
+le-within (fin s m e) {k} plain (within {m = n} {e = d} g) h =
+    within (under (m * up e) (n * up d) (down e) (down d) (2 ^ k) (down-pos d)
+    (le-numbers (m * up e * down d) (n * up d * down e) h) g)
 
 pub within-le : {j k : ℕ} {x y : Float} → Within j x → Over k y → j ≤ k → (absOf x ≤ᶠ y) ≡ true
 unfolding le absOf
-within-le {j} {k} (within {m} {e} h) (over {m = n} {e = d} g) l = numbers-le (m * up e * down d) (n * up d * down e) true (across (m * up e) (n * up d) (down e) (down d) (2 ^ j) (2 ^ k) (pow-mono l) h g) refl
+within-le {j} {k} (within {m} {e} h) (over {m = n} {e = d} g) l =
+    numbers-le (m * up e * down d) (n * up d * down e) true (across (m * up e) (n * up d) (down e) (down d) (2 ^ j)
+    (2 ^ k) (pow-mono l) h g) refl
 within-le (within h) infinite l = refl
 
 pub not-le-apart : (x : Float) {k : ℕ} {y : Float} → finite x ≡ true → Over k y → (absOf x ≤ᶠ y) ≡ false → Apart k x
@@ -89,7 +95,8 @@ not-le-apart x {k} f o h = go (within-or-apart k x f)
 pub over-not-le : {j k : ℕ} {x y : Float} → Over k y → Within j x → j < k → (y ≤ᶠ x) ≡ false
 unfolding le
 over-not-le {j} {k} (over {m = n} {e = d} g) (within {s = false} {m} {e} h) l =
-    numbers-gt (n * up d * down e) (m * up e * down d) true (across-lt (m * up e) (n * up d) (down e) (down d) (2 ^ j) (2 ^ k) (down-pos e) (down-pos d) (pow-lt l) h g)
+    numbers-gt (n * up d * down e) (m * up e * down d) true (across-lt (m * up e) (n * up d) (down e) (down d) (2 ^ j)
+    (2 ^ k) (down-pos e) (down-pos d) (pow-lt l) h g)
 over-not-le {j} {k} (over {m = n} {e = d} g) (within {s = true} {m} {e} h) l =
     let p = across-lt (m * up e) (n * up d) (down e) (down d) (2 ^ j) (2 ^ k) (down-pos e) (down-pos d) (pow-lt l) h g in
     rw (ne-eqb (n * up d * down e) (m * up e * down d) (omega arith)) refl
@@ -98,7 +105,9 @@ over-not-le infinite (within {s = true} h) l = refl
 
 pub over-positive : {k : ℕ} {x : Float} → Over k x → (0ᶠ <ᶠ x) ≡ true
 unfolding lt ofBits
-over-positive {k} (over {m} {e} h) = lt-ltb _ _ (lt-of-le-of-lt (le-of-eq (zero-mul (down e))) (positive (lt-of-lt-of-le (mul-pos (pow-pos k) (down-pos e)) h)))
+over-positive {k} (over {m} {e} h) =
+    lt-ltb _ _ (lt-of-le-of-lt (le-of-eq (zero-mul (down e)))
+    (positive (lt-of-lt-of-le (mul-pos (pow-pos k) (down-pos e)) h)))
   where
     positive : 0 < m * up e * 2 ^ 149 → 0 < m * up e * 1
     positive p = lt-of-lt-of-le (first-pos (m * up e) (2 ^ 149) p) (le-of-eq (sym (mul-one (m * up e))))
@@ -110,8 +119,12 @@ unfolding le ofBits
 between-within nan plain (within g) z h = absurd (false≢true h)
 between-within (inf true) plain (within g) z h = absurd (false≢true z)
 between-within (inf false) plain (within g) z h = absurd (false≢true h)
-between-within (fin false m e) {k} plain (within {m = n} {e = d} g) z h = within (under (m * up e) (n * up d) (down e) (down d) (2 ^ k) (down-pos d) (le-numbers (m * up e * down d) (n * up d * down e) h) g)
-between-within (fin true m e) {k} plain (within g) z h = within (go (eqb-true (0 * down e) (m * up e * 1) (and-left (eqb (0 * down e) (m * up e * 1)) (eqb (0 * down e) 0) z)))
+between-within (fin false m e) {k} plain (within {m = n} {e = d} g) z h =
+    within (under (m * up e) (n * up d) (down e) (down d) (2 ^ k) (down-pos d)
+    (le-numbers (m * up e * down d) (n * up d * down e) h) g)
+between-within (fin true m e) {k} plain (within g) z h =
+    within (go (eqb-true (0 * down e) (m * up e * 1) (and-left (eqb (0 * down e) (m * up e * 1))
+    (eqb (0 * down e) 0) z)))
   where
     go : 0 * down e ≡ m * up e * 1 → m * up e * 2 ^ 149 ≤ 2 ^ k * down e
     go p =
@@ -140,7 +153,10 @@ greater-over (inf false) plain h f = infinite
 greater-over (inf false) boundless h f = infinite
 greater-over (fin true n d) plain h f = absurd (false≢true h)
 greater-over (fin true n d) boundless h f = absurd (false≢true h)
-greater-over (fin false zero d) (plain {m} {e}) h f = absurd (let p = ltb-true (m * up e * down d) (0 * up d * down e) h in let q : 0 * up d * down e ≡ 0 = simp zero-mul in omega arith)
+greater-over (fin false zero d) (plain {m} {e}) h f =
+    absurd (let p = ltb-true (m * up e * down d) (0 * up d * down e) h in let q : 0 * up d * down e ≡ 0 =
+    simp zero-mul in omega arith)
 greater-over (fin false zero d) boundless h f = absurd (false≢true h)
-greater-over (fin false (suc n) d) plain h f = over (scaled (suc n * up d) (down d) (2 ^ 149) (mul-pos (zero-lt-suc n) (up-pos d)) (fits-down false n d f))
+greater-over (fin false (suc n) d) plain h f =
+    over (scaled (suc n * up d) (down d) (2 ^ 149) (mul-pos (zero-lt-suc n) (up-pos d)) (fits-down false n d f))
 greater-over (fin false (suc n) d) boundless h f = absurd (false≢true h)

@@ -1,5 +1,6 @@
--- Rounding crosses no power of two from 2 ^ 0 to 2 ^ 276 smallest values, since each is a value of binary32: what lies within one, or apart from it, rounds to such.
--- A fraction a / c is rounded to `roundedUnits a c` smallest values; the bounds are those of `lib.Ieee`'s `closest`, at the power of two. Assumes nothing.
+-- Rounding crosses no power of two from 2 ^ 0 to 2 ^ 276 smallest values, since each is a value of binary32: what lies
+-- within one, or apart from it, rounds to such. A fraction a / c is rounded to `roundedUnits a c` smallest values; the
+-- bounds are those of `lib.Ieee`'s `closest`, at the power of two. Assumes nothing.
 use mathlib.Core.Path.{_≡_, refl, sym, _∙_, ap}
 use mathlib.Core.Logic.{_⊎_, inl, inr}
 use Prim.Native.Nat.{ℕ, zero, suc, _+_, _-_, _*_, _/_, _%_, _^_, _≤_, _<_, zero-le, compare}
@@ -46,10 +47,13 @@ unfolding roundedUnits
 units-le a c k C h =
     let n = a * 2 ^ 149 in
     let d = drop 24 n c in
-    let w : n / c < 2 ^ suc k = div-lt-iff-lt-mul C .1 (lt-of-le-of-lt h (lt-scale (2 ^ k) (2 ^ suc k) (pow-lt (le-refl (suc k))))) in
+    let w : n / c < 2 ^ suc k = div-lt-iff-lt-mul C .1
+    (lt-of-le-of-lt h (lt-scale (2 ^ k) (2 ^ suc k) (pow-lt (le-refl (suc k))))) in
     let small : d ≤ k = few (size (n / c)) k (size-le (n / c) (suc k) w) in
     let e = split-pow k d small in
-    let fine : n ≤ 2 ^ (k - d) * (c * 2 ^ d) = le-trans h (le-of-eq (ap (λ (x : ℕ). x * c) (sym e) ∙ mul-right-comm (2 ^ (k - d)) (2 ^ d) c ∙ mul-assoc (2 ^ (k - d)) c (2 ^ d))) in
+    let fine : n ≤ 2 ^ (k - d) * (c * 2 ^ d) =
+    le-trans h (le-of-eq (ap (λ (x : ℕ). x * c) (sym e) ∙ mul-right-comm (2 ^ (k - d)) (2 ^ d) c
+    ∙ mul-assoc (2 ^ (k - d)) c (2 ^ d))) in
     le-trans (mul-le-mul-right (2 ^ d) (closest-le n (c * 2 ^ d) (2 ^ (k - d)) (mul-pos C (pow-pos d)) fine)) (le-of-eq e)
   where
     lt-scale : (x y : ℕ) → x < y → x * c < y * c
@@ -84,21 +88,25 @@ module _ (a c : ℕ) (C : 0 < c) (h : a * 2 ^ 149 ≤ 2 ^ 152 * c) where
       let q = closest (a * 2 ^ 149) u in
       let n = closest-near (a * 2 ^ 149) u (mul-pos C (pow-pos d)) in
       let e : q * 2 ^ d * c ≡ q * u = mul-right-comm q (2 ^ d) c ∙ mul-assoc q c (2 ^ d) in
-      let l : u ≤ 2 ^ 129 * c = le-trans (mul-le-mul-left c (pow-mono dropped)) (le-of-eq (mul-comm c (2 ^ 129))) in
-      (le-trans (le-of-eq e) (le-trans (n .0) (add-le-add (le-refl (a * 2 ^ 149)) l)), le-trans (n .1) (add-le-add (le-of-eq (sym e)) l))
+      let l : u ≤ 2 ^ 129 * c = le-trans (mul-le-mul-left c (pow-mono dropped)) (le-of-eq (mul-comm c (2 ^ 129))) in (
+        le-trans (le-of-eq e) (le-trans (n .0) (add-le-add (le-refl (a * 2 ^ 149)) l)),
+        le-trans (n .1) (add-le-add (le-of-eq (sym e)) l),
+      )
 
 -- a power of two below the fraction is not above what it rounds to
 module _ (a c k : ℕ) (C : 0 < c) (h : 2 ^ k * c ≤ a * 2 ^ 149) where
   all-of : (d q : ℕ) → 2 ^ k ≤ q * 2 ^ d → q * 2 ^ d * c ≤ a * 2 ^ 149 → 2 ^ k ≤ closest (a * 2 ^ 149) (c * 2 ^ d) * 2 ^ d
   all-of d q p r =
-      le-trans p (mul-le-mul-right (2 ^ d) (closest-ge (a * 2 ^ 149) (c * 2 ^ d) q (mul-pos C (pow-pos d)) (le-trans (le-of-eq (sym (mul-assoc q c (2 ^ d)) ∙ mul-right-comm q c (2 ^ d))) r)))
+      le-trans p (mul-le-mul-right (2 ^ d) (closest-ge (a * 2 ^ 149) (c * 2 ^ d) q (mul-pos C (pow-pos d))
+      (le-trans (le-of-eq (sym (mul-assoc q c (2 ^ d)) ∙ mul-right-comm q c (2 ^ d))) r)))
 
   reached : (d : ℕ) → drop 24 (a * 2 ^ 149) c ≡ d → 0 < d → 2 ^ d * c ≤ a * 2 ^ 149
   reached d e p = le-div-iff-mul-le C .0 (size-reaches (a * 2 ^ 149 / c) d (omega arith))
 
   pick : (d : ℕ) → drop 24 (a * 2 ^ 149) c ≡ d → (d ≤ k) ⊎ (k < d) → 2 ^ k ≤ closest (a * 2 ^ 149) (c * 2 ^ d) * 2 ^ d
   pick d e (inl l) = all-of d (2 ^ (k - d)) (le-of-eq (sym (split-pow k d l))) (rw (split-pow k d l) h)
-  pick d e (inr l) = all-of d 1 (le-trans (pow-mono (le-of-lt l)) (le-of-eq (sym (one-mul (2 ^ d))))) (rw (one-mul (2 ^ d)) (reached d e (omega arith)))
+  pick d e (inr l) = all-of d 1 (le-trans (pow-mono (le-of-lt l)) (le-of-eq (sym (one-mul (2 ^ d)))))
+      (rw (one-mul (2 ^ d)) (reached d e (omega arith)))
 
   units-ge : 2 ^ k ≤ roundedUnits a c
   unfolding roundedUnits
@@ -120,11 +128,13 @@ apart-value nan s n k h v = absurd v
 apart-value (inf t) s n k h v = absurd v
 apart-value (fin t m e) s n k h v = apart (le-trans (mul-le-mul-right (down e) h) (le-of-eq (sym (v .1))))
 
-pub round-value : (s : Bool) (a c k : ℕ) → 0 < c → k ≤ 276 → a * 2 ^ 149 ≤ 2 ^ k * c → HasValue (round binary32 s a c) s (roundedUnits a c) (2 ^ 149)
+pub round-value : (s : Bool) (a c k : ℕ) → 0 < c → k ≤ 276 → a * 2 ^ 149 ≤ 2 ^ k * c →
+    HasValue (round binary32 s a c) s (roundedUnits a c) (2 ^ 149)
 unfolding roundedUnits
 round-value s a c k C K h =
     rw (round-units s a c)
-    (units-val binary32 s (kept 24 (a * 2 ^ 149) c) (drop 24 (a * 2 ^ 149) c) (lt-of-le-of-lt (units-le a c k C h) (lt-of-le-of-lt (pow-mono K) (lit< tt))))
+    (units-val binary32 s (kept 24 (a * 2 ^ 149) c) (drop 24 (a * 2 ^ 149) c)
+    (lt-of-le-of-lt (units-le a c k C h) (lt-of-le-of-lt (pow-mono K) (lit< tt))))
 
 pub round-within : (s : Bool) (a c k : ℕ) → 0 < c → k ≤ 276 → a * 2 ^ 149 ≤ 2 ^ k * c → Within k (round binary32 s a c)
 round-within s a c k C K h = within-value _ s (roundedUnits a c) k (units-le a c k C h) (round-value s a c k C K h)
@@ -133,7 +143,8 @@ pub units-zero : (c : ℕ) → 0 < c → roundedUnits 0 c ≡ 0
 unfolding roundedUnits
 units-zero c C =
     let d = drop 24 (0 * 2 ^ 149) c in
-    le-antisymm (le-trans (mul-le-mul-right (2 ^ d) (closest-le 0 (c * 2 ^ d) 0 (mul-pos C (pow-pos d)) zero-le)) (le-of-eq (zero-mul (2 ^ d)))) zero-le
+    le-antisymm (le-trans (mul-le-mul-right (2 ^ d) (closest-le 0 (c * 2 ^ d) 0 (mul-pos C (pow-pos d)) zero-le))
+    (le-of-eq (zero-mul (2 ^ d)))) zero-le
 
 units-apart : (s : Bool) (k q d : ℕ) → 2 ^ k ≤ q * 2 ^ d → Apart k (units binary32 s q d)
 unfolding units

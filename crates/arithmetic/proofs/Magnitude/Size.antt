@@ -1,5 +1,7 @@
--- The size of a binary32 value against powers of two, counted in smallest values: 2 ^ k of them are 2 ^ (k - 149). As k ranges over the natural numbers, no exponent is negative.
--- The predicates are indexed data, so a proof that matches on one has the value as `fin s m e`, and the NaN is gone. A law is named from what it asks to what it gives. Assumes nothing.
+-- The size of a binary32 value against powers of two, counted in smallest values: 2 ^ k of them are 2 ^ (k - 149). As k
+-- ranges over the natural numbers, no exponent is negative. The predicates are indexed data, so a proof that matches on
+-- one has the value as `fin s m e`, and the NaN is gone. A law is named from what it asks to what it gives. Assumes
+-- nothing.
 use mathlib.Core.Path.{_≡_, refl, ap}
 use mathlib.Core.Logic.{_⊎_, inl, inr}
 use Prim.Native.Nat.{ℕ, _*_, _^_, _≤_, _<_, zero-le}
@@ -70,9 +72,11 @@ within-or-apart k nan f = absurd (false≢true f)
 within-or-apart k (inf s) f = inr endless
 within-or-apart k (fin s m e) f = go (le-or-lt (m * up e * 2 ^ 149) (2 ^ k * down e))
   where
-    go : (m * up e * 2 ^ 149 ≤ 2 ^ k * down e) ⊎ (2 ^ k * down e < m * up e * 2 ^ 149) → Within k (fin s m e) ⊎ Apart k (fin s m e)
+    go : (m * up e * 2 ^ 149 ≤ 2 ^ k * down e) ⊎ (2 ^ k * down e < m * up e * 2 ^ 149) → Within k (fin s m e)
+        ⊎ Apart k (fin s m e)
     go (inl h) = inl (within h)
     go (inr h) = inr (apart (le-of-lt h))
 
 pub apart-not-within : {j k : ℕ} {x : Float} → Apart j x → Within k x → k < j → ⊥
-apart-not-within {j} {k} (apart {e = e} h) (within g) l = lt-irrefl _ (lt-of-lt-of-le (mul-lt-mul-of-pos-right (pow-lt l) (down-pos e)) (le-trans h g))
+apart-not-within {j} {k} (apart {e = e} h) (within g) l =
+    lt-irrefl _ (lt-of-lt-of-le (mul-lt-mul-of-pos-right (pow-lt l) (down-pos e)) (le-trans h g))

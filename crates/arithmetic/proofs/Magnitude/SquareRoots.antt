@@ -1,5 +1,6 @@
--- The size of a square root: half the exponent, either way, and its sign. A power of two has a pattern, and `AtRoot` says which patterns the root lies between,
--- so the root's own pattern is not beyond that of a power of two which the root does not pass. Assumes nothing.
+-- The size of a square root: half the exponent, either way, and its sign. A power of two has a pattern, and `AtRoot`
+-- says which patterns the root lies between, so the root's own pattern is not beyond that of a power of two which the
+-- root does not pass. Assumes nothing.
 use mathlib.Core.Path.{_≡_, sym, _∙_, ap}
 use mathlib.Core.Logic.{_⊎_, inl, inr}
 use Prim.Native.Nat.{ℕ, zero, suc, _+_, _-_, _*_, _/_, _^_, _≤_, _<_, zero-le}
@@ -25,7 +26,9 @@ use Rattle.arithmetic.proofs.Magnitude.Operations.{apart-pos}
 
 below-zero : (m : ℕ) (e : ℤ) → (fin true (suc m) e <ᶠ 0ᶠ) ≡ true
 unfolding lt ofBits
-below-zero m e = lt-ltb 0 (suc m * up e * 1 + 0 * down e) (lt-of-lt-of-le (mul-pos (mul-pos (zero-lt-suc m) (up-pos e)) (lit< tt)) (le-add-right (suc m * up e * 1) (0 * down e)))
+below-zero m e = lt-ltb 0 (suc m * up e * 1 + 0 * down e)
+    (lt-of-lt-of-le (mul-pos (mul-pos (zero-lt-suc m) (up-pos e)) (lit< tt))
+    (le-add-right (suc m * up e * 1) (0 * down e)))
 
 -- the sign that a finite root has: none, or that of -0
 pub data SignOfRoot : Float → Type 0 where
@@ -50,8 +53,11 @@ pattern i = go (le-or-lt 23 i)
 
     go : (23 ≤ i) ⊎ (i < 23) → (b : ℕ) × (worth b ≡ 2 ^ i)
     go (inl l) =
-        let e : 23 + (i - 23) ≡ i = omega arith in
-        ((i - 23) * 8388608 + 8388608, worth-at (i - 23) 8388608 (le-refl 8388608) (lit≤ tt) ∙ sym (pow-add 2 23 (i - 23)) ∙ ap (λ (z : ℕ). 2 ^ z) e)
+        let e : 23 + (i - 23) ≡ i = omega arith in (
+          (i - 23) * 8388608 + 8388608,
+          worth-at (i - 23) 8388608 (le-refl 8388608) (lit≤ tt)
+              ∙ sym (pow-add 2 23 (i - 23)) ∙ ap (λ (z : ℕ). 2 ^ z) e,
+        )
     go (inr l) = (2 ^ i, worth-small (2 ^ i) (small i l))
 
 -- ---- a power of two about the root of n, and the pattern r of that root
@@ -72,7 +78,8 @@ module _ (n r i : ℕ) (a : AtRoot n r) where
 
       big : suc (2 ^ i) ≤ worth r → ⊥
       big k =
-          let l : b < r = lt-of-not-le (λ (g : r ≤ b). lt-irrefl _ (lt-of-lt-of-le k (le-trans (worth-mono r b g) (le-of-eq v)))) in
+          let l : b < r = lt-of-not-le (λ (g : r ≤ b).
+          lt-irrefl _ (lt-of-lt-of-le k (le-trans (worth-mono r b g) (le-of-eq v)))) in
           let s : 2 ^ i ≤ worth (r - 1) = le-trans (le-of-eq (sym v)) (worth-mono b (r - 1) (omega arith)) in
           let m : 2 ^ i + 2 ^ i < worth (r - 1) + worth r = omega arith in
           let q : 4 * n * 2 ^ 149 ≤ 4 * (2 ^ i * 2 ^ i) = le-trans (le-of-eq (mul-assoc 4 n (2 ^ 149))) (mul-le-mul-left 4 h) in
@@ -94,15 +101,19 @@ module _ (n r i : ℕ) (a : AtRoot n r) where
       small : suc (worth r) ≤ 2 ^ i → ⊥
       small k =
           let w : worth r < 2 ^ i = k in
-          let l : r < b = lt-of-not-le (λ (g : b ≤ r). lt-irrefl _ (lt-of-lt-of-le w (le-trans (le-of-eq (sym v)) (worth-mono b r g)))) in
+          let l : r < b = lt-of-not-le (λ (g : b ≤ r).
+          lt-irrefl _ (lt-of-lt-of-le w (le-trans (le-of-eq (sym v)) (worth-mono b r g)))) in
           let s : worth (r + 1) ≤ 2 ^ i = le-trans (worth-mono (r + 1) b (omega arith)) (le-of-eq v) in
           let t : worth (r + 1 - 1) ≡ worth r = ap worth same in
           let m : worth (r + 1 - 1) + worth (r + 1) < 2 ^ i + 2 ^ i = omega arith in
-          let q : 4 * (2 ^ i * 2 ^ i) ≤ 4 * n * 2 ^ 149 = le-trans (mul-le-mul-left 4 h) (le-of-eq (sym (mul-assoc 4 n (2 ^ 149)))) in
-          lt-irrefl _ (lt-of-lt-of-le (a .high) (le-trans (le-of-lt (square-lt _ _ m)) (le-trans (le-of-eq (even-square (2 ^ i))) q)))
+          let q : 4 * (2 ^ i * 2 ^ i) ≤ 4 * n * 2 ^ 149 =
+          le-trans (mul-le-mul-left 4 h) (le-of-eq (sym (mul-assoc 4 n (2 ^ 149)))) in
+          lt-irrefl _ (lt-of-lt-of-le (a .high)
+          (le-trans (le-of-lt (square-lt _ _ m)) (le-trans (le-of-eq (even-square (2 ^ i))) q)))
 
 root-within : (n i : ℕ) → n < 2 ^ 277 → n * 2 ^ 149 ≤ 2 ^ i * 2 ^ i → Within i (ofBits binary32 (rootBits n))
-root-within n i l h = within-value _ false (worth (rootBits n)) i (upper-bound n (rootBits n) i (rootBits-at n l) h) (bits-value (rootBits n) (root-finite n l))
+root-within n i l h = within-value _ false (worth (rootBits n)) i (upper-bound n (rootBits n) i (rootBits-at n l) h)
+    (bits-value (rootBits n) (root-finite n l))
 
 value-nonneg : (x : Float) (n : ℕ) → HasValue x false n (2 ^ 149) → NonNeg x
 value-nonneg nan n v = absurd v
@@ -114,28 +125,33 @@ root-nonneg : (n : ℕ) → n < 2 ^ 277 → NonNeg (ofBits binary32 (rootBits n)
 root-nonneg n l = value-nonneg _ (worth (rootBits n)) (bits-value (rootBits n) (root-finite n l))
 
 root-over : (n i : ℕ) → n < 2 ^ 277 → 2 ^ i * 2 ^ i ≤ n * 2 ^ 149 → Over i (ofBits binary32 (rootBits n))
-root-over n i l h = nonneg-over (root-nonneg n l) (apart-value _ false (worth (rootBits n)) i (lower-bound n (rootBits n) i (rootBits-at n l) h) (bits-value (rootBits n) (root-finite n l)))
+root-over n i l h = nonneg-over (root-nonneg n l) (apart-value _ false (worth (rootBits n)) i
+    (lower-bound n (rootBits n) i (rootBits-at n l) h) (bits-value (rootBits n) (root-finite n l)))
 
 -- ---- the root of a value
 
 count-le : (m : ℕ) (e : ℤ) (k : ℕ) → m * up e * 2 ^ 149 ≤ 2 ^ k * down e → m * up e * 2 ^ 149 / down e ≤ 2 ^ k
 count-le m e k h = div-le-of-le-mul (down e) (le-trans h (le-of-eq (mul-comm (2 ^ k) (down e))))
 
-pub sqrt-within : {j : ℕ} {x : Float} (i : ℕ) → Within j x → (x <ᶠ 0ᶠ) ≡ false → (j + 149 ≤ i + i) × (i ≤ 276) × (j ≤ 276) → Within i (sqrtOf x)
+pub sqrt-within : {j : ℕ} {x : Float} (i : ℕ) → Within j x → (x <ᶠ 0ᶠ) ≡ false → (j + 149 ≤ i + i) × (i ≤ 276)
+    × (j ≤ 276) → Within i (sqrtOf x)
 unfolding sqrtOf count
 sqrt-within i (within {s} {m = zero} {e} h) z c = zero-within s e i
 sqrt-within i (within {s = true} {m = suc m} {e} h) z c = absurd (true≢false (sym (below-zero m e) ∙ z))
 sqrt-within {j} i (within {s = false} {m = suc m} {e} h) z c =
     let n = count-le (suc m) e j h in
     root-within _ i (lt-of-le-of-lt n (lt-of-le-of-lt (pow-mono (c .2)) (lit< tt)))
-    (le-trans (mul-le-mul-right (2 ^ 149) n) (le-trans (le-of-eq (sym (pow-add 2 j 149))) (le-trans (pow-mono (c .0)) (le-of-eq (pow-add 2 i i)))))
+    (le-trans (mul-le-mul-right (2 ^ 149) n) (le-trans (le-of-eq (sym (pow-add 2 j 149)))
+    (le-trans (pow-mono (c .0)) (le-of-eq (pow-add 2 i i)))))
 
 pub sqrt-over : {j : ℕ} {x : Float} (i : ℕ) → Over j x → Within 276 x → i + i ≤ j + 149 → Over i (sqrtOf x)
 unfolding sqrtOf count
 sqrt-over {j} i (over {m = zero} {e} h) w c = absurd (lt-irrefl 0 (apart-pos j 0 e h))
 sqrt-over {j} i (over {m = suc m} {e} h) (within g) c =
     root-over _ i (lt-of-le-of-lt (count-le (suc m) e 276 g) (lit< tt))
-    (le-trans (le-of-eq (sym (pow-add 2 i i))) (le-trans (pow-mono c) (le-trans (le-of-eq (pow-add 2 j 149)) (mul-le-mul-right (2 ^ 149) (le-div-iff-mul-le (down-pos e) .1 h)))))
+    (le-trans (le-of-eq (sym (pow-add 2 i i)))
+    (le-trans (pow-mono c) (le-trans (le-of-eq (pow-add 2 j 149))
+    (mul-le-mul-right (2 ^ 149) (le-div-iff-mul-le (down-pos e) .1 h)))))
 
 pub sqrt-sign : {j k : ℕ} {x : Float} → Within j x → (x <ᶠ 0ᶠ) ≡ false → j ≤ 276 → Within k (sqrtOf x) → SignOfRoot (sqrtOf x)
 unfolding sqrtOf count
@@ -143,4 +159,5 @@ sqrt-sign (within {s = true} {m = zero} {e} h) z J w = minus-zero
 sqrt-sign (within {s = false} {m = zero} {e} h) z J w = upward
 sqrt-sign (within {s = true} {m = suc m} {e} h) z J w = absurd (true≢false (sym (below-zero m e) ∙ z))
 sqrt-sign {j} (within {s = false} {m = suc m} {e} h) z J w =
-    nonneg-sign-of-root (root-nonneg (suc m * up e * 2 ^ 149 / down e) (lt-of-le-of-lt (count-le (suc m) e j h) (lt-of-le-of-lt (pow-mono J) (lit< tt)))) w
+    nonneg-sign-of-root (root-nonneg (suc m * up e * 2 ^ 149 / down e)
+    (lt-of-le-of-lt (count-le (suc m) e j h) (lt-of-le-of-lt (pow-mono J) (lit< tt)))) w

@@ -16,8 +16,12 @@ returns : tie.Need-returns
 returns c =
     let r = c .before .before .before .before .before in
     let s = r .before .before .before .before .before in
-    let a = s .args in
-    (answers-failed refl, stays-ready (s .pre) refl refl (same-len-mid (a .before .theirs) (length (now (a .theirs)) - a .before .theirs) (now (a .theirs)) (r .read .last .0) (r .read .kept .0)) refl refl refl)
+    let a = s .args in (
+      answers-failed refl,
+      stays-ready (s .pre) refl refl
+          (same-len-mid (a .before .theirs) (length (now (a .theirs)) - a .before .theirs) (now (a .theirs))
+          (r .read .last .0) (r .read .kept .0)) refl refl refl,
+    )
 
 add-other : tie.Need-add-other
 add-other c =
@@ -34,8 +38,11 @@ compare-next-requires c κs =
     let r = d .before .before .before .before in
     let s = r .before .before .before .before .before in
     let a = s .args in
-    let few = rw (d .brought .given .1) at (r .read .ensures) in
-    (s .pre .ours-fit, other-fits (a .before) (now (a .input)) (now (a .ours)) (now (a .theirs)) (r .read .last .0) _ (s .pre) few (r .read .kept .0))
+    let few = rw (d .brought .given .1) at (r .read .ensures) in (
+      s .pre .ours-fit,
+      other-fits (a .before) (now (a .input)) (now (a .ours)) (now (a .theirs)) (r .read .last .0) _
+          (s .pre) few (r .read .kept .0),
+    )
 
 returns-2 : tie.Need-returns-2
 returns-2 c =
@@ -45,8 +52,10 @@ returns-2 c =
     let a = s .args in
     let few = rw (d .brought .given .1) at (r .read .ensures) in
     let n = c .before .before .before .before in (
-      answers-follow (a .before) (now (a .input)) (now (a .ours)) (now (a .theirs)) (r .read .last .0) _ (s .pre) few _ _ _ (n .compare-next .ensures),
-      answers-ready (a .before) (now (a .input)) (now (a .ours)) (now (a .theirs)) (r .read .last .0) _ (s .pre) few _ _ _ (n .compare-next .ensures) (r .read .kept .0) (n .compare-next .kept .0) (n .compare-next .kept .1 .0),
+      answers-follow (a .before) (now (a .input)) (now (a .ours)) (now (a .theirs)) (r .read .last .0) _ (s .pre) few _
+          _ _ (n .compare-next .ensures),
+      answers-ready (a .before) (now (a .input)) (now (a .ours)) (now (a .theirs)) (r .read .last .0) _ (s .pre) few _ _
+          _ (n .compare-next .ensures) (r .read .kept .0) (n .compare-next .kept .0) (n .compare-next .kept .1 .0),
     )
 
 pub answers-turn-spec : {M : Type 1} → statement M

@@ -7,14 +7,20 @@ use Rattle.compare.proofs.turn.Statement.{statement}
 use Rattle.compare.proofs.turn.Tie as tie
 
 scenes-turn-requires : tie.Need-scenes-turn-requires
-scenes-turn-requires c κs = (c .before .before .before .before .before .before .before .before .before .before .pre, sym (c .before .before .before .before .before .is-wanted .ensures) ∙ c .before .before .before .before .if1 .taken)
+scenes-turn-requires c κs = (
+  c .before .before .before .before .before .before .before .before .before .before .pre,
+  sym (c .before .before .before .before .before .is-wanted .ensures) ∙ c .before .before .before .before .if1 .taken,
+)
 
 returns-3 : tie.Need-returns-3
 returns-3 c =
     let s = c .before .before .before .before .before .before .before .before .before .before .before .before .before .before in
     let a = s .args in (
-      end-follows (a .before) _ (now (a .input)) (now (a .ours)) (now (a .theirs)) (s .pre) _ (sym (c .before .before .before .before .before .before .before .before .before .is-wanted .ensures) ∙ c .before .before .before .before .before .before .before .before .if1 .left)
-          (sym (c .before .before .before .before .before .before .before .is-wanted2 .ensures) ∙ c .before .before .before .before .before .before .if2 .left) (c .before .finish .ensures) refl,
+      end-follows (a .before) _ (now (a .input)) (now (a .ours)) (now (a .theirs)) (s .pre) _
+          (sym (c .before .before .before .before .before .before .before .before .before .is-wanted .ensures)
+          ∙ c .before .before .before .before .before .before .before .before .if1 .left)
+          (sym (c .before .before .before .before .before .before .before .is-wanted2 .ensures)
+          ∙ c .before .before .before .before .before .before .if2 .left) (c .before .finish .ensures) refl,
       stays-ready (s .pre) refl refl refl refl refl refl,
     )
 

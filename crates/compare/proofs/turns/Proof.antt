@@ -8,7 +8,8 @@ use Rattle.compare.proofs.turns.Tie as tie
 
 abbrev Inv-loop : tie.InvT-loop
 Inv-loop input₀ ours₀ theirs₀ files reading₀ left₀ input ours theirs reading left =
-    (length input ≡ length input₀) × (length ours ≡ length ours₀) × (length theirs ≡ length theirs₀) × Ready (length input) (length ours) (length theirs) reading
+    (length input ≡ length input₀) × (length ours ≡ length ours₀) × (length theirs ≡ length theirs₀)
+    × Ready (length input) (length ours) (length theirs) reading
 
 abbrev μ-loop : tie.MeasureT-loop
 μ-loop input₀ ours₀ theirs₀ files reading₀ left₀ input ours theirs reading left = left

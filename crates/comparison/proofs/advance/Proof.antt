@@ -38,25 +38,29 @@ returns : tie.Need-returns Inv-loop μ-loop
 returns c =
     let l = c .before .before .before .before .loop in
     let a = c .before .before .before .before .before .before .before .args in
-    c .stopped .ensures ∙ sym (l .inv ∙ stops (now (a .ours)) (now (a .theirs)) (l .at) (l .by) (l .next) (c .before .before .before .part-turn .ensures) (ap isOnward (c .before .enum-told .given .1)))
+    c .stopped .ensures ∙ sym (l .inv ∙ stops (now (a .ours)) (now (a .theirs)) (l .at) (l .by) (l .next)
+    (c .before .before .before .part-turn .ensures) (ap isOnward (c .before .enum-told .given .1)))
 
 returns-2 : tie.Need-returns-2 Inv-loop μ-loop
 returns-2 c =
     let l = c .before .before .before .before .loop in
     let a = c .before .before .before .before .before .before .before .args in
-    c .stopped2 .ensures ∙ sym (l .inv ∙ stops (now (a .ours)) (now (a .theirs)) (l .at) (l .by) (l .next) (c .before .before .before .part-turn .ensures) (ap isOnward (c .before .enum-told2 .given .1)))
+    c .stopped2 .ensures ∙ sym (l .inv ∙ stops (now (a .ours)) (now (a .theirs)) (l .at) (l .by) (l .next)
+    (c .before .before .before .part-turn .ensures) (ap isOnward (c .before .enum-told2 .given .1)))
 
 returns-3 : tie.Need-returns-3 Inv-loop μ-loop
 returns-3 c =
     let l = c .before .before .before .before .loop in
     let a = c .before .before .before .before .before .before .before .args in
-    c .stopped3 .ensures ∙ sym (l .inv ∙ stops (now (a .ours)) (now (a .theirs)) (l .at) (l .by) (l .next) (c .before .before .before .part-turn .ensures) (ap isOnward (c .before .enum-told3 .given .1)))
+    c .stopped3 .ensures ∙ sym (l .inv ∙ stops (now (a .ours)) (now (a .theirs)) (l .at) (l .by) (l .next)
+    (c .before .before .before .part-turn .ensures) (ap isOnward (c .before .enum-told3 .given .1)))
 
 returns-4 : tie.Need-returns-4 Inv-loop μ-loop
 returns-4 c =
     let l = c .before .before .before .before .loop in
     let a = c .before .before .before .before .before .before .before .args in
-    c .stopped4 .ensures ∙ sym (l .inv ∙ stops (now (a .ours)) (now (a .theirs)) (l .at) (l .by) (l .next) (c .before .before .before .part-turn .ensures) (ap isOnward (c .before .enum-told4 .given .1)))
+    c .stopped4 .ensures ∙ sym (l .inv ∙ stops (now (a .ours)) (now (a .theirs)) (l .at) (l .by) (l .next)
+    (c .before .before .before .part-turn .ensures) (ap isOnward (c .before .enum-told4 .given .1)))
 
 pub advance-spec : {M : Type 1} → statement M
 advance-spec =

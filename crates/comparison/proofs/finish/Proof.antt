@@ -10,13 +10,15 @@ use Rattle.comparison.proofs.finish.Tie as tie
 returns : tie.Need-returns
 returns c =
     let a = c .before .before .before .before .before .before .args in
-    ended-told (now (a .ours)) (now (a .theirs)) (a .place) (c .before .before .before .advance .ensures) (c .before .found .given .1)
+    ended-told (now (a .ours)) (now (a .theirs)) (a .place) (c .before .before .before .advance .ensures)
+    (c .before .found .given .1)
 
 returns-2 : tie.Need-returns-2
 returns-2 c =
     let a = c .before .before .before .before .before .before .before .args in
     c .told .ensures ∙ ap (toldIn _) (c .before .whole-turn .ensures)
-    ∙ going-told (now (a .ours)) (now (a .theirs)) (a .place) (c .before .before .before .before .advance .ensures) (c .before .before .enum-told .given .1)
+    ∙ going-told (now (a .ours)) (now (a .theirs)) (a .place) (c .before .before .before .before .advance .ensures)
+    (c .before .before .enum-told .given .1)
 
 pub finish-spec : {M : Type 1} → statement M
 finish-spec =

@@ -11,23 +11,62 @@ returns c = simp (ne-eqb _ _ (c .if1 .taken))
 
 returns-2 : tie.Need-returns-2
 unfolding matchedOutcomes
-returns-2 c = simp (not-true (c .before .same-number .result) (c .if2 .taken), ← c .before .same-number .ensures, eq-eqb _ _ (c .before .before .if1 .left))
+returns-2 c = simp (
+  not-true (c .before .same-number .result) (c .if2 .taken),
+  ← c .before .same-number .ensures,
+  eq-eqb _ _ (c .before .before .if1 .left),
+)
 
 returns-3 : tie.Need-returns-3
 unfolding matchedOutcomes
-returns-3 c = simp (not-true (c .before .same-number2 .result) (c .if3 .taken), ← c .before .same-number2 .ensures, not-false (c .before .before .before .same-number .result) (c .before .before .if2 .left), ← c .before .before .before .same-number .ensures, eq-eqb _ _ (c .before .before .before .before .if1 .left))
+returns-3 c = simp (
+  not-true (c .before .same-number2 .result) (c .if3 .taken),
+  ← c .before .same-number2 .ensures,
+  not-false (c .before .before .before .same-number .result) (c .before .before .if2 .left),
+  ← c .before .before .before .same-number .ensures,
+  eq-eqb _ _ (c .before .before .before .before .if1 .left),
+)
 
 returns-4 : tie.Need-returns-4
 unfolding matchedOutcomes
-returns-4 c = simp (ne-eqb _ _ (c .if4 .taken), not-false (c .before .before .before .before .same-number2 .result) (c .before .before .before .if3 .left), ← c .before .before .before .before .same-number2 .ensures, not-false (c .before .before .before .before .before .before .same-number .result) (c .before .before .before .before .before .if2 .left), ← c .before .before .before .before .before .before .same-number .ensures, eq-eqb _ _ (c .before .before .before .before .before .before .before .if1 .left))
+returns-4 c = simp (
+  ne-eqb _ _ (c .if4 .taken),
+  not-false (c .before .before .before .before .same-number2 .result)
+      (c .before .before .before .if3 .left),
+  ← c .before .before .before .before .same-number2 .ensures,
+  not-false (c .before .before .before .before .before .before .same-number .result)
+      (c .before .before .before .before .before .if2 .left),
+  ← c .before .before .before .before .before .before .same-number .ensures,
+  eq-eqb _ _ (c .before .before .before .before .before .before .before .if1 .left),
+)
 
 returns-5 : tie.Need-returns-5
 unfolding matchedOutcomes
-returns-5 c = simp (ne-eqb _ _ (c .if5 .taken), eq-eqb _ _ (c .before .before .before .if4 .left), not-false (c .before .before .before .before .before .before .before .same-number2 .result) (c .before .before .before .before .before .before .if3 .left), ← c .before .before .before .before .before .before .before .same-number2 .ensures, not-false (c .before .before .before .before .before .before .before .before .before .same-number .result) (c .before .before .before .before .before .before .before .before .if2 .left), ← c .before .before .before .before .before .before .before .before .before .same-number .ensures, eq-eqb _ _ (c .before .before .before .before .before .before .before .before .before .before .if1 .left))
+returns-5 c = simp (
+  ne-eqb _ _ (c .if5 .taken),
+  eq-eqb _ _ (c .before .before .before .if4 .left),
+  not-false (c .before .before .before .before .before .before .before .same-number2 .result)
+      (c .before .before .before .before .before .before .if3 .left),
+  ← c .before .before .before .before .before .before .before .same-number2 .ensures,
+  not-false (c .before .before .before .before .before .before .before .before .before .same-number .result)
+      (c .before .before .before .before .before .before .before .before .if2 .left),
+  ← c .before .before .before .before .before .before .before .before .before .same-number .ensures,
+  eq-eqb _ _ (c .before .before .before .before .before .before .before .before .before .before .if1 .left),
+)
 
 returns-6 : tie.Need-returns-6
 unfolding matchedOutcomes
-returns-6 c = simp (eq-eqb _ _ (c .if5 .left), eq-eqb _ _ (c .before .before .before .if4 .left), not-false (c .before .before .before .before .before .before .before .same-number2 .result) (c .before .before .before .before .before .before .if3 .left), ← c .before .before .before .before .before .before .before .same-number2 .ensures, not-false (c .before .before .before .before .before .before .before .before .before .same-number .result) (c .before .before .before .before .before .before .before .before .if2 .left), ← c .before .before .before .before .before .before .before .before .before .same-number .ensures, eq-eqb _ _ (c .before .before .before .before .before .before .before .before .before .before .if1 .left))
+returns-6 c = simp (
+  eq-eqb _ _ (c .if5 .left),
+  eq-eqb _ _ (c .before .before .before .if4 .left),
+  not-false (c .before .before .before .before .before .before .before .same-number2 .result)
+      (c .before .before .before .before .before .before .if3 .left),
+  ← c .before .before .before .before .before .before .before .same-number2 .ensures,
+  not-false (c .before .before .before .before .before .before .before .before .before .same-number .result)
+      (c .before .before .before .before .before .before .before .before .if2 .left),
+  ← c .before .before .before .before .before .before .before .before .before .same-number .ensures,
+  eq-eqb _ _ (c .before .before .before .before .before .before .before .before .before .before .if1 .left),
+)
 
 pub matched-outcomes-spec : {M : Type 1} → statement M
 matched-outcomes-spec =

@@ -11,7 +11,12 @@ returns c = simp (eq-eqb _ _ (c .if1 .taken))
 
 returns-2 : tie.Need-returns-2
 unfolding sameNumber
-returns-2 c = simp (← c .is-zero2 .ensures, c .before .if2 .taken, ← c .before .before .is-zero .ensures, ne-eqb _ _ (c .before .before .before .if1 .left))
+returns-2 c = simp (
+  ← c .is-zero2 .ensures,
+  c .before .if2 .taken,
+  ← c .before .before .is-zero .ensures,
+  ne-eqb _ _ (c .before .before .before .if1 .left),
+)
 
 returns-3 : tie.Need-returns-3
 unfolding sameNumber

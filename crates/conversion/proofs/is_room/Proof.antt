@@ -13,8 +13,8 @@ returns c = let a = c .before .args in rw (lt-leb (2 * a .input) (a .output) (om
 
 returns-2 : tie.Need-returns-2
 unfolding hasRoom
-returns-2 c = let a = c .before .before .args in
-    rw (le-leb (2 * a .input) (a .output) (omega arith)) (c .fits-behind .ensures)
+returns-2 c =
+    let a = c .before .before .args in rw (le-leb (2 * a .input) (a .output) (omega arith)) (c .fits-behind .ensures)
 
 pub is-room-spec : {M : Type 1} → statement M
 is-room-spec = tie.close (tie.spec returns (λ c κs. search needs) returns-2)

@@ -10,4 +10,5 @@ returns c = simp (← c .before .wrapping-add-u64 .ensures)
 
 pub add-refusal-spec : {M : Type 1} → statement M
 add-refusal-spec =
-    tie.close (tie.spec (λ c. search needs) (λ c. search needs) (λ c κs. search needs) (λ c. search needs) (λ c. search needs) returns)
+    tie.close (tie.spec (λ c. search needs) (λ c. search needs) (λ c κs. search needs) (λ c. search needs)
+    (λ c. search needs) returns)

@@ -17,7 +17,8 @@ abbrev Inv-loop : tie.InvT-loop
 Inv-loop part place most none sum₀ next₀ at₀ sum next at =
     (at ≤ length part)
     × (advanced most part next₀ sum₀ ≡ progress at next sum (wholesFrom (most - next) next (drop at part)))
-    × (largestIn (wholesFrom (most - next) next (drop at part)) < 2 ^ 32 → largestIn (wholesFrom (most - next₀) next₀ part) < 2 ^ 32)
+    × (largestIn (wholesFrom (most - next) next (drop at part)) < 2 ^ 32 →
+    largestIn (wholesFrom (most - next₀) next₀ part) < 2 ^ 32)
 
 abbrev μ-loop : tie.MeasureT-loop
 μ-loop part place most none sum₀ next₀ at₀ sum next at = length part - at
@@ -32,8 +33,10 @@ returns c =
     let l = c .before .before .before .before .before in
     let a = l .before .before .before .args in
     let step = rw (c .before .before .before .before .left .ensures) at (c .before .before .before .count-at .ensures) in
-    let none = met-end (a .most - l .loop .next) (l .loop .next) (now (a .part)) (l .loop .at) (l .loop .sum) (step .0) (c .before .enum-told .given .1) in (
-      c .going-on .ensures ∙ sym (l .loop .inv .1 ∙ ap (progress (l .loop .at) (l .loop .next) (l .loop .sum)) none ∙ progress-none (l .loop .at) (l .loop .next) (l .loop .sum)),
+    let none = met-end (a .most - l .loop .next) (l .loop .next) (now (a .part)) (l .loop .at) (l .loop .sum) (step .0)
+    (c .before .enum-told .given .1) in (
+      c .going-on .ensures ∙ sym (l .loop .inv .1 ∙ ap (progress (l .loop .at) (l .loop .next) (l .loop .sum)) none
+          ∙ progress-none (l .loop .at) (l .loop .next) (l .loop .sum)),
       l .loop .inv .2 (rw none (omega arith)),
     )
 
@@ -41,9 +44,12 @@ returns-2 : tie.Need-returns-2 Inv-loop μ-loop
 returns-2 c =
     let l = c .before .before .before .before .before .before in
     let a = l .before .before .before .args in
-    let step = rw (c .before .before .before .before .before .left .ensures) at (c .before .before .before .before .count-at .ensures) in
-    let none = met-fault (a .most - l .loop .next) (l .loop .next) (now (a .part)) (l .loop .at) (l .loop .sum) (step .0) (c .before .before .met .given .1) in (
-      rw (l .before .nothing .ensures) at (c .stopped .ensures) ∙ sym (l .loop .inv .1 ∙ ap (progress (l .loop .at) (l .loop .next) (l .loop .sum)) none),
+    let step =
+    rw (c .before .before .before .before .before .left .ensures) at (c .before .before .before .before .count-at .ensures) in
+    let none = met-fault (a .most - l .loop .next) (l .loop .next) (now (a .part)) (l .loop .at) (l .loop .sum)
+    (step .0) (c .before .before .met .given .1) in (
+      rw (l .before .nothing .ensures) at (c .stopped .ensures)
+          ∙ sym (l .loop .inv .1 ∙ ap (progress (l .loop .at) (l .loop .next) (l .loop .sum)) none),
       l .loop .inv .2 (rw none (omega arith)),
     )
 
@@ -52,7 +58,8 @@ add-next c =
     let l = c .before .before .before .before .before in
     let a = l .before .before .before .args in
     let step = rw (c .before .before .before .before .left .ensures) at (c .before .before .before .count-at .ensures) in
-    let m = met-record (a .most - l .loop .next) (l .loop .next) (now (a .part)) (l .loop .at) (l .loop .sum) (step .0) (c .before .enum-told2 .given .1) (step .1) in
+    let m = met-record (a .most - l .loop .next) (l .loop .next) (now (a .part)) (l .loop .at) (l .loop .sum) (step .0)
+    (c .before .enum-told2 .given .1) (step .1) in
     omega (arith, m .allowed)
 
 loop-less : tie.Need-loop-less Inv-loop μ-loop
@@ -60,7 +67,8 @@ loop-less c =
     let l = c .before .before .before .before .before in
     let a = l .before .before .before .args in
     let step = rw (c .before .before .before .before .left .ensures) at (c .before .before .before .count-at .ensures) in
-    let m = met-record (a .most - l .loop .next) (l .loop .next) (now (a .part)) (l .loop .at) (l .loop .sum) (step .0) (c .before .enum-told2 .given .1) (step .1) in
+    let m = met-record (a .most - l .loop .next) (l .loop .next) (now (a .part)) (l .loop .at) (l .loop .sum) (step .0)
+    (c .before .enum-told2 .given .1) (step .1) in
     omega (arith, m .onward, m .inside)
 
 loop-again : tie.Need-loop-again Inv-loop μ-loop
@@ -68,7 +76,8 @@ loop-again c =
     let l = c .before .before .before .before .before in
     let a = l .before .before .before .args in
     let step = rw (c .before .before .before .before .left .ensures) at (c .before .before .before .count-at .ensures) in
-    let m = met-record (a .most - l .loop .next) (l .loop .next) (now (a .part)) (l .loop .at) (l .loop .sum) (step .0) (c .before .enum-told2 .given .1) (step .1) in (
+    let m = met-record (a .most - l .loop .next) (l .loop .next) (now (a .part)) (l .loop .at) (l .loop .sum) (step .0)
+    (c .before .enum-told2 .given .1) (step .1) in (
       m .inside,
       l .loop .inv .1 ∙ goes-on (a .most) (l .loop .next) (now (a .part)) (l .loop .at) (l .loop .sum) _ m,
       λ h. l .loop .inv .2 (stays-small (a .most) (l .loop .next) (now (a .part)) (l .loop .at) (l .loop .sum) _ m h),
@@ -76,5 +85,6 @@ loop-again c =
 
 pub advance-within-spec : {M : Type 1} → statement M
 advance-within-spec =
-    tie.close (tie.spec Inv-loop μ-loop (λ c κs. search needs) loop-holds (λ c κs. search needs) (λ c κs. search needs) (λ c. search needs) (λ c κs. search needs) returns
+    tie.close (tie.spec Inv-loop μ-loop (λ c κs. search needs) loop-holds (λ c κs. search needs) (λ c κs. search needs)
+    (λ c. search needs) (λ c κs. search needs) returns
     (λ c. search needs) (λ c κs. search needs) returns-2 (λ c. search needs) add-next loop-less loop-again)

@@ -7,17 +7,45 @@ use Rattle.edges.proofs.get_line_for_agent_to_edge.Tie as tie
 
 returns : tie.Need-returns
 unfolding lineForEdge if_then_else_
-returns c = simp (c .if1 .taken, ← c .before .determinant .ensures, ← c .before .before .neg .ensures, ← c .before .before .before .sub3 .ensures, ← c .before .before .before .before .sub2 .ensures, ← c .before .before .before .before .before .sub .ensures)
+returns c = simp (
+  c .if1 .taken,
+  ← c .before .determinant .ensures,
+  ← c .before .before .neg .ensures,
+  ← c .before .before .before .sub3 .ensures,
+  ← c .before .before .before .before .sub2 .ensures,
+  ← c .before .before .before .before .before .sub .ensures,
+)
 
 returns-2 : tie.Need-returns-2
 unfolding lineForEdge if_then_else_
-returns-2 c = simp (c .if2 .taken, ← c .before .is-edge-covered .ensures, c .before .before .if1 .left, ← c .before .before .before .determinant .ensures, ← c .before .before .before .before .neg .ensures, ← c .before .before .before .before .before .sub3 .ensures, ← c .before .before .before .before .before .before .sub2 .ensures, ← c .before .before .before .before .before .before .before .sub .ensures)
+returns-2 c = simp (
+  c .if2 .taken,
+  ← c .before .is-edge-covered .ensures,
+  c .before .before .if1 .left,
+  ← c .before .before .before .determinant .ensures,
+  ← c .before .before .before .before .neg .ensures,
+  ← c .before .before .before .before .before .sub3 .ensures,
+  ← c .before .before .before .before .before .before .sub2 .ensures,
+  ← c .before .before .before .before .before .before .before .sub .ensures,
+)
 
 returns-3 : tie.Need-returns-3
 unfolding lineForEdge if_then_else_
-returns-3 c = simp (← c .line-in-front .ensures, ← c .before .edge-shape .ensures, c .before .before .if2 .left, ← c .before .before .before .is-edge-covered .ensures, c .before .before .before .before .if1 .left, ← c .before .before .before .before .before .determinant .ensures, ← c .before .before .before .before .before .before .neg .ensures, ← c .before .before .before .before .before .before .before .sub3 .ensures, ← c .before .before .before .before .before .before .before .before .sub2 .ensures, ← c .before .before .before .before .before .before .before .before .before .sub .ensures)
+returns-3 c = simp (
+  ← c .line-in-front .ensures,
+  ← c .before .edge-shape .ensures,
+  c .before .before .if2 .left,
+  ← c .before .before .before .is-edge-covered .ensures,
+  c .before .before .before .before .if1 .left,
+  ← c .before .before .before .before .before .determinant .ensures,
+  ← c .before .before .before .before .before .before .neg .ensures,
+  ← c .before .before .before .before .before .before .before .sub3 .ensures,
+  ← c .before .before .before .before .before .before .before .before .sub2 .ensures,
+  ← c .before .before .before .before .before .before .before .before .before .sub .ensures,
+)
 
 pub get-line-for-agent-to-edge-spec : {M : Type 1} → statement M
 get-line-for-agent-to-edge-spec =
-    tie.close (tie.spec (λ c κs. search needs) (λ c κs. search needs) (λ c κs. search needs) (λ c κs. search needs) (λ c κs. search needs) returns
+    tie.close (tie.spec (λ c κs. search needs) (λ c κs. search needs) (λ c κs. search needs) (λ c κs. search needs)
+    (λ c κs. search needs) returns
     (λ c κs. search needs) returns-2 (λ c κs. search needs) (λ c κs. search needs) returns-3)

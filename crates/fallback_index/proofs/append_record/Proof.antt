@@ -17,9 +17,12 @@ returns-3 : tie.Need-returns-3
 returns-3 c =
     let told = c .before .before .before .before .before in
     let start = told .before .before .before .before .before in
-    append-done _ _ _ _ (start .if1 .left) _ _ _ (rw (told .update2 .given .1) at (told .before .before .update-in .ensures)) _ (c .before .before .store-update .ensures)
+    append-done _ _ _ _ (start .if1 .left) _ _ _
+    (rw (told .update2 .given .1) at (told .before .before .update-in .ensures)) _
+    (c .before .before .store-update .ensures)
 
 pub append-record-spec : {M : Type 1} → statement M
 append-record-spec =
-    tie.close (tie.spec returns (λ c. search needs) (λ c. search needs) (λ c. search needs) (λ c κs. search needs) (λ c. search needs) (λ c. search needs)
+    tie.close (tie.spec returns (λ c. search needs) (λ c. search needs) (λ c. search needs) (λ c κs. search needs)
+    (λ c. search needs) (λ c. search needs)
     (λ c κs. search needs) (λ c. search needs) returns-2 (λ c. search needs) returns-3)

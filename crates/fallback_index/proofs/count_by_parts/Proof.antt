@@ -25,7 +25,9 @@ enum-known-judged : tie.Need-enum-known-judged
 enum-known-judged c = search needs
 
 returns : tie.Need-returns
-returns c = parts-refused _ _ _ _ _ _ _ _ _ _ _ (c .before .before .before .before .before .word-at .ensures) (c .before .before .before .before .word-at2 .ensures) _ (sym (ap faultOf (c .before .judged .given .1)) ∙ c .before .before .before .judge .ensures)
+returns c = parts-refused _ _ _ _ _ _ _ _ _ _ _ (c .before .before .before .before .before .word-at .ensures)
+    (c .before .before .before .before .word-at2 .ensures) _ (sym (ap faultOf (c .before .judged .given .1))
+    ∙ c .before .before .before .judge .ensures)
 
 enum-told : tie.Need-enum-told
 enum-told c = search needs
@@ -42,7 +44,9 @@ count-between-requires c κs = search needs
 returns-2 : tie.Need-returns-2
 returns-2 c =
     let judged = c .before .before .before .before .before in
-    c .count-between .ensures ∙ parts-counted _ _ _ _ _ _ _ _ _ _ _ (judged .before .before .word-at .ensures) (judged .before .word-at2 .ensures) (sym (ap faultOf (c .before .before .before .enum-told .given .1)) ∙ judged .judge .ensures) (c .before .before .count-before .ensures .0) (c .before .count-before2 .ensures .0)
+    c .count-between .ensures ∙ parts-counted _ _ _ _ _ _ _ _ _ _ _ (judged .before .before .word-at .ensures)
+    (judged .before .word-at2 .ensures) (sym (ap faultOf (c .before .before .before .enum-told .given .1))
+    ∙ judged .judge .ensures) (c .before .before .count-before .ensures .0) (c .before .count-before2 .ensures .0)
 
 pub count-by-parts-spec : {M : Type 1} → statement M
 count-by-parts-spec =

@@ -142,9 +142,11 @@ returns c =
     c .count-by-parts .ensures
     ∙ question-cut _ _ _ (head .start-within .ensures .0) _ _
     (cut-by (place-a .entry-at .ensures) refl (at-a .start-within2 .ensures .0) (to-a .end-within .ensures .0))
-    (cut-by (word-a .word-at .ensures) (bytes-a .most-bytes .ensures) (from-a .start-within4 .ensures .0) (past-a .end-within3 .ensures .0))
+    (cut-by (word-a .word-at .ensures) (bytes-a .most-bytes .ensures) (from-a .start-within4 .ensures .0)
+    (past-a .end-within3 .ensures .0))
     (cut-by (place-b .entry-at2 .ensures) refl (at-b .start-within3 .ensures .0) (to-b .end-within2 .ensures .0))
-    (cut-by (word-b .word-at2 .ensures) (bytes-b .most-bytes2 .ensures) (from-b .start-within5 .ensures .0) (past-b .end-within4 .ensures .0))
+    (cut-by (word-b .word-at2 .ensures) (bytes-b .most-bytes2 .ensures) (from-b .start-within5 .ensures .0)
+    (past-b .end-within4 .ensures .0))
 
 pub count-fallbacks-spec : {M : Type 1} → statement M
 count-fallbacks-spec =

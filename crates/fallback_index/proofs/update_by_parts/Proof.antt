@@ -33,7 +33,8 @@ enum-known-asked : tie.Need-enum-known-asked
 enum-known-asked c = search needs
 
 returns : tie.Need-returns
-returns c = update-refused _ _ _ _ _ _ _ _ _ (c .before .before .before .before .before .word-at2 .ensures) _ (rw (c .before .asked .given .1) at (c .before .before .before .count-by-parts .ensures))
+returns c = update-refused _ _ _ _ _ _ _ _ _ (c .before .before .before .before .before .word-at2 .ensures) _
+    (rw (c .before .asked .given .1) at (c .before .before .before .count-by-parts .ensures))
 
 enum-told : tie.Need-enum-told
 enum-told c = search needs
@@ -48,19 +49,27 @@ enum-known-met-2 : tie.Need-enum-known-met-2
 enum-known-met-2 c = search needs
 
 grown-by-requires : tie.Need-grown-by-requires
-grown-by-requires c κs = (search needs, (search needs, rw (c .before .met2 .given .1) at (c .before .before .before .count-before .ensures .1)))
+grown-by-requires c κs = (
+  search needs,
+  (search needs, rw (c .before .met2 .given .1) at (c .before .before .before .count-before .ensures .1)),
+)
 
 returns-2 : tie.Need-returns-2
 returns-2 c =
     let found = c .before .before .before in
     let asked = found .before .before .before in
-    update-bad _ _ _ _ _ _ _ _ _ (asked .before .before .word-at2 .ensures) _ (rw (found .before .enum-told .given .1) at (asked .count-by-parts .ensures)) _ (rw (c .before .met .given .1) at (found .count-before .ensures .0))
+    update-bad _ _ _ _ _ _ _ _ _ (asked .before .before .word-at2 .ensures) _
+    (rw (found .before .enum-told .given .1) at (asked .count-by-parts .ensures)) _
+    (rw (c .before .met .given .1) at (found .count-before .ensures .0))
 
 returns-3 : tie.Need-returns-3
 returns-3 c =
     let found = c .before .before .before .before in
     let asked = found .before .before .before in
-    c .grown-by .ensures ∙ update-grown _ _ _ _ _ _ _ _ _ (asked .before .before .word-at2 .ensures) _ (rw (found .before .enum-told .given .1) at (asked .count-by-parts .ensures)) _ _ (asked .before .before .before .word-at .ensures) (rw (c .before .before .met2 .given .1) at (found .count-before .ensures .0))
+    c .grown-by .ensures ∙ update-grown _ _ _ _ _ _ _ _ _ (asked .before .before .word-at2 .ensures) _
+    (rw (found .before .enum-told .given .1) at (asked .count-by-parts .ensures)) _ _
+    (asked .before .before .before .word-at .ensures)
+    (rw (c .before .before .met2 .given .1) at (found .count-before .ensures .0))
 
 pub update-by-parts-spec : {M : Type 1} → statement M
 update-by-parts-spec =

@@ -24,8 +24,12 @@ loop-again : tie.Need-loop-again Inv-loop μ-loop
 loop-again c =
     let l = c .before .before .loop in
     let b = now (c .before .before .before .before .before .args .numbers) in
-    let long = lines-long b in
-    (omega arith, simp length-set (l .inv .1), filled-next (l .held) (linesOf b) (l .i) offLine (omega arith) (omega arith) (l .inv .2) (c .line-at .ensures))
+    let long = lines-long b in (
+      omega arith,
+      simp length-set (l .inv .1),
+      filled-next (l .held) (linesOf b) (l .i) offLine (omega arith)
+          (omega arith) (l .inv .2) (c .line-at .ensures),
+    )
 
 returns : tie.Need-returns Inv-loop μ-loop
 returns c =
@@ -36,5 +40,6 @@ returns c =
 
 pub lines-in-spec : {M : Type 1} → statement M
 lines-in-spec =
-    tie.close (tie.spec Inv-loop μ-loop (λ c κs. search needs) loop-holds (λ c κs. search needs) (λ c. search needs) (λ c. search needs)
+    tie.close (tie.spec Inv-loop μ-loop (λ c κs. search needs) loop-holds (λ c κs. search needs) (λ c. search needs)
+    (λ c. search needs)
     (λ c. search needs) (λ c. search needs) loop-again returns)

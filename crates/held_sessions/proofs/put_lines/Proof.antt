@@ -39,9 +39,11 @@ returns c =
     let a = c .before .before .before .args in
     let long = lines-long (l .numbers) in
     let size : length (a .t1) ≡ 256 = search needs in
-    sym (numbers-back (l .numbers) (omega arith)) ∙ ap numbersOf (filled (linesOf (l .numbers)) (a .t1) (l .n) (omega arith) (omega arith) (l .inv .2))
+    sym (numbers-back (l .numbers) (omega arith))
+    ∙ ap numbersOf (filled (linesOf (l .numbers)) (a .t1) (l .n) (omega arith) (omega arith) (l .inv .2))
 
 pub put-lines-spec : {M : Type 1} → statement M
 put-lines-spec =
-    tie.close (tie.spec Inv-loop μ-loop loop-holds (λ c. search needs) (λ c. search needs) (λ c κs. search needs) (λ c. search needs)
+    tie.close (tie.spec Inv-loop μ-loop loop-holds (λ c. search needs) (λ c. search needs) (λ c κs. search needs)
+    (λ c. search needs)
     (λ c. search needs) loop-again (λ c. search needs) returns)

@@ -29,7 +29,8 @@ loop-again c =
     let size : length (a .t1) ≡ 256 = search needs in (
       omega arith,
       c .before .before .put-origin .kept .0 ∙ l .inv .1,
-      rw (c .before .before .put-origin .ensures) (filled-next (originsOf (l .numbers)) (a .t1) (l .n) unknown (omega arith) (omega arith) (l .inv .2) refl),
+      rw (c .before .before .put-origin .ensures) (filled-next (originsOf (l .numbers)) (a .t1) (l .n) unknown
+          (omega arith) (omega arith) (l .inv .2) refl),
     )
 
 returns : tie.Need-returns Inv-loop μ-loop
@@ -42,5 +43,6 @@ returns c =
 
 pub put-origins-spec : {M : Type 1} → statement M
 put-origins-spec =
-    tie.close (tie.spec Inv-loop μ-loop loop-holds (λ c. search needs) (λ c. search needs) (λ c κs. search needs) (λ c. search needs)
+    tie.close (tie.spec Inv-loop μ-loop loop-holds (λ c. search needs) (λ c. search needs) (λ c κs. search needs)
+    (λ c. search needs)
     (λ c. search needs) loop-again (λ c. search needs) returns)

@@ -6,7 +6,13 @@ use Rattle.held_sessions.proofs.put_session.Tie as tie
 
 returns : tie.Need-returns
 unfolding blockOf
-returns c = rw (c .before .before .before .before .put-lines .ensures, c .before .before .put-origins .ensures, c .before .numbers-of .ensures, c .words-of .ensures)
+returns c = rw (
+  c .before .before .before .before .put-lines .ensures,
+  c .before .before .put-origins .ensures,
+  c .before .numbers-of .ensures,
+  c .words-of .ensures,
+)
 
 pub put-session-spec : {M : Type 1} → statement M
-put-session-spec = tie.close (tie.spec (λ c κs. search needs) (λ c κs. search needs) (λ c κs. search needs) (λ c κs. search needs) returns)
+put-session-spec = tie.close (tie.spec (λ c κs. search needs) (λ c κs. search needs) (λ c κs. search needs)
+    (λ c κs. search needs) returns)

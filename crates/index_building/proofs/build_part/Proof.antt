@@ -19,7 +19,8 @@ returns-2 : tie.Need-returns-2
 returns-2 c =
     let walked = c .before .before .before .before .before in
     let told = walked .before in
-    part-short _ _ _ (sym (ap faultOf (told .enum-told .given .1)) ∙ told .before .before .judge-extent .ensures) _ _ (rw (c .before .before .before .progress2 .given .1) at (walked .walk-part .ensures))
+    part-short _ _ _ (sym (ap faultOf (told .enum-told .given .1)) ∙ told .before .before .judge-extent .ensures) _ _
+    (rw (c .before .before .before .progress2 .given .1) at (walked .walk-part .ensures))
     (omega (arith, c .if1 .taken, c .before .entry-bytes .ensures))
 
 fill-requires : tie.Need-fill-requires
@@ -28,7 +29,8 @@ fill-requires c κs =
     let told = walked .before in
     let a = told .before .before .before .before .before .args in
     let progress = c .before .before .before .before in
-    let w = part-whole (a .before) (wholesOf (now (a .part))) (progress .progress2 .given .0 .0) (progress .progress2 .given .0 .1 .0) (rw (progress .progress2 .given .1) at (walked .walk-part .ensures)) in (
+    let w = part-whole (a .before) (wholesOf (now (a .part))) (progress .progress2 .given .0 .0)
+    (progress .progress2 .given .0 .1 .0) (rw (progress .progress2 .given .1) at (walked .walk-part .ensures)) in (
       sym (sym (ap faultOf (told .enum-told .given .1)) ∙ told .before .before .judge-extent .ensures),
       (w .0, omega (arith, w .1, c .before .if1 .left, c .before .before .entry-bytes .ensures)),
     )
@@ -37,16 +39,21 @@ returns-3 : tie.Need-returns-3
 returns-3 c =
     let walked = c .before .before .before in
     let told = walked .before in
-    part-refused _ _ _ (sym (ap faultOf (told .enum-told .given .1)) ∙ told .before .before .judge-extent .ensures) _ (rw (c .before .progress .given .1) at (walked .walk-part .ensures))
+    part-refused _ _ _ (sym (ap faultOf (told .enum-told .given .1)) ∙ told .before .before .judge-extent .ensures) _
+    (rw (c .before .progress .given .1) at (walked .walk-part .ensures))
 
 returns-4 : tie.Need-returns-4
 returns-4 c =
     let walked = c .before .before .before .before .before .before .before .before .before in
     let told = walked .before in
-    part-done _ _ _ (sym (ap faultOf (told .enum-told .given .1)) ∙ told .before .before .judge-extent .ensures) _ _ (rw (c .before .before .before .before .before .before .before .progress2 .given .1) at (walked .walk-part .ensures))
-    _ (c .before .before .before .before .before .entry-bytes .ensures) (c .before .before .before .before .if1 .left) _ (c .before .before .fill .ensures)
+    part-done _ _ _ (sym (ap faultOf (told .enum-told .given .1)) ∙ told .before .before .judge-extent .ensures) _ _
+    (rw
+    (c .before .before .before .before .before .before .before .progress2 .given .1) at (walked .walk-part .ensures))
+    _ (c .before .before .before .before .before .entry-bytes .ensures) (c .before .before .before .before .if1 .left) _
+    (c .before .before .fill .ensures)
 
 pub build-part-spec : {M : Type 1} → statement M
 build-part-spec =
-    tie.close (tie.spec (λ c κs. search needs) (λ c. search needs) returns (λ c. search needs) walk-part-requires (λ c. search needs) (λ c. search needs)
+    tie.close (tie.spec (λ c κs. search needs) (λ c. search needs) returns (λ c. search needs) walk-part-requires
+    (λ c. search needs) (λ c. search needs)
     (λ c κs. search needs) returns-2 fill-requires returns-3 (λ c. search needs) returns-4)

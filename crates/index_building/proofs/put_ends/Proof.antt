@@ -12,7 +12,8 @@ returns-2 : tie.Need-returns-2
 returns-2 c = ends-many _ _ _ _ (omega (arith, c .before .if1 .left)) (c .if2 .taken)
 
 returns-3 : tie.Need-returns-3
-returns-3 c = ends-short _ _ _ _ (omega (arith, c .before .before .if1 .left)) (omega (arith, c .before .if2 .left)) (c .if3 .taken)
+returns-3 c = ends-short _ _ _ _ (omega (arith, c .before .before .if1 .left)) (omega (arith, c .before .if2 .left))
+    (c .if3 .taken)
 
 put-new-entry-requires : tie.Need-put-new-entry-requires
 put-new-entry-requires c κs =
@@ -32,9 +33,11 @@ returns-4 c =
     let head = put .before .before .before .before in
     let room = head .before .before in
     let few = room .before in
-    ends-done _ _ _ _ (omega (arith, few .before .if1 .left)) (omega (arith, few .if2 .left)) (omega (arith, room .if3 .left)) _ _ _
+    ends-done _ _ _ _ (omega (arith, few .before .if1 .left)) (omega (arith, few .if2 .left))
+    (omega (arith, room .if3 .left)) _ _ _
     (head .put-head .ensures) (put .put-new-entry .ensures .0) (put .put-new-entry .ensures .1)
 
 pub put-ends-spec : {M : Type 1} → statement M
 put-ends-spec =
-    tie.close (tie.spec returns returns-2 returns-3 (λ c. search needs) (λ c. search needs) (λ c κs. search needs) put-new-entry-requires same-length returns-4)
+    tie.close (tie.spec returns returns-2 returns-3 (λ c. search needs) (λ c. search needs)
+    (λ c κs. search needs) put-new-entry-requires same-length returns-4)

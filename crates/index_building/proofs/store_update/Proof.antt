@@ -15,14 +15,22 @@ returns-3 : tie.Need-returns-3
 returns-3 c =
     let place = c .before in
     let few = place .before in
-    stored-short _ _ _ _ (omega (arith, few .before .if1 .left)) (omega (arith, few .if2 .left)) (omega (arith, c .if3 .taken, place .entry-at .ensures))
+    stored-short _ _ _ _ (omega (arith, few .before .if1 .left)) (omega (arith, few .if2 .left))
+    (omega (arith, c .if3 .taken, place .entry-at .ensures))
 
 put-new-entry-requires : tie.Need-put-new-entry-requires
 put-new-entry-requires c κs =
     let head = c .before .before .before .before in
     let room = head .before .before in
     let a = room .before .before .before .before .before .args in
-    omega (arith, c .entry-at2 .ensures, new-length (a .count) (a .total) (a .before), head .put-head .kept .0, room .if3 .left, room .before .entry-at .ensures)
+    omega (
+      arith,
+      c .entry-at2 .ensures,
+      new-length (a .count) (a .total) (a .before),
+      head .put-head .kept .0,
+      room .if3 .left,
+      room .before .entry-at .ensures,
+    )
 
 same-length : tie.Need-same-length
 same-length c =
@@ -42,5 +50,6 @@ returns-4 c =
 
 pub store-update-spec : {M : Type 1} → statement M
 store-update-spec =
-    tie.close (tie.spec returns returns-2 (λ c κs. search needs) (λ c. search needs) returns-3 (λ c. search needs) (λ c. search needs) (λ c κs. search needs)
+    tie.close (tie.spec returns returns-2 (λ c κs. search needs) (λ c. search needs) returns-3 (λ c. search needs)
+    (λ c. search needs) (λ c κs. search needs)
     (λ c. search needs) (λ c κs. search needs) put-new-entry-requires same-length returns-4)

@@ -16,7 +16,11 @@ returns-2 c = simp (le-ltb _ _ (c .before .if1 .left), lt-ltb _ _ (c .if2 .taken
 
 returns-3 : tie.Need-returns-3
 unfolding keptOver if_then_else_
-returns-3 c = simp (c .before .before .shift .ensures, le-ltb _ _ (c .before .before .before .before .before .if1 .left), le-ltb _ _ (c .before .before .before .before .if2 .left))
+returns-3 c = simp (
+  c .before .before .shift .ensures,
+  le-ltb _ _ (c .before .before .before .before .before .if1 .left),
+  le-ltb _ _ (c .before .before .before .before .if2 .left),
+)
 
 pub keep-spec : {M : Type 1} → statement M
 keep-spec =

@@ -50,4 +50,5 @@ returns c =
 
 pub shift-spec : {M : Type 1} → statement M
 shift-spec =
-    tie.close (tie.spec Inv-loop μ-loop loop-holds add-buffer slice-read-buffer slice-write-buffer add-i loop-less loop-again same-length returns)
+    tie.close (tie.spec Inv-loop μ-loop loop-holds add-buffer slice-read-buffer slice-write-buffer add-i loop-less
+    loop-again same-length returns)

@@ -1,4 +1,5 @@
--- How large an admitted wish, its limit and admitted lines are at most, and that an admitted direction has a length. Assumes nothing.
+-- How large an admitted wish, its limit and admitted lines are at most, and that an admitted direction has a length.
+-- Assumes nothing.
 use mathlib.Core.Path.{_≡_, sym, _∙_}
 use mathlib.Core.Logic.{_⊎_, inl, inr}
 use native.Mathlib.Omega.{arith}
@@ -62,7 +63,8 @@ wish-admitted wish limit h =
         x-in = le-within (wish .x) (reach-in .1) (reach-in .0) (must-fine _ 6 (a .0));
         y-in = le-within (wish .y) (reach-in .1) (reach-in .0) (must-fine _ 6 (b .0));
       },
-      between-within limit (limit-in .1) (limit-in .0) (and-left (0ᶠ ≤ᶠ limit) (limit ≤ᶠ longest) c) (and-right (0ᶠ ≤ᶠ limit) (limit ≤ᶠ longest) c),
+      between-within limit (limit-in .1) (limit-in .0) (and-left (0ᶠ ≤ᶠ limit) (limit ≤ᶠ longest) c)
+          (and-right (0ᶠ ≤ᶠ limit) (limit ≤ᶠ longest) c),
     )
 
 -- ---- a direction in its band is at most 2
@@ -73,14 +75,18 @@ module _ (x y : Float) (f : finite x ≡ true) (g : finite y ≡ true) (h : (x �
     where
       go : Within 150 x ⊎ Apart 150 x → Within 150 x
       go (inl w) = w
-      go (inr a) = absurd (false≢true (sym (over-not-le (add-over-nonneg (square-over 151 a f (omega arith)) (square-nonneg y g)) high-in (omega arith)) ∙ h))
+      go (inr a) =
+          absurd (false≢true (sym (over-not-le (add-over-nonneg (square-over 151 a f (omega arith)) (square-nonneg y g))
+          high-in (omega arith)) ∙ h))
 
   second-in : Within 150 y
   second-in = go (within-or-apart 150 y g)
     where
       go : Within 150 y ⊎ Apart 150 y → Within 150 y
       go (inl w) = w
-      go (inr a) = absurd (false≢true (sym (over-not-le (add-nonneg-over (square-nonneg x f) (square-over 151 a g (omega arith))) high-in (omega arith)) ∙ h))
+      go (inr a) =
+          absurd (false≢true (sym (over-not-le (add-nonneg-over (square-nonneg x f) (square-over 151 a g (omega arith)))
+          high-in (omega arith)) ∙ h))
 
 line-admitted : (l : Line) → lineFault l ≡ fine → Admitted l
 unfolding lineFault isWithin inside lengthSquaredOf dotOf
@@ -99,7 +105,10 @@ line-admitted l h =
           x-in = le-within (l .point .x) (line-reach-in .1) (line-reach-in .0) (must-fine _ 6 (a .0));
           y-in = le-within (l .point .y) (line-reach-in .1) (line-reach-in .0) (must-fine _ 6 (b .0));
         };
-        direction-in = record { x-in = first-in (l .direction .x) (l .direction .y) p q high; y-in = second-in (l .direction .x) (l .direction .y) p q high };
+        direction-in = record {
+          x-in = first-in (l .direction .x) (l .direction .y) p q high;
+          y-in = second-in (l .direction .x) (l .direction .y) p q high;
+        };
       };
       band = and-left (bandLow ≤ᶠ lengthSquaredOf (l .direction)) (lengthSquaredOf (l .direction) ≤ᶠ bandHigh) e;
     }

@@ -1,5 +1,6 @@
--- Over admitted lines no solve is refused: at the clamp the ends are in order, and the starting point, the points and the penetrations are finite.
--- Tightened lines have points up to 2 ^ 50, so the same laws of a pass serve the inner solves. Assumes nothing.
+-- Over admitted lines no solve is refused: at the clamp the ends are in order, and the starting point, the points and
+-- the penetrations are finite. Tightened lines have points up to 2 ^ 50, so the same laws of a pass serve the inner
+-- solves. Assumes nothing.
 use mathlib.Core.Path.{_≡_}
 use Prim.Native.Nat.{ℕ}
 use native.Mathlib.Omega.{arith}
@@ -55,23 +56,28 @@ module _ (own prev : Line) (O : Admitted own) (P : Admitted prev) where
 
   midpoint-in : Inside 199 (midpoint own prev)
   unfolding midpoint
-  midpoint-in = mul-inside 199 (add-inside 178 (O .line-in .point-in) (P .line-in .point-in) (omega arith)) half-within (omega arith)
+  midpoint-in = mul-inside 199 (add-inside 178 (O .line-in .point-in) (P .line-in .point-in) (omega arith)) half-within
+      (omega arith)
 
   intersection-in : (absOf det ≤ᶠ epsilon) ≡ false → Inside 199 (intersection own prev)
   unfolding intersection
   intersection-in t =
       let d : Within 152 det = determinant-within 152 (O .line-in .direction-in) (P .line-in .direction-in) (omega arith) in
-      let m = determinant-within 180 (P .line-in .direction-in) (sub-inside 178 (O .line-in .point-in) (P .line-in .point-in) (omega arith)) (omega arith) in
-      on-line 177 (omega arith) own (O .line-in) (div-within 197 m (not-le-apart det (within-finite d) epsilon-over t) (omega arith))
+      let m = determinant-within 180 (P .line-in .direction-in)
+      (sub-inside 178 (O .line-in .point-in) (P .line-in .point-in) (omega arith)) (omega arith) in
+      on-line 177 (omega arith) own (O .line-in) (div-within 197 m (not-le-apart det (within-finite d) epsilon-over t)
+      (omega arith))
 
   tighten-in : TightIn (tighten own prev)
   unfolding tighten tightAt
   tighten-in =
       if-case TightIn (absOf det ≤ᶠ epsilon)
-      (λ t. if-case TightIn (0ᶠ <ᶠ dotOf (own .direction) (prev .direction)) (λ u. skipped-in) (λ u. kept-in (record { point-in = midpoint-in; direction-in = not-one-way own prev O P u })))
+      (λ t. if-case TightIn (0ᶠ <ᶠ dotOf (own .direction) (prev .direction)) (λ u. skipped-in)
+      (λ u. kept-in (record { point-in = midpoint-in; direction-in = not-one-way own prev O P u })))
       (λ t. kept-in (record { point-in = intersection-in t; direction-in = not-parallel own prev O P t }))
 
-fold-in : (own : Line) → Admitted own → {made l : List Line} → All (LineIn 199) made → All Admitted l → All (LineIn 199) (foldl (tightenNext own) made l)
+fold-in : (own : Line) → Admitted own → {made l : List Line} → All (LineIn 199) made → All Admitted l →
+    All (LineIn 199) (foldl (tightenNext own) made l)
 unfolding tightenNext
 fold-in own O h none = h
 fold-in own O h (more {x} p ps) = fold-in own O (behind-in h (tighten-in own x O p)) ps
@@ -86,11 +92,13 @@ tightened-in rigid own O E = fold-in own O (all-map farther (all-take rigid E)) 
 data Relaxes : Relaxed → Type 0 where
   relaxes : {p : Vec2} {depth : Float} {n : ℕ} → Relaxes (relaxed p depth n)
 
-replaced-relaxes : (own : Line) (p : Vec2) (depth : Float) (n : ℕ) → Admitted own → {s : Pass} → Goes 221 s → Relaxes (replaced own p depth n s)
+replaced-relaxes : (own : Line) (p : Vec2) (depth : Float) (n : ℕ) → Admitted own → {s : Pass} → Goes 221 s →
+    Relaxes (replaced own p depth n s)
 unfolding replaced finitePoint depthIn if_then_else_
 replaced-relaxes own p depth n O ends = relaxes
 replaced-relaxes own p depth n O (goes {q} h) =
-    let d = determinant-within 224 (O .line-in .direction-in) (sub-inside 222 (O .line-in .point-in) h (omega arith)) (omega arith) in
+    let d = determinant-within 224 (O .line-in .direction-in) (sub-inside 222 (O .line-in .point-in) h (omega arith))
+    (omega arith) in
     rw (inside-finite h, within-finite d) relaxes
 
 -- the whole list stands: no refusal
@@ -101,29 +109,37 @@ relaxed-stood : (f : Failed) {s : Relaxed} → Relaxes s → Stood (relaxedOutco
 relaxed-stood f relaxes = stood
 
 module _ (rigid : ℕ) (limit : Float) (L : Within 159 limit) where
-  inner-goes : (own : Line) {e : List Line} → Admitted own → All Admitted e → Goes 221 (pass (along (perpOf (own .direction))) limit (tightened rigid own e))
+  inner-goes : (own : Line) {e : List Line} → Admitted own → All Admitted e →
+      Goes 221 (pass (along (perpOf (own .direction))) limit (tightened rigid own e))
   inner-goes own O E =
       let d = perp-inside (O .line-in .direction-in) in
-      pass-goes 199 (omega arith) (along (perpOf (own .direction))) limit (pointed d) L 221 (omega arith) (tightened-in rigid own O E) (roomier (omega arith) (along-inside limit d L))
+      pass-goes 199 (omega arith) (along (perpOf (own .direction))) limit (pointed d) L 221 (omega arith)
+      (tightened-in rigid own O E) (roomier (omega arith) (along-inside limit d L))
 
-  line-relaxes : (e : List Line) (own : Line) (s : Relaxed) → All Admitted e → Admitted own → Relaxes s → Relaxes (relaxLine rigid limit e own s)
+  line-relaxes : (e : List Line) (own : Line) (s : Relaxed) → All Admitted e → Admitted own → Relaxes s →
+      Relaxes (relaxLine rigid limit e own s)
   unfolding relaxLine
-  line-relaxes e own s E O (relaxes {p} {depth}) = if-all Relaxes _ relaxes (replaced-relaxes own p depth _ O (inner-goes own O E))
+  line-relaxes e own s E O (relaxes {p} {depth}) =
+      if-all Relaxes _ relaxes (replaced-relaxes own p depth _ O (inner-goes own O E))
 
   -- ---- the whole list
 
   after-stood : {l : List Line} {k : ℕ} {s : Pass} → All Admitted l → Goes k s → Stood (afterPass rigid limit l s)
   unfolding afterPass
   after-stood h (goes g) = stood
-  after-stood h (ends {f}) = if-all Stood _ stood (relaxed-stood _ (walk-keeps-over (relaxLine rigid limit) Admitted Relaxes line-relaxes _ (all-take (f .index) h) (all-drop (f .index) h) relaxes))
+  after-stood h (ends {f}) = if-all Stood _ stood
+      (relaxed-stood _ (walk-keeps-over (relaxLine rigid limit) Admitted Relaxes line-relaxes _ (all-take (f .index) h)
+      (all-drop (f .index) h) relaxes))
 
   whole-stood : (wish : Vec2) {l : List Line} → Inside 165 wish → All Admitted l → Stood (wholeList rigid wish limit l)
   unfolding wholeList
   whole-stood wish W h =
-      after-stood h (pass-goes 177 (omega arith) (toward wish) limit (aimed W) L 250 (omega arith) (all-map (λ l a. a .line-in) h) (start-inside limit (aimed W) L))
+      after-stood h (pass-goes 177 (omega arith) (toward wish) limit (aimed W) L 250 (omega arith)
+      (all-map (λ l a. a .line-in) h) (start-inside limit (aimed W) L))
 
 -- a list that is admitted with its wish and limit is never refused by the solve
-pub never-refused : (rigid : ℕ) (wish : Vec2) (limit : Float) (lines : List Line) → wishFault wish limit ≡ fine → linesFault lines ≡ fine → Stood (wholeList rigid wish limit lines)
+pub never-refused : (rigid : ℕ) (wish : Vec2) (limit : Float) (lines : List Line) → wishFault wish limit ≡ fine →
+    linesFault lines ≡ fine → Stood (wholeList rigid wish limit lines)
 never-refused rigid wish limit lines w l =
     let a = wish-admitted wish limit w in
     whole-stood rigid limit (a .1) wish (a .0) (lines-admitted lines l)

@@ -1,5 +1,5 @@
--- A solve over lines whose points are at most 2 ^ p smallest values, and whose directions are at most 2, for 177 ≤ p ≤ 199 (2 ^ 28 to 2 ^ 50):
--- no end is out of order, and each point is at most 2 ^ (p + 22). Assumes nothing.
+-- A solve over lines whose points are at most 2 ^ p smallest values, and whose directions are at most 2, for 177 ≤ p ≤
+-- 199 (2 ^ 28 to 2 ^ 50): no end is out of order, and each point is at most 2 ^ (p + 22). Assumes nothing.
 use mathlib.Core.Path.{_≡_}
 use Prim.Native.Nat.{ℕ, _+_, _-_, _≤_}
 use native.Mathlib.Omega.{arith}
@@ -71,7 +71,8 @@ start-inside limit (aimed {wish} W) L =
     if-case (Inside 250) _
     (λ t.
     let o = greater-over (lengthSquaredOf wish) (square-nonneg limit (within-finite L)) t (length-squared-fits wish) in
-    let w : Within 276 (lengthSquaredOf wish) = unfold lengthSquaredOf in wider (omega arith) (dot-within 182 W W (omega arith)) in
+    let w : Within 276 (lengthSquaredOf wish) =
+    unfold lengthSquaredOf in wider (omega arith) (dot-within 182 W W (omega arith)) in
     mul-inside 250 (mul-inside 240 W (inverse-within 74 224 o w (omega arith)) (omega arith)) L (omega arith))
     (λ t. roomier (omega arith) W)
 start-inside limit (pointed D) L = mul-inside 250 D L (omega arith)
@@ -95,30 +96,40 @@ module _ (p : ℕ) (P : (177 ≤ p) × (p ≤ 199)) where
   unfolding narrow cut unlessFails
   narrow-good own it O I gone = gone
   narrow-good own it O I (good {l} {r} {n} h g t) =
-      let d : Within 152 (determinantOf (own .direction) (it .direction)) = determinant-within 152 (O .direction-in) (I .direction-in) (omega arith) in
-      let m : Within (p + 3) (determinantOf (it .direction) (subOf (own .point) (it .point))) = determinant-within (p + 3) (I .direction-in) (sub-inside (p + 1) (O .point-in) (I .point-in) (omega arith)) (omega arith) in
-      let q : Apart 132 (determinantOf (own .direction) (it .direction)) → Within (p + 20) (determinantOf (it .direction) (subOf (own .point) (it .point)) ⊘ determinantOf (own .direction) (it .direction)) = λ a. div-within (p + 20) m a (omega arith) in
+      let d : Within 152 (determinantOf (own .direction) (it .direction)) =
+      determinant-within 152 (O .direction-in) (I .direction-in) (omega arith) in
+      let m : Within (p + 3) (determinantOf (it .direction) (subOf (own .point) (it .point))) =
+      determinant-within (p + 3) (I .direction-in) (sub-inside (p + 1) (O .point-in) (I .point-in) (omega arith))
+      (omega arith) in
+      let q : Apart 132 (determinantOf (own .direction) (it .direction)) →
+      Within (p + 20) (determinantOf (it .direction) (subOf (own .point) (it .point)) ⊘ determinantOf
+      (own .direction) (it .direction)) = λ a. div-within (p + 20) m a (omega arith) in
       if-case (Good (p + 20)) (absOf (determinantOf (own .direction) (it .direction)) ≤ᶠ epsilon)
       (λ e. if-all (Good (p + 20)) _ gone (good h g t))
       (λ e.
       let a = not-le-apart (determinantOf (own .direction) (it .direction)) (within-finite d) epsilon-over e in
-      if-all (Good (p + 20)) _ (crossed-good (crossing n) n h (min-within g (q a))) (crossed-good (crossing n) n (max-within h (q a)) g))
+      if-all (Good (p + 20)) _ (crossed-good (crossing n) n h (min-within g (q a)))
+      (crossed-good (crossing n) n (max-within h (q a)) g))
 
   chord-good : (limit : Float) (own : Line) → Within 159 limit → LineIn p own → Good (p + 20) (chord limit own)
   unfolding chord
   chord-good limit own L O =
-      let a : Within (p + 2) (dotOf (own .point) (own .direction)) = dot-within (p + 2) (O .point-in) (O .direction-in) (omega arith) in
+      let a : Within (p + 2) (dotOf (own .point) (own .direction)) =
+      dot-within (p + 2) (O .point-in) (O .direction-in) (omega arith) in
       let b = mul-within (p + p - 145) a a (omega arith) in
       let c = mul-within 169 L L (omega arith) in
-      let d : Within (p + p - 148) (dotOf (own .point) (own .point)) = dot-within (p + p - 148) (O .point-in) (O .point-in) (omega arith) in
+      let d : Within (p + p - 148) (dotOf (own .point) (own .point)) =
+      dot-within (p + p - 148) (O .point-in) (O .point-in) (omega arith) in
       let disc = sub-within (p + p - 143) (add-within (p + p - 144) b c (omega arith)) d (omega arith) in
       if-case (Good (p + 20)) _ (λ t. gone)
       (λ t.
       let r = sqrt-within (p + 3) disc t (omega arith) in
-      good (wider (omega arith) (sub-within (p + 4) (neg-within a) r (omega arith))) (wider (omega arith) (add-within (p + 4) (neg-within a) r (omega arith)))
+      good (wider (omega arith) (sub-within (p + 4) (neg-within a) r (omega arith)))
+      (wider (omega arith) (add-within (p + 4) (neg-within a) r (omega arith)))
       (ends-le (p + 4) (neg-within a) r (sqrt-sign disc t (omega arith) r) (omega arith)))
 
-  fold-good : (own : Line) → LineIn p own → {l : List Line} → All (LineIn p) l → {i : Interval} → Good (p + 20) i → Good (p + 20) (foldl (narrow own) i l)
+  fold-good : (own : Line) → LineIn p own → {l : List Line} → All (LineIn p) l → {i : Interval} → Good (p + 20) i →
+      Good (p + 20) (foldl (narrow own) i l)
   fold-good own O none g = g
   fold-good own O (more {x} h hs) g = fold-good own O hs (narrow-good own x O h g)
 
@@ -126,26 +137,31 @@ module _ (p : ℕ) (P : (177 ≤ p) × (p ≤ 199)) where
   unfolding pointOn
   on-line own O T = add-inside (p + 22) (O .point-in) (mul-inside (p + 21) (O .direction-in) T (omega arith)) (omega arith)
 
-  choose-lands : (own : Line) → LineIn p own → {o : Objective} → Aimed o → {i : Interval} → Good (p + 20) i → Lands (p + 22) (choose o own i)
+  choose-lands : (own : Line) → LineIn p own → {o : Objective} → Aimed o → {i : Interval} → Good (p + 20) i →
+      Lands (p + 22) (choose o own i)
   unfolding choose if_then_else_
   choose-lands own O (aimed W) gone = misses
   choose-lands own O (pointed D) gone = misses
   choose-lands own O (aimed W) (good h g t) =
       let c = dot-within (p + 3) (O .direction-in) (sub-inside (p + 1) W (O .point-in) (omega arith)) (omega arith) in
       rw t (lands (on-line own O (clamp-within (wider (omega arith) c) h g)))
-  choose-lands own O (pointed {d} D) (good h g t) = if-all (Lands (p + 22)) (0ᶠ <ᶠ dotOf d (own .direction)) (lands (on-line own O g)) (lands (on-line own O h))
+  choose-lands own O (pointed {d} D) (good h g t) =
+      if-all (Lands (p + 22)) (0ᶠ <ᶠ dotOf d (own .direction)) (lands (on-line own O g)) (lands (on-line own O h))
 
-  line-lands : (o : Objective) (limit : Float) (own : Line) {e : List Line} → Aimed o → Within 159 limit → LineIn p own → All (LineIn p) e → Lands (p + 22) (oneLine o limit own e)
+  line-lands : (o : Objective) (limit : Float) (own : Line) {e : List Line} → Aimed o → Within 159 limit → LineIn p own
+      → All (LineIn p) e → Lands (p + 22) (oneLine o limit own e)
   unfolding oneLine
   line-lands o limit own A L O E = choose-lands own O A (fold-good own O E (chord-good limit own L O))
 
   -- ---- a pass
 
   module _ (o : Objective) (limit : Float) (A : Aimed o) (L : Within 159 limit) (k : ℕ) (K : p + 22 ≤ k) where
-    step-goes : (e : List Line) (own : Line) (s : Pass) → All (LineIn p) e → LineIn p own → Goes k s → Goes k (passLine o limit e own s)
+    step-goes : (e : List Line) (own : Line) (s : Pass) → All (LineIn p) e → LineIn p own → Goes k s →
+        Goes k (passLine o limit e own s)
     unfolding passLine
     step-goes e own s E O ends = ends
-    step-goes e own s E O (goes {q} {n} h) = if-all (Goes k) _ (goes h) (solved-goes o (length e) q (n + 1) K (line-lands o limit own A L O E))
+    step-goes e own s E O (goes {q} {n} h) =
+        if-all (Goes k) _ (goes h) (solved-goes o (length e) q (n + 1) K (line-lands o limit own A L O E))
 
     pub pass-goes : {l : List Line} → All (LineIn p) l → Inside k (start o limit) → Goes k (pass o limit l)
     unfolding pass

@@ -1,4 +1,5 @@
--- The direction of a tightened line is at most 2 in size: two admitted directions that are not parallel, or point against each other, are not the same. Assumes nothing.
+-- The direction of a tightened line is at most 2 in size: two admitted directions that are not parallel, or point
+-- against each other, are not the same. Assumes nothing.
 use mathlib.Core.Path.{_≡_, sym, _∙_}
 use mathlib.Core.Logic.{_⊎_, inl, inr}
 use native.Mathlib.Omega.{arith}
@@ -21,10 +22,13 @@ use Rattle.linear_programming.proofs.Bounds.Admitted.{Admitted, low-ove
 
 -- ---- two directions, (a, b) and (x, y), whose differences are small: parallel, and, the first in its band, one way
 
-module _ (a b x y : Float) (A : Within 150 a) (B : Within 150 b) (X : Within 150 x) (Y : Within 150 y) (wx : Within 75 (x ⊖ a)) (wy : Within 75 (y ⊖ b)) (band : (bandLow ≤ᶠ a ⊗ a ⊕ b ⊗ b) ≡ true) where
+module _ (a b x y : Float) (A : Within 150 a) (B : Within 150 b) (X : Within 150 x) (Y : Within 150 y)
+    (wx : Within 75 (x ⊖ a)) (wy : Within 75 (y ⊖ b)) (band : (bandLow ≤ᶠ a ⊗ a ⊕ b ⊗ b) ≡ true) where
   -- not both are at most 1/4
   not-short : Within 147 a → Within 147 b → ⊥
-  not-short p q = false≢true (sym (over-not-le low-over (add-within 146 (mul-within 145 p p (omega arith)) (mul-within 145 q q (omega arith)) (omega arith)) (omega arith)) ∙ band)
+  not-short p q =
+      false≢true (sym (over-not-le low-over (add-within 146 (mul-within 145 p p (omega arith))
+      (mul-within 145 q q (omega arith)) (omega arith)) (omega arith)) ∙ band)
 
   ahead : Close x a → Close y b → (0ᶠ <ᶠ a ⊗ x ⊕ b ⊗ y) ≡ true
   ahead (inl p) (inl q) = go (within-or-apart 147 a (within-finite A)) (within-or-apart 147 b (within-finite B))
@@ -36,12 +40,14 @@ module _ (a b x y : Float) (A : Within 150 a) (B : Within 150 b) (X : Within 150
   ahead (inl p) (inr q) = go (within-or-apart 147 a (within-finite A))
     where
       go : Within 147 a ⊎ Apart 147 a → (0ᶠ <ᶠ a ⊗ x ⊕ b ⊗ y) ≡ true
-      go (inr h) = over-positive (add-over-within (near-product-large p X wx h) (mul-within 53 (q .1) (q .0) (omega arith)) (omega arith))
+      go (inr h) = over-positive (add-over-within (near-product-large p X wx h)
+          (mul-within 53 (q .1) (q .0) (omega arith)) (omega arith))
       go (inl v) = absurd (not-short v (wider (omega arith) (q .1)))
   ahead (inr p) (inl q) = go (within-or-apart 147 b (within-finite B))
     where
       go : Within 147 b ⊎ Apart 147 b → (0ᶠ <ᶠ a ⊗ x ⊕ b ⊗ y) ≡ true
-      go (inr h) = over-positive (add-within-over (mul-within 53 (p .1) (p .0) (omega arith)) (near-product-large q Y wy h) (omega arith))
+      go (inr h) = over-positive (add-within-over (mul-within 53 (p .1) (p .0) (omega arith))
+          (near-product-large q Y wy h) (omega arith))
       go (inl v) = absurd (not-short (wider (omega arith) (p .1)) v)
   ahead (inr p) (inr q) = absurd (not-short (wider (omega arith) (p .1)) (wider (omega arith) (q .1)))
 
@@ -53,7 +59,8 @@ module _ (own prev : Line) (O : Admitted own) (P : Admitted prev) where
 
   -- the lines are not parallel, or do not point one way
   Unlike : Type 0
-  Unlike = ((absOf (determinantOf (own .direction) (prev .direction)) ≤ᶠ epsilon) ≡ false) ⊎ ((0ᶠ <ᶠ dotOf (own .direction) (prev .direction)) ≡ false)
+  Unlike = ((absOf (determinantOf (own .direction) (prev .direction)) ≤ᶠ epsilon) ≡ false)
+      ⊎ ((0ᶠ <ᶠ dotOf (own .direction) (prev .direction)) ≡ false)
 
   not-close : Within 75 (prev .direction .x ⊖ own .direction .x) → Within 75 (prev .direction .y ⊖ own .direction .y) → Unlike → ⊥
   unfolding Unlike determinantOf dotOf lengthSquaredOf
@@ -63,13 +70,15 @@ module _ (own prev : Line) (O : Admitted own) (P : Admitted prev) where
       let c = near-or-small (prev .direction .x) (own .direction .x) (within-finite (p .x-in)) (within-finite (o .x-in)) w in
       let d = near-or-small (prev .direction .y) (own .direction .y) (within-finite (p .y-in)) (within-finite (o .y-in)) v in
       elim u [
-        | inl t ↦ true≢false (sym (within-le (close-determinant-within _ _ _ _ (o .x-in) (o .y-in) (p .x-in) (p .y-in) c d) epsilon-over (omega arith)) ∙ t)
+        | inl t ↦ true≢false (sym (within-le (close-determinant-within _ _ _ _ (o .x-in) (o .y-in) (p .x-in)
+            (p .y-in) c d) epsilon-over (omega arith)) ∙ t)
         | inr t ↦ true≢false (sym (ahead _ _ _ _ (o .x-in) (o .y-in) (p .x-in) (p .y-in) w v (O .band) c d) ∙ t)
       ]
 
   has-length : Unlike → Over 0 (lengthSquaredOf (subOf (prev .direction) (own .direction)))
   unfolding subOf
-  has-length u = go (within-or-apart 75 (prev .direction .x ⊖ own .direction .x) fx) (within-or-apart 75 (prev .direction .y ⊖ own .direction .y) fy)
+  has-length u = go (within-or-apart 75 (prev .direction .x ⊖ own .direction .x) fx)
+      (within-or-apart 75 (prev .direction .y ⊖ own .direction .y) fy)
     where
       fx : finite (prev .direction .x ⊖ own .direction .x) ≡ true
       fx = within-finite (difference-in .x-in)
@@ -84,10 +93,12 @@ module _ (own prev : Line) (O : Admitted own) (P : Admitted prev) where
       go (inl w) (inr a) = lower (omega arith) (length-squared-over-y difference-in 1 (square-over 1 a fy (omega arith)))
       go (inl w) (inl v) = absurd (not-close w v u)
 
-  pub not-parallel : (absOf (determinantOf (own .direction) (prev .direction)) ≤ᶠ epsilon) ≡ false → Inside 150 (normalizeOf (subOf (prev .direction) (own .direction)))
+  pub not-parallel : (absOf (determinantOf (own .direction) (prev .direction)) ≤ᶠ epsilon) ≡ false →
+      Inside 150 (normalizeOf (subOf (prev .direction) (own .direction)))
   unfolding Unlike
   not-parallel t = normalize-inside difference-in (has-length (inl t))
 
-  pub not-one-way : (0ᶠ <ᶠ dotOf (own .direction) (prev .direction)) ≡ false → Inside 150 (normalizeOf (subOf (prev .direction) (own .direction)))
+  pub not-one-way : (0ᶠ <ᶠ dotOf (own .direction) (prev .direction)) ≡ false →
+      Inside 150 (normalizeOf (subOf (prev .direction) (own .direction)))
   unfolding Unlike
   not-one-way t = normalize-inside difference-in (has-length (inr t))

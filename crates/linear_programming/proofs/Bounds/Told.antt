@@ -1,4 +1,5 @@
--- A call over any list of any numbers stands, or is refused with 2, 4, 6 or 7: 8 and 9 never come out of a solve of admitted lines. Assumes nothing.
+-- A call over any list of any numbers stands, or is refused with 2, 4, 6 or 7: 8 and 9 never come out of a solve of
+-- admitted lines. Assumes nothing.
 use mathlib.Core.Path.{_≡_, refl}
 use Prim.Native.Nat.{ℕ, _%_}
 use mathlib.Core.Bool.{Bool, true, false}
@@ -55,7 +56,8 @@ line-mild l =
     ⊳-mild (must-mild (within lineReach (l .point .x)) out-of-range)
     (⊳-mild (must-mild (within lineReach (l .point .y)) out-of-range)
     (⊳-mild (must-mild (finite (l .direction .x)) out-of-range)
-    (⊳-mild (must-mild (finite (l .direction .y)) out-of-range) (must-mild (inside bandLow bandHigh (lengthSquaredOf (l .direction))) out-of-band))))
+    (⊳-mild (must-mild (finite (l .direction .y)) out-of-range)
+    (must-mild (inside bandLow bandHigh (lengthSquaredOf (l .direction))) out-of-band))))
 
 lines-mild : (ls : List Line) → Mild (linesFault ls)
 unfolding linesFault

@@ -52,7 +52,9 @@ unfolding listCall judgedList
 returns-4 c =
     let start = c .before .before .before .before .before .before .before .before .before in
     let xs = now (start .args .numbers) in
-    let whole = c .solve-from-start .ensures ∙ ap (λ (l : List Line). wholeList (start .args .rigid) (start .args .wish) (start .args .limit) l) (lines-take-all xs) in
+    let whole = c .solve-from-start .ensures
+    ∙ ap (λ (l : List Line). wholeList (start .args .rigid) (start .args .wish) (start .args .limit) l)
+    (lines-take-all xs) in
     simp (
       eq-eqb _ _ (c .before .before .before .before .before .before .before .if1 .left),
       few xs (c .before .before .before .before .before .before .if2 .left),
@@ -65,5 +67,6 @@ returns-4 c =
 
 pub solve-linear-program-spec : {M : Type 1} → statement M
 solve-linear-program-spec =
-    tie.close (tie.spec returns returns-2 (λ c κs. search needs) (λ c κs. search needs) (λ c κs. search needs) (λ c. search needs) returns-3
+    tie.close (tie.spec returns returns-2 (λ c κs. search needs) (λ c κs. search needs) (λ c κs. search needs)
+    (λ c. search needs) returns-3
     (λ c. search needs) (λ c κs. search needs) returns-4)

@@ -25,15 +25,26 @@ returns : tie.Need-returns Inv-loop μ-loop
 returns c =
     let b = now (c .before .before .before .before .before .before .before .args .numbers) in
     let l = c .before .before .before .before .before .loop in
-    let step = rw (c .enum-told2 .given .1, c .before .before .before .line-at .ensures) at (c .before .before .judge-line .ensures) in
-    rw (c .enum-told2 .given .1) (sym (l .inv .1 ∙ judged-stop (linesOf b) (length b / 4) (l .i) (lines-fit b (length b / 4) (omega arith)) offLine _ (omega arith) step))
+    let step = rw (
+      c .enum-told2 .given .1,
+      c .before .before .before .line-at .ensures,
+    ) at (c .before .before .judge-line .ensures) in
+    rw (c .enum-told2 .given .1) (sym (l .inv .1
+    ∙ judged-stop (linesOf b) (length b / 4) (l .i) (lines-fit b (length b / 4) (omega arith)) offLine _
+    (omega arith) step))
 
 loop-again : tie.Need-loop-again Inv-loop μ-loop
 loop-again c =
     let b = now (c .before .before .before .before .before .before .before .args .numbers) in
     let l = c .before .before .before .before .before .loop in
-    let step = rw (c .enum-told .given .1, c .before .before .before .line-at .ensures) at (c .before .before .judge-line .ensures) in
-    (omega arith, l .inv .1 ∙ judged-on (linesOf b) (length b / 4) (l .i) (lines-fit b (length b / 4) (omega arith)) offLine (omega arith) step)
+    let step = rw (
+      c .enum-told .given .1,
+      c .before .before .before .line-at .ensures,
+    ) at (c .before .before .judge-line .ensures) in (
+      omega arith,
+      l .inv .1 ∙ judged-on (linesOf b) (length b / 4) (l .i) (lines-fit b (length b / 4) (omega arith))
+          offLine (omega arith) step,
+    )
 
 returns-2 : tie.Need-returns-2 Inv-loop μ-loop
 returns-2 c =
@@ -43,5 +54,6 @@ returns-2 c =
 
 pub judge-lines-spec : {M : Type 1} → statement M
 judge-lines-spec =
-    tie.close (tie.spec Inv-loop μ-loop loop-holds (λ c κs. search needs) (λ c κs. search needs) (λ c. search needs) (λ c. search needs) returns
+    tie.close (tie.spec Inv-loop μ-loop loop-holds (λ c κs. search needs) (λ c κs. search needs) (λ c. search needs)
+    (λ c. search needs) returns
     (λ c. search needs) (λ c. search needs) loop-again returns-2)

@@ -22,10 +22,19 @@ slice-write-numbers-4 : tie.Need-slice-write-numbers-4
 slice-write-numbers-4 c = simp length-set (omega arith)
 
 returns-2 : tie.Need-returns-2
-returns-2 c = let a = c .before .args in rw (stored-sets (now (a .numbers)) (a .i) (a .line) (omega arith), add-one, add-two, add-three) refl
+returns-2 c =
+    let a = c .before .args in
+    rw (
+      stored-sets (now (a .numbers)) (a .i) (a .line) (omega arith),
+      add-one,
+      add-two,
+      add-three,
+    ) refl
 
 pub put-line-spec : {M : Type 1} → statement M
 put-line-spec =
-    tie.close (tie.spec returns (λ c. search needs) (λ c. search needs) (λ c. search needs) (λ c. search needs) (λ c. search needs)
-    slice-write-numbers-2 (λ c. search needs) (λ c. search needs) slice-write-numbers-3 (λ c. search needs) (λ c. search needs) slice-write-numbers-4
+    tie.close (tie.spec returns (λ c. search needs) (λ c. search needs) (λ c. search needs) (λ c. search needs)
+    (λ c. search needs)
+    slice-write-numbers-2 (λ c. search needs) (λ c. search needs) slice-write-numbers-3 (λ c. search needs)
+    (λ c. search needs) slice-write-numbers-4
     (λ c. search needs) returns-2)

@@ -17,7 +17,13 @@ vertex-at-requires c κs = omega (arith, few-counted _ _ (c .before .before .edg
 
 returns : tie.Need-returns
 unfolding endsOf edgeAt edgeVertexAt if_then_else_
-returns c = simp (← c .vertex-at2 .ensures, ← c .before .vertex-at .ensures, ← c .before .before .next-index .ensures .0, lt-ltb _ _ (c .before .before .before .if1 .taken), ← c .before .before .before .before .edge-count .ensures)
+returns c = simp (
+  ← c .vertex-at2 .ensures,
+  ← c .before .vertex-at .ensures,
+  ← c .before .before .next-index .ensures .0,
+  lt-ltb _ _ (c .before .before .before .if1 .taken),
+  ← c .before .before .before .before .edge-count .ensures,
+)
 
 returns-2 : tie.Need-returns-2
 unfolding endsOf if_then_else_

@@ -13,7 +13,11 @@ use Rattle.obstacles.proofs.get_lines_for_agent_to_obstacle.Tie as tie
 
 returns : tie.Need-returns
 unfolding obstacleCall
-returns c = simp (← c .refused .ensures, c .before .before .beside .given .1, ← c .before .before .before .before .judge-agent .ensures)
+returns c = simp (
+  ← c .refused .ensures,
+  c .before .before .beside .given .1,
+  ← c .before .before .before .before .judge-agent .ensures,
+)
 
 returns-2 : tie.Need-returns-2
 unfolding obstacleCall
@@ -37,7 +41,8 @@ unfolding obstacleCall
 returns-3 c =
     let a = c .before .before .before .before .before .before .before .before .args in
     let passed = rw (c .before .enum-told2 .given .1) at (c .before .before .before .judge-obstacle .ensures) in
-    let all : length (now (a .vertices)) / 2 ≡ a .count = omega (arith, just-lent (headOf (a .kind) (a .count)) (now (a .vertices)) (sym passed)) in
+    let all : length (now (a .vertices)) / 2 ≡ a .count =
+    omega (arith, just-lent (headOf (a .kind) (a .count)) (now (a .vertices)) (sym passed)) in
     c .lines-for-edges .ensures
     ∙ simp (
       all,
@@ -49,5 +54,6 @@ returns-3 c =
 
 pub get-lines-for-agent-to-obstacle-spec : {M : Type 1} → statement M
 get-lines-for-agent-to-obstacle-spec =
-    tie.close (tie.spec (λ c κs. search needs) (λ c. search needs) (λ c κs. search needs) returns (λ c. search needs) (λ c κs. search needs)
+    tie.close (tie.spec (λ c κs. search needs) (λ c. search needs) (λ c κs. search needs) returns (λ c. search needs)
+    (λ c κs. search needs)
     (λ c. search needs) (λ c κs. search needs) returns-2 (λ c. search needs) lines-for-edges-requires returns-3)

@@ -33,7 +33,8 @@ unfolding outlineFault
 returns-2 c =
     let passed = c .before .before .before .before in
     let closing = rw sub-zero at (c .before .may-close .ensures) in
-    simp (passed .enum-told .given .1, ← passed .before .before .judge-vertices .ensures) (c .fault-unless .ensures ∙ ap (λ (b : Bool). must b 14) closing)
+    simp (passed .enum-told .given .1, ← passed .before .before .judge-vertices .ensures) (c .fault-unless .ensures
+    ∙ ap (λ (b : Bool). must b 14) closing)
 
 pub judge-outline-spec : {M : Type 1} → statement M
 judge-outline-spec =

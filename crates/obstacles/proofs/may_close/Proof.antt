@@ -29,7 +29,13 @@ returns-3 c =
     let found = c .before .before .before in
     let a = found .before .before .before .args in
     let xs = now (a .vertices) in
-    rw (closes-pair (a .kind) (length xs / 2) (verticesOf xs) (vertices-many xs) (omega arith), ne-eqb _ _ (found .if2 .left), ← c .before .vertex-at2 .ensures, ← c .before .before .vertex-at .ensures, ← c .is-doubled .ensures)
+    rw (
+      closes-pair (a .kind) (length xs / 2) (verticesOf xs) (vertices-many xs) (omega arith),
+      ne-eqb _ _ (found .if2 .left),
+      ← c .before .vertex-at2 .ensures,
+      ← c .before .before .vertex-at .ensures,
+      ← c .is-doubled .ensures,
+    )
 
 pub may-close-spec : {M : Type 1} → statement M
 may-close-spec =

@@ -40,9 +40,14 @@ returns-3 c =
     let a = s .before .before .args in
     let all = linesOf (now (a .lines)) in
     let short = rw (s .count-given .ensures) at (c .before .before .before .before .before .before .if1 .left) in
-    let first = rw (c .before .before .start .given .1, c .before .before .before .before .before .start-value .ensures) at (c .before .before .before .before .judge-point .ensures) in
-    rw (count-taken (a .count) all (s .count-given .ensures)) at (c .pass-from .ensures) ∙ started _ _ (take (a .count) all) _ _ first ∙ sym (few-called _ _ (take (a .count) all) short)
+    let first = rw (
+      c .before .before .start .given .1,
+      c .before .before .before .before .before .start-value .ensures,
+    ) at (c .before .before .before .before .judge-point .ensures) in
+    rw (count-taken (a .count) all (s .count-given .ensures)) at (c .pass-from .ensures)
+    ∙ started _ _ (take (a .count) all) _ _ first ∙ sym (few-called _ _ (take (a .count) all) short)
 
 pub solve-linear-program-2d-spec : {M : Type 1} → statement M
 solve-linear-program-2d-spec =
-    tie.close (tie.spec (λ c κs. search needs) returns (λ c κs. search needs) (λ c κs. search needs) (λ c. search needs) returns-2 pass-from-requires returns-3)
+    tie.close (tie.spec (λ c κs. search needs) returns (λ c κs. search needs) (λ c κs. search needs)
+    (λ c. search needs) returns-2 pass-from-requires returns-3)

@@ -8,7 +8,8 @@ returns : tie.Need-returns
 returns c = no-room-solved _ _ (c .if1 .taken)
 
 returns-2 : tie.Need-returns-2
-returns-2 c = refused-solved _ _ (c .before .before .before .before .if1 .left) _ (c .before .before .before .read-scene .ensures) _ (c .before .judged .given .1)
+returns-2 c = refused-solved _ _ (c .before .before .before .before .if1 .left) _
+    (c .before .before .before .read-scene .ensures) _ (c .before .judged .given .1)
 
 returns-3 : tie.Need-returns-3
 returns-3 c =
@@ -19,5 +20,6 @@ returns-3 c =
 
 pub answer-scene-spec : {M : Type 1} → statement M
 answer-scene-spec =
-    tie.close (tie.spec returns (λ c κs. search needs) (λ c. search needs) returns-2 (λ c. search needs) (λ c κs. search needs) (λ c κs. search needs)
+    tie.close (tie.spec returns (λ c κs. search needs) (λ c. search needs) returns-2 (λ c. search needs)
+    (λ c κs. search needs) (λ c κs. search needs)
     (λ c. search needs) returns-3)

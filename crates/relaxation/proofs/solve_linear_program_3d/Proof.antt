@@ -1,4 +1,5 @@
--- `relaxation::solve_linear_program_3d` meets its contract. In each need `s` is where the lines have been counted. Assumes nothing.
+-- `relaxation::solve_linear_program_3d` meets its contract. In each need `s` is where the lines have been counted.
+-- Assumes nothing.
 use mathlib.Core.Path.{_≡_, sym, _∙_}
 use denote.Ref.{now}
 use lib.ListN.{take}
@@ -31,7 +32,8 @@ returns-2 c =
     let all = linesOf (now (a .lines)) in
     let short = rw (s .count-given .ensures) at (c .before .if1 .left) in
     rw (count-taken (a .count) all (s .count-given .ensures)) at (c .relax-from .ensures)
-    ∙ sym (few-relaxed _ _ (take (a .count) all) short (a .from) (a .value) (a .penetration) ∙ walk-first _ all (a .count) (a .from) _)
+    ∙ sym (few-relaxed _ _ (take (a .count) all) short (a .from) (a .value) (a .penetration)
+    ∙ walk-first _ all (a .count) (a .from) _)
 
 pub solve-linear-program-3d-spec : {M : Type 1} → statement M
 solve-linear-program-3d-spec =

@@ -14,5 +14,6 @@ returns-2 c = simp (← c .is-vector2 .ensures, ← c .before .is-flag2 .ensures
 
 pub is-times-spec : {M : Type 1} → statement M
 is-times-spec =
-    tie.close (tie.spec (λ c. search needs) (λ c κs. search needs) (λ c κs. search needs) (λ c. search needs) (λ c κs. search needs)
+    tie.close (tie.spec (λ c. search needs) (λ c κs. search needs) (λ c κs. search needs) (λ c. search needs)
+    (λ c κs. search needs)
     (λ c κs. search needs) returns returns-2)

@@ -22,5 +22,6 @@ returns-4 c = simp (c .before .expected .given .1, c .before .before .before .be
 
 pub same-judgement-spec : {M : Type 1} → statement M
 same-judgement-spec =
-    tie.close (tie.spec (λ c. search needs) (λ c. search needs) (λ c. search needs) (λ c. search needs) (λ c. search needs) (λ c. search needs)
+    tie.close (tie.spec (λ c. search needs) (λ c. search needs) (λ c. search needs) (λ c. search needs)
+    (λ c. search needs) (λ c. search needs)
     returns returns-2 returns-3 returns-4)

@@ -24,5 +24,6 @@ returns-3 c = simp (c .before .judged .given .1)
 
 pub is-answer-spec : {M : Type 1} → statement M
 is-answer-spec =
-    tie.close (tie.spec (λ c. search needs) returns (λ c. search needs) (λ c κs. search needs) (λ c. search needs) (λ c. search needs)
+    tie.close (tie.spec (λ c. search needs) returns (λ c. search needs) (λ c κs. search needs) (λ c. search needs)
+    (λ c. search needs)
     (λ c. search needs) returns-2 returns-3)

@@ -30,13 +30,18 @@ returns-3 c =
       ← c .before .before .before .number-at2 .ensures,
       ← c .before .before .before .before .number-at .ensures,
       ← c .before .before .before .before .before .long-at .ensures,
-      ← c .before .before .before .before .before .before .before .before .first-numbers .ensures (omega (arith, c .before .before .before .before .before .before .before .before .before .before .before .if2 .left)),
+      ← c .before .before .before .before .before .before .before .before .first-numbers .ensures
+          (omega (
+            arith,
+            c .before .before .before .before .before .before .before .before .before .before .before .if2 .left,
+          )),
       ← c .before .before .before .before .before .before .before .before .before .vector-at2 .ensures,
       ← c .before .before .before .before .before .before .before .before .before .before .vector-at .ensures,
       ← c .before .before .before .before .before .before .before .before .before .before .before .before .word-at2 .ensures,
       le-leb _ _ (c .before .before .before .before .before .before .before .before .before .before .before .if2 .left),
       ← c .before .before .before .before .before .before .before .before .before .before .before .before .before .before .word-at .ensures,
-      le-leb _ _ (c .before .before .before .before .before .before .before .before .before .before .before .before .before .if1 .left),
+      le-leb _ _
+          (c .before .before .before .before .before .before .before .before .before .before .before .before .before .if1 .left),
     )
     (c .is-answer .ensures ∙ ap (isAnswer _ _ _) (simp sub-zero at (c .before .before .get-lines-for-agent-to-obstacle .ensures)))
 

@@ -10,5 +10,6 @@ returns c = simp (← c .word-at2 .ensures, ← c .before .word-at .ensures)
 
 pub long-at-spec : {M : Type 1} → statement M
 long-at-spec =
-    tie.close (tie.spec (λ c κs. search needs) (λ c. search needs) (λ c. search needs) (λ c. search needs) (λ c κs. search needs) (λ c. search needs)
+    tie.close (tie.spec (λ c κs. search needs) (λ c. search needs) (λ c. search needs) (λ c. search needs)
+    (λ c κs. search needs) (λ c. search needs)
     (λ c. search needs) returns)

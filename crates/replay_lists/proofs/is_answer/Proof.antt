@@ -14,5 +14,6 @@ returns-2 c = simp (← c .is-told .ensures, c .before .before .answer2 .given .
 
 pub is-answer-spec : {M : Type 1} → statement M
 is-answer-spec =
-    tie.close (tie.spec (λ c. search needs) (λ c κs. search needs) (λ c. search needs) (λ c. search needs) (λ c. search needs) (λ c κs. search needs)
+    tie.close (tie.spec (λ c. search needs) (λ c κs. search needs) (λ c. search needs) (λ c. search needs)
+    (λ c. search needs) (λ c κs. search needs)
     returns returns-2)

@@ -15,7 +15,8 @@ returns-2 : tie.Need-returns-2
 unfolding isReplayed
 returns-2 c =
     simp (
-      ← c .before .before .before .before .first-numbers .ensures (c .before .before .before .before .before .before .before .before .if1 .left),
+      ← c .before .before .before .before .first-numbers .ensures
+          (c .before .before .before .before .before .before .before .before .if1 .left),
       ← c .before .before .before .before .before .vector-at .ensures,
       ← c .before .before .before .before .before .before .number-at .ensures,
       ← c .before .before .before .before .before .before .before .word-at2 .ensures,
@@ -26,6 +27,8 @@ returns-2 c =
 
 pub is-replayed-spec : {M : Type 1} → statement M
 is-replayed-spec =
-    tie.close (tie.spec (λ c κs. search needs) (λ c. search needs) returns (λ c κs. search needs) (λ c. search needs) (λ c κs. search needs)
-    (λ c κs. search needs) (λ c κs. search needs) (λ c. search needs) (λ c. search needs) (λ c. search needs) (λ c κs. search needs)
+    tie.close (tie.spec (λ c κs. search needs) (λ c. search needs) returns (λ c κs. search needs) (λ c. search needs)
+    (λ c κs. search needs)
+    (λ c κs. search needs) (λ c κs. search needs) (λ c. search needs) (λ c. search needs) (λ c. search needs)
+    (λ c κs. search needs)
     (λ c. search needs) (λ c. search needs) (λ c κs. search needs) returns-2)

@@ -40,5 +40,6 @@ returns-2 c = λ asked.
 
 pub first-numbers-spec : {M : Type 1} → statement M
 first-numbers-spec =
-    tie.close (tie.spec Inv-loop μ-loop loop-holds returns (λ c. search needs) (λ c κs. search needs) (λ c. search needs) (λ c. search needs)
+    tie.close (tie.spec Inv-loop μ-loop loop-holds returns (λ c. search needs) (λ c κs. search needs)
+    (λ c. search needs) (λ c. search needs)
     (λ c. search needs) (λ c. search needs) loop-again returns-2)

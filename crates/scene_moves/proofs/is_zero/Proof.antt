@@ -24,13 +24,17 @@ returns : tie.Need-returns Inv-loop μ-loop
 returns c =
     let l = c .before .before .before .loop in
     let s = c .before .before .before .before in
-    sym (l .inv .1 ∙ zero-not (now (s .args .numbers)) (s .args .count) (l .i) (s .pre) (c .before .before .loop-test .taken) (c .if1 .taken))
+    sym (l .inv .1 ∙ zero-not (now (s .args .numbers)) (s .args .count) (l .i) (s .pre)
+    (c .before .before .loop-test .taken) (c .if1 .taken))
 
 loop-again : tie.Need-loop-again Inv-loop μ-loop
 loop-again c =
     let l = c .before .before .before .loop in
-    let s = c .before .before .before .before in
-    (omega arith, l .inv .1 ∙ zero-next (now (s .args .numbers)) (s .args .count) (l .i) (s .pre) (c .before .before .loop-test .taken) (c .if1 .left))
+    let s = c .before .before .before .before in (
+      omega arith,
+      l .inv .1 ∙ zero-next (now (s .args .numbers)) (s .args .count) (l .i) (s .pre)
+          (c .before .before .loop-test .taken) (c .if1 .left),
+    )
 
 returns-2 : tie.Need-returns-2 Inv-loop μ-loop
 returns-2 c =
@@ -40,4 +44,5 @@ returns-2 c =
 
 pub is-zero-spec : {M : Type 1} → statement M
 is-zero-spec =
-    tie.close (tie.spec Inv-loop μ-loop loop-holds (λ c. search needs) (λ c. search needs) returns (λ c. search needs) (λ c. search needs) loop-again returns-2)
+    tie.close (tie.spec Inv-loop μ-loop loop-holds (λ c. search needs) (λ c. search needs) returns (λ c. search needs)
+    (λ c. search needs) loop-again returns-2)

@@ -17,44 +17,94 @@ returns : tie.Need-returns
 returns c = told-fault Two _ _ (c .before .before .before .read-scene-of-version .ensures) One _ _ (c .before .judged .given .1)
 
 mul-length : tie.Need-mul-length
-mul-length c = let known = reads Two (now (c .before .before .before .before .before .before .args .source)) _ (c .before .before .before .read-scene-of-version .ensures) (c .before .enum-told .given .1) in omega (arith, known .few)
+mul-length c =
+    let known = reads Two (now (c .before .before .before .before .before .before .args .source)) _
+    (c .before .before .before .read-scene-of-version .ensures) (c .before .enum-told .given .1) in
+    omega (arith, known .few)
 
 sub-length : tie.Need-sub-length
-sub-length c = let known = reads Two (now (c .before .before .before .before .before .before .args .source)) _ (c .before .before .before .read-scene-of-version .ensures) (c .before .enum-told .given .1) in omega (arith, known .room)
+sub-length c =
+    let known = reads Two (now (c .before .before .before .before .before .before .args .source)) _
+    (c .before .before .before .read-scene-of-version .ensures) (c .before .enum-told .given .1) in
+    omega (arith, known .room)
 
 is-zero-requires : tie.Need-is-zero-requires
 is-zero-requires c κs =
     let r = c .before .before .before .before .read-scene-of-version .result in
-    let known = reads Two (now (c .before .before .before .before .before .before .before .args .source)) r (c .before .before .before .before .read-scene-of-version .ensures) (c .before .before .enum-told .given .1) in
+    let known = reads Two (now (c .before .before .before .before .before .before .before .args .source)) r
+    (c .before .before .before .before .read-scene-of-version .ensures) (c .before .before .enum-told .given .1) in
     let fits : r .scene .neighbours ≤ length (r .numbers) = omega (arith, known .few, known .long) in
     fits
 
 returns-2 : tie.Need-returns-2
 returns-2 c =
-    let known = reads Two (now (c .before .before .before .before .before .before .before .before .before .before .before .before .before .before .args .source)) _ (c .before .before .before .before .before .before .before .before .before .before .before .read-scene-of-version .ensures) (c .before .before .before .before .before .before .before .before .before .enum-told .given .1) in
+    let known =
+    reads Two
+    (now
+    (c .before .before .before .before .before .before .before .before .before .before .before .before .before .before .args .source)) _ (c .before .before .before .before .before .before .before .before .before .before .before .read-scene-of-version .ensures) (c .before .before .before .before .before .before .before .before .before .enum-told .given .1) in
     told-refused Two One _ _ _ known _ (omega (arith, known .room)) _
-    (rw (c .before .first .given .1, c .before .before .before .before .before .fault-unless .ensures, c .before .before .before .before .fault-unless2 .ensures, c .before .before .before .before .before .before .is-zero .ensures, known .numbers) at (c .before .before .before .first-of .ensures))
+    (rw (
+      c .before .first .given .1,
+      c .before .before .before .before .before .fault-unless .ensures,
+      c .before .before .before .before .fault-unless2 .ensures,
+      c .before .before .before .before .before .before .is-zero .ensures,
+      known .numbers,
+    ) at (c .before .before .before .first-of .ensures))
 
 mul-start : tie.Need-mul-start
-mul-start c = let known = reads Two (now (c .before .before .before .before .before .before .before .before .before .before .before .before .before .args .source)) _ (c .before .before .before .before .before .before .before .before .before .before .read-scene-of-version .ensures) (c .before .before .before .before .before .before .before .before .enum-told .given .1) in omega (arith, known .few)
+mul-start c =
+    let known =
+    reads Two
+    (now
+    (c .before .before .before .before .before .before .before .before .before .before .before .before .before .args .source)) _ (c .before .before .before .before .before .before .before .before .before .before .read-scene-of-version .ensures) (c .before .before .before .before .before .before .before .before .enum-told .given .1) in
+    omega (arith, known .few)
 
 sub-start : tie.Need-sub-start
-sub-start c = let known = reads Two (now (c .before .before .before .before .before .before .before .before .before .before .before .before .before .args .source)) _ (c .before .before .before .before .before .before .before .before .before .before .read-scene-of-version .ensures) (c .before .before .before .before .before .before .before .before .enum-told .given .1) in omega (arith, known .room)
+sub-start c =
+    let known =
+    reads Two
+    (now
+    (c .before .before .before .before .before .before .before .before .before .before .before .before .before .args .source)) _ (c .before .before .before .before .before .before .before .before .before .before .read-scene-of-version .ensures) (c .before .before .before .before .before .before .before .before .enum-told .given .1) in
+    omega (arith, known .room)
 
 put-start-requires : tie.Need-put-start-requires
 put-start-requires c κs =
-    let a = c .before .before .before .before .before .before .before .before .before .before .before .before .before .before .args in
-    let r = c .before .before .before .before .before .before .before .before .before .before .before .read-scene-of-version .result in
-    let known = reads Two (now (a .source)) r (c .before .before .before .before .before .before .before .before .before .before .before .read-scene-of-version .ensures) (c .before .before .before .before .before .before .before .before .before .enum-told .given .1) in
-    let fits : length (now (a .source)) - 4 * r .scene .neighbours ≤ length (now (a .buffer)) = both-pass (c .before .before .before .before .before .before .is-zero .result) _ _ (rw (c .before .enum-told2 .given .1, c .before .before .before .before .before .fault-unless .ensures, c .before .before .before .before .fault-unless2 .ensures) at (c .before .before .before .first-of .ensures)) .1 in
-    (omega (arith, known .room), omega (arith, known .room), omega (arith, known .room, fits), omega (arith, known .room), omega (arith, known .few, known .short))
+    let a =
+    c .before .before .before .before .before .before .before .before .before .before .before .before .before .before .args in
+    let r =
+    c .before .before .before .before .before .before .before .before .before .before .before .read-scene-of-version .result in
+    let known = reads Two (now (a .source)) r
+    (c .before .before .before .before .before .before .before .before .before .before .before .read-scene-of-version .ensures) (c .before .before .before .before .before .before .before .before .before .enum-told .given .1) in
+    let fits : length (now (a .source)) - 4 * r .scene .neighbours ≤ length (now (a .buffer)) =
+    both-pass (c .before .before .before .before .before .before .is-zero .result) _ _
+    (rw (
+      c .before .enum-told2 .given .1,
+      c .before .before .before .before .before .fault-unless .ensures,
+      c .before .before .before .before .fault-unless2 .ensures,
+    ) at (c .before .before .before .first-of .ensures)) .1
+    in (
+      omega (arith, known .room),
+      omega (arith, known .room),
+      omega (arith, known .room, fits),
+      omega (arith, known .room),
+      omega (arith, known .few, known .short),
+    )
 
 put-unnumbered-requires : tie.Need-put-unnumbered-requires
 put-unnumbered-requires c κs =
-    let a = c .before .before .before .before .before .before .before .before .before .before .before .before .before .before .before .before .before .before .args in
-    let r = c .before .before .before .before .before .before .before .before .before .before .before .before .before .before .before .read-scene-of-version .result in
-    let known = reads Two (now (a .source)) r (c .before .before .before .before .before .before .before .before .before .before .before .before .before .before .before .read-scene-of-version .ensures) (c .before .before .before .before .before .before .before .before .before .before .before .before .before .enum-told .given .1) in
-    let fits : length (now (a .source)) - 4 * r .scene .neighbours ≤ length (now (a .buffer)) = both-pass (c .before .before .before .before .before .before .before .before .before .before .is-zero .result) _ _ (rw (c .before .before .before .before .before .enum-told2 .given .1, c .before .before .before .before .before .before .before .before .before .fault-unless .ensures, c .before .before .before .before .before .before .before .before .fault-unless2 .ensures) at (c .before .before .before .before .before .before .before .first-of .ensures)) .1 in
+    let a =
+    c .before .before .before .before .before .before .before .before .before .before .before .before .before .before .before .before .before .before .args in
+    let r =
+    c .before .before .before .before .before .before .before .before .before .before .before .before .before .before .before .read-scene-of-version .result in
+    let known = reads Two (now (a .source)) r
+    (c .before .before .before .before .before .before .before .before .before .before .before .before .before .before .before .read-scene-of-version .ensures) (c .before .before .before .before .before .before .before .before .before .before .before .before .before .enum-told .given .1) in
+    let fits : length (now (a .source)) - 4 * r .scene .neighbours ≤ length (now (a .buffer)) =
+    both-pass (c .before .before .before .before .before .before .before .before .before .before .is-zero .result) _
+    _ (rw (
+      c .before .before .before .before .before .enum-told2 .given .1,
+      c .before .before .before .before .before .before .before .before .before .fault-unless .ensures,
+      c .before .before .before .before .before .before .before .before .fault-unless2 .ensures,
+    ) at (c .before .before .before .before .before .before .before .first-of .ensures)) .1 in
     (omega (arith, known .room), omega (arith, known .room, c .before .before .before .put-start .kept .0, fits))
 
 same-length : tie.Need-same-length
@@ -62,17 +112,30 @@ same-length c = c .before .before .put-unnumbered .kept .0 ∙ c .before .before
 
 returns-3 : tie.Need-returns-3
 returns-3 c =
-    let a = c .before .before .before .before .before .before .before .before .before .before .before .before .before .before .before .before .before .before .before .before .before .args in
-    let r = c .before .before .before .before .before .before .before .before .before .before .before .before .before .before .before .before .before .before .read-scene-of-version .result in
-    let known = reads Two (now (a .source)) r (c .before .before .before .before .before .before .before .before .before .before .before .before .before .before .before .before .before .before .read-scene-of-version .ensures) (c .before .before .before .before .before .before .before .before .before .before .before .before .before .before .before .before .enum-told .given .1) in
-    let size : length (now (a .source)) - 4 * r .scene .neighbours ≡ movedLength Two One (r .scene .neighbours) (now (a .source)) = omega (arith, known .room) in
-    let passed = both-pass (c .before .before .before .before .before .before .before .before .before .before .before .before .before .is-zero .result) _ _ (rw (c .before .before .before .before .before .before .before .before .enum-told2 .given .1, c .before .before .before .before .before .before .before .before .before .before .before .before .fault-unless .ensures, c .before .before .before .before .before .before .before .before .before .before .before .fault-unless2 .ensures) at (c .before .before .before .before .before .before .before .before .before .before .first-of .ensures)) in
-    let kept : keeps One (known .parts) ≡ true = rw (← known .numbers) (sym (c .before .before .before .before .before .before .before .before .before .before .before .before .before .is-zero .ensures) ∙ passed .0) in
+    let a =
+    c .before .before .before .before .before .before .before .before .before .before .before .before .before .before .before .before .before .before .before .before .before .args in
+    let r =
+    c .before .before .before .before .before .before .before .before .before .before .before .before .before .before .before .before .before .before .read-scene-of-version .result in
+    let known = reads Two (now (a .source)) r
+    (c .before .before .before .before .before .before .before .before .before .before .before .before .before .before .before .before .before .before .read-scene-of-version .ensures) (c .before .before .before .before .before .before .before .before .before .before .before .before .before .before .before .before .enum-told .given .1) in
+    let size : length (now (a .source)) - 4 * r .scene .neighbours
+    ≡ movedLength Two One (r .scene .neighbours) (now (a .source)) = omega (arith, known .room) in
+    let passed =
+    both-pass
+    (c .before .before .before .before .before .before .before .before .before .before .before .before .before .is-zero .result) _ _ (rw (c .before .before .before .before .before .before .before .before .enum-told2 .given .1, c .before .before .before .before .before .before .before .before .before .before .before .before .fault-unless .ensures, c .before .before .before .before .before .before .before .before .before .before .before .fault-unless2 .ensures) at (c .before .before .before .before .before .before .before .before .before .before .first-of .ensures)) in
+    let kept : keeps One (known .parts) ≡ true =
+    rw (← known .numbers)
+    (sym
+    (c .before .before .before .before .before .before .before .before .before .before .before .before .before .is-zero .ensures) ∙ passed .0) in
     told-moved Two One (now (a .source)) (now (a .buffer)) r known kept _ size (passed .1) _
-    (moved-put Two One (r .scene .neighbours) (now (a .source)) (known .room) (now (a .buffer)) _ _ (rw size at (c .before .before .before .before .before .before .put-start .ensures)) (c .before .before .put-unnumbered .ensures))
+    (moved-put Two One (r .scene .neighbours) (now (a .source)) (known .room) (now (a .buffer)) _ _
+    (rw size at (c .before .before .before .before .before .before .put-start .ensures))
+    (c .before .before .put-unnumbered .ensures))
 
 pub to-version-1-spec : {M : Type 1} → statement M
 to-version-1-spec =
-    tie.close (tie.spec (λ c κs. search needs) (λ c. search needs) returns (λ c. search needs) mul-length sub-length (λ c. search needs) is-zero-requires
-    (λ c κs. search needs) (λ c κs. search needs) (λ c κs. search needs) (λ c. search needs) returns-2 (λ c. search needs) mul-start sub-start
+    tie.close (tie.spec (λ c κs. search needs) (λ c. search needs) returns (λ c. search needs) mul-length sub-length
+    (λ c. search needs) is-zero-requires
+    (λ c κs. search needs) (λ c κs. search needs) (λ c κs. search needs) (λ c. search needs) returns-2
+    (λ c. search needs) mul-start sub-start
     put-start-requires put-unnumbered-requires same-length returns-3)

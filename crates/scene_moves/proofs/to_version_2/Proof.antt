@@ -16,45 +16,85 @@ returns : tie.Need-returns
 returns c = told-fault One _ _ (c .before .before .before .read-scene-of-version .ensures) Two _ _ (c .before .judged .given .1)
 
 mul-length : tie.Need-mul-length
-mul-length c = let known = reads One (now (c .before .before .before .before .before .args .source)) _ (c .before .before .read-scene-of-version .ensures) (c .enum-told .given .1) in omega (arith, known .few)
+mul-length c =
+    let known = reads One (now (c .before .before .before .before .before .args .source)) _
+    (c .before .before .read-scene-of-version .ensures) (c .enum-told .given .1) in
+    omega (arith, known .few)
 
 add-length : tie.Need-add-length
-add-length c = let known = reads One (now (c .before .before .before .before .before .args .source)) _ (c .before .before .read-scene-of-version .ensures) (c .enum-told .given .1) in omega (arith, known .few, known .short)
+add-length c =
+    let known = reads One (now (c .before .before .before .before .before .args .source)) _
+    (c .before .before .read-scene-of-version .ensures) (c .enum-told .given .1) in
+    omega (arith, known .few, known .short)
 
 returns-2 : tie.Need-returns-2
 returns-2 c =
-    let known = reads One (now (c .before .before .before .before .before .before .args .source)) _ (c .before .before .before .read-scene-of-version .ensures) (c .before .enum-told .given .1) in
+    let known = reads One (now (c .before .before .before .before .before .before .args .source)) _
+    (c .before .before .before .read-scene-of-version .ensures) (c .before .enum-told .given .1) in
     told-short One Two _ _ _ known refl _ (omega (arith, known .room)) (c .if1 .taken)
 
 mul-start : tie.Need-mul-start
-mul-start c = let known = reads One (now (c .before .before .before .before .before .before .args .source)) _ (c .before .before .before .read-scene-of-version .ensures) (c .before .enum-told .given .1) in omega (arith, known .few)
+mul-start c =
+    let known = reads One (now (c .before .before .before .before .before .before .args .source)) _
+    (c .before .before .before .read-scene-of-version .ensures) (c .before .enum-told .given .1) in
+    omega (arith, known .few)
 
 sub-start : tie.Need-sub-start
-sub-start c = let known = reads One (now (c .before .before .before .before .before .before .args .source)) _ (c .before .before .before .read-scene-of-version .ensures) (c .before .enum-told .given .1) in omega (arith, known .room)
+sub-start c =
+    let known = reads One (now (c .before .before .before .before .before .before .args .source)) _
+    (c .before .before .before .read-scene-of-version .ensures) (c .before .enum-told .given .1) in
+    omega (arith, known .room)
 
 put-start-requires : tie.Need-put-start-requires
 put-start-requires c κs =
-    let known = reads One (now (c .before .before .before .before .before .before .before .args .source)) _ (c .before .before .before .before .read-scene-of-version .ensures) (c .before .before .enum-told .given .1) in
-    (omega (arith, known .room), omega (arith, known .room), omega (arith, known .room, c .before .if1 .left), omega (arith, known .room), omega (arith, known .few, known .short))
+    let known = reads One (now (c .before .before .before .before .before .before .before .args .source)) _
+    (c .before .before .before .before .read-scene-of-version .ensures) (c .before .before .enum-told .given .1) in (
+      omega (arith, known .room),
+      omega (arith, known .room),
+      omega (arith, known .room, c .before .if1 .left),
+      omega (arith, known .room),
+      omega (arith, known .few, known .short),
+    )
 
 put-numbered-requires : tie.Need-put-numbered-requires
 put-numbered-requires c κs =
-    let known = reads One (now (c .before .before .before .before .before .before .before .before .before .before .before .args .source)) _ (c .before .before .before .before .before .before .before .before .read-scene-of-version .ensures) (c .before .before .before .before .before .before .enum-told .given .1) in
-    (omega (arith, known .room), omega (arith, known .room, c .before .before .before .put-start .kept .0, c .before .before .before .before .before .if1 .left))
+    let known =
+    reads One
+    (now (c .before .before .before .before .before .before .before .before .before .before .before .args .source))
+    _ (c .before .before .before .before .before .before .before .before .read-scene-of-version .ensures)
+    (c .before .before .before .before .before .before .enum-told .given .1) in (
+      omega (arith, known .room),
+      omega (
+        arith,
+        known .room,
+        c .before .before .before .put-start .kept .0,
+        c .before .before .before .before .before .if1 .left,
+      ),
+    )
 
 same-length : tie.Need-same-length
 same-length c = c .before .before .put-numbered .kept .0 ∙ c .before .before .before .before .before .before .put-start .kept .0
 
 returns-3 : tie.Need-returns-3
 returns-3 c =
-    let a = c .before .before .before .before .before .before .before .before .before .before .before .before .before .before .args in
-    let r = c .before .before .before .before .before .before .before .before .before .before .before .read-scene-of-version .result in
-    let known = reads One (now (c .before .before .before .before .before .before .before .before .before .before .before .before .before .before .args .source)) _ (c .before .before .before .before .before .before .before .before .before .before .before .read-scene-of-version .ensures) (c .before .before .before .before .before .before .before .before .before .enum-told .given .1) in
-    let size : length (now (a .source)) + 4 * r .scene .neighbours ≡ movedLength One Two (r .scene .neighbours) (now (a .source)) = omega (arith, known .room) in
-    told-moved One Two (now (a .source)) (now (a .buffer)) r known refl _ size (c .before .before .before .before .before .before .before .before .if1 .left) _
-    (moved-put One Two (r .scene .neighbours) (now (a .source)) (known .room) (now (a .buffer)) _ _ (rw size at (c .before .before .before .before .before .before .put-start .ensures)) (c .before .before .put-numbered .ensures))
+    let a =
+    c .before .before .before .before .before .before .before .before .before .before .before .before .before .before .args in
+    let r =
+    c .before .before .before .before .before .before .before .before .before .before .before .read-scene-of-version .result in
+    let known =
+    reads One
+    (now
+    (c .before .before .before .before .before .before .before .before .before .before .before .before .before .before .args .source)) _ (c .before .before .before .before .before .before .before .before .before .before .before .read-scene-of-version .ensures) (c .before .before .before .before .before .before .before .before .before .enum-told .given .1) in
+    let size : length (now (a .source)) + 4 * r .scene .neighbours
+    ≡ movedLength One Two (r .scene .neighbours) (now (a .source)) = omega (arith, known .room) in
+    told-moved One Two (now (a .source)) (now (a .buffer)) r known refl _ size
+    (c .before .before .before .before .before .before .before .before .if1 .left) _
+    (moved-put One Two (r .scene .neighbours) (now (a .source)) (known .room) (now (a .buffer)) _ _
+    (rw size at (c .before .before .before .before .before .before .put-start .ensures))
+    (c .before .before .put-numbered .ensures))
 
 pub to-version-2-spec : {M : Type 1} → statement M
 to-version-2-spec =
-    tie.close (tie.spec (λ c κs. search needs) (λ c. search needs) returns (λ c. search needs) mul-length add-length returns-2 mul-start sub-start
+    tie.close (tie.spec (λ c κs. search needs) (λ c. search needs) returns (λ c. search needs) mul-length add-length
+    returns-2 mul-start sub-start
     put-start-requires put-numbered-requires same-length returns-3)

@@ -7,7 +7,8 @@ use Rattle.scene_records.proofs.behind_version.Statement.{statement}
 use Rattle.scene_records.proofs.behind_version.Tie as tie
 
 returns : tie.Need-returns
-returns c = c .fields-at .ensures ∙ ap numberedAs (behind-read _ _ _ _ (rw (c .before .before .rest-fits .ensures) at (c .before .held-to .ensures)))
+returns c = c .fields-at .ensures ∙ ap numberedAs
+    (behind-read _ _ _ _ (rw (c .before .before .rest-fits .ensures) at (c .before .held-to .ensures)))
 
 pub behind-version-spec : {M : Type 1} → statement M
 behind-version-spec =

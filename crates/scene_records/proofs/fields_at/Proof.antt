@@ -29,12 +29,17 @@ returns c =
     let walls = neighbours .before .before .before .before in
     let vertices = walls .before .before .before .before in
     let obstacles = vertices .before .before .before in
-    let read-walls = rw (vertices .before .before .blank-bytes .ensures, vertices .before .blank-bytes2 .ensures, vertices .blank-vertices .ensures) at (walls .obstacles-at .ensures) in
+    let read-walls = rw (
+      vertices .before .before .blank-bytes .ensures,
+      vertices .before .blank-bytes2 .ensures,
+      vertices .blank-vertices .ensures,
+    ) at (walls .obstacles-at .ensures) in
     let read-lines = rw (blank .before .blank-lines .ensures, blank .blank-numbers .ensures) at (stored .store-lines .ensures) in
     c .refused .ensures
     ∙ made-fault numberedAs _ _ _ _ (c .before .before .number .given .1)
     (numbered-fields-read _ _ _ _ _ _ _ _ _ _ _ _ _ _ (obstacles .before .cart-at .ensures)
-    (count-known _ _ (obstacles .count-at .ensures)) read-walls (count-known _ _ (neighbours .count-at2 .ensures)) read-lines (ended .end-at .ensures))
+    (count-known _ _ (obstacles .count-at .ensures)) read-walls (count-known _ _ (neighbours .count-at2 .ensures))
+    read-lines (ended .end-at .ensures))
 
 returns-2 : tie.Need-returns-2
 returns-2 c =
@@ -45,14 +50,22 @@ returns-2 c =
     let walls = neighbours .before .before .before .before in
     let vertices = walls .before .before .before .before in
     let obstacles = vertices .before .before .before in
-    let read-walls = rw (vertices .before .before .blank-bytes .ensures, vertices .before .blank-bytes2 .ensures, vertices .blank-vertices .ensures) at (walls .obstacles-at .ensures) in
+    let read-walls = rw (
+      vertices .before .before .blank-bytes .ensures,
+      vertices .before .blank-bytes2 .ensures,
+      vertices .blank-vertices .ensures,
+    ) at (walls .obstacles-at .ensures) in
     let read-lines = rw (blank .before .blank-lines .ensures, blank .blank-numbers .ensures) at (stored .store-lines .ensures) in
     made-here numberedAs _ _ _ _ (c .before .before .before .enum-told .given .1)
     (numbered-fields-read _ _ _ _ _ _ _ _ _ _ _ _ _ _ (obstacles .before .cart-at .ensures)
-    (count-known _ _ (obstacles .count-at .ensures)) read-walls (count-known _ _ (neighbours .count-at2 .ensures)) read-lines (ended .end-at .ensures))
+    (count-known _ _ (obstacles .count-at .ensures)) read-walls (count-known _ _ (neighbours .count-at2 .ensures))
+    read-lines (ended .end-at .ensures))
 
 pub fields-at-spec : {M : Type 1} → statement M
 fields-at-spec =
-    tie.close (tie.spec (λ c κs. search needs) (λ c κs. search needs) (λ c κs. search needs) (λ c κs. search needs) (λ c κs. search needs)
-    (λ c. search needs) (λ c. search needs) (λ c. search needs) obstacles-at-requires (λ c κs. search needs) (λ c κs. search needs) (λ c κs. search needs)
-    (λ c. search needs) (λ c. search needs) store-lines-requires (λ c κs. search needs) (λ c. search needs) (λ c κs. search needs) returns (λ c. search needs) returns-2)
+    tie.close (tie.spec (λ c κs. search needs) (λ c κs. search needs) (λ c κs. search needs) (λ c κs. search needs)
+    (λ c κs. search needs)
+    (λ c. search needs) (λ c. search needs) (λ c. search needs) obstacles-at-requires (λ c κs. search needs)
+    (λ c κs. search needs) (λ c κs. search needs)
+    (λ c. search needs) (λ c. search needs) store-lines-requires (λ c κs. search needs) (λ c. search needs)
+    (λ c κs. search needs) returns (λ c. search needs) returns-2)

@@ -7,7 +7,9 @@ use Rattle.scene_records.proofs.read_scene.Statement.{statement}
 use Rattle.scene_records.proofs.read_scene.Tie as tie
 
 returns : tie.Need-returns
-returns c = c .behind-version .ensures ∙ ap numberedAs (either-given _ _ _ _ (c .before .before .length-of .ensures) (c .before .either-version-at .ensures))
+returns c = c .behind-version .ensures
+    ∙ ap numberedAs (either-given _ _ _ _ (c .before .before .length-of .ensures)
+    (c .before .either-version-at .ensures))
 
 pub read-scene-spec : {M : Type 1} → statement M
 read-scene-spec =

@@ -9,7 +9,8 @@ use Rattle.scene_records.proofs.read_scene_of_version.Tie as tie
 returns : tie.Need-returns
 returns c =
     c .behind-version .ensures
-    ∙ ap numberedAs (record-given _ _ _ _ (c .before .before .before .length-of .ensures) (rw (c .before .before .byte-of .ensures) at (c .before .version-at .ensures)))
+    ∙ ap numberedAs (record-given _ _ _ _ (c .before .before .before .length-of .ensures)
+    (rw (c .before .before .byte-of .ensures) at (c .before .version-at .ensures)))
 
 pub read-scene-of-version-spec : {M : Type 1} → statement M
 read-scene-of-version-spec =

@@ -13,7 +13,8 @@ use Rattle.session.proofs.count_below.Statement.{statement}
 use Rattle.session.proofs.count_below.Tie as tie
 
 abbrev Inv-loop : tie.InvT-loop
-Inv-loop withdrawn rigid below₀ k₀ below k = (k ≤ length withdrawn) × (below ≤ k) × (belowIn rigid withdrawn ≡ below + belowIn rigid (drop k withdrawn))
+Inv-loop withdrawn rigid below₀ k₀ below k =
+    (k ≤ length withdrawn) × (below ≤ k) × (belowIn rigid withdrawn ≡ below + belowIn rigid (drop k withdrawn))
 
 abbrev μ-loop : tie.MeasureT-loop
 μ-loop withdrawn rigid below₀ k₀ below k = length withdrawn - k
@@ -42,5 +43,6 @@ returns c =
 
 pub count-below-spec : {M : Type 1} → statement M
 count-below-spec =
-    tie.close (tie.spec Inv-loop μ-loop loop-holds (λ c. search needs) (λ c. search needs) more-below-requires (λ c. search needs) (λ c. search needs)
+    tie.close (tie.spec Inv-loop μ-loop loop-holds (λ c. search needs) (λ c. search needs) more-below-requires
+    (λ c. search needs) (λ c. search needs)
     loop-again returns)

@@ -12,7 +12,8 @@ use Rattle.session.proofs.find.Tie as tie
 
 abbrev Inv-loop : tie.InvT-loop
 Inv-loop count kind place found₀ origins n₀ i₀ found n i =
-    (i ≤ count) × (n ≤ i) × (length found ≡ 256) × (indicesFrom kind place 0 (take count origins) ≡ take n found ++ indicesFrom kind place i (drop i (take count origins)))
+    (i ≤ count) × (n ≤ i) × (length found ≡ 256) × (indicesFrom kind place 0 (take count origins)
+    ≡ take n found ++ indicesFrom kind place i (drop i (take count origins)))
 
 abbrev μ-loop : tie.MeasureT-loop
 μ-loop count kind place found₀ origins n₀ i₀ found n i = count - i
@@ -35,16 +36,22 @@ loop-again c =
       omega arith,
       omega (arith, noted .note .ensures .0),
       noted .note .kept .0 ∙ l .inv .2,
-      found-next (a .kind) (a .place) (a .t1) (a .count) (l .i) (omega arith) (omega arith) (noted .before .is-of .ensures) _ (take (l .n) (l .found)) _ (l .inv .3) (noted .note .ensures .1),
+      found-next (a .kind) (a .place) (a .t1) (a .count) (l .i) (omega arith) (omega arith)
+          (noted .before .is-of .ensures) _ (take (l .n) (l .found)) _ (l .inv .3) (noted .note .ensures .1),
     )
 
 returns : tie.Need-returns Inv-loop μ-loop
 returns c =
     let l = c .before .loop in
-    let a = c .before .before .before .args in
-    (omega arith, l .inv .2, found-all (a .kind) (a .place) (a .t1) (a .count) (l .i) (omega arith) (omega arith) _ (take (l .n) (l .found)) (l .inv .3))
+    let a = c .before .before .before .args in (
+      omega arith,
+      l .inv .2,
+      found-all (a .kind) (a .place) (a .t1) (a .count) (l .i) (omega arith) (omega arith) _
+          (take (l .n) (l .found)) (l .inv .3),
+    )
 
 pub find-spec : {M : Type 1} → statement M
 find-spec =
-    tie.close (tie.spec Inv-loop μ-loop loop-holds (λ c. search needs) (λ c. search needs) (λ c κs. search needs) note-requires (λ c. search needs)
+    tie.close (tie.spec Inv-loop μ-loop loop-holds (λ c. search needs) (λ c. search needs)
+    (λ c κs. search needs) note-requires (λ c. search needs)
     (λ c. search needs) loop-again (λ c. search needs) returns)

@@ -11,11 +11,15 @@ returns c = simp (eq-eqb _ _ (c .if1 .taken))
 
 returns-2 : tie.Need-returns-2
 unfolding fitting
-returns-2 c = let a = c .before .before .args in simp (ne-eqb _ _ (c .before .if1 .left), not-three (a .numbers) (a .lines) (c .if2 .taken))
+returns-2 c =
+    let a = c .before .before .args in
+    simp (ne-eqb _ _ (c .before .if1 .left), not-three (a .numbers) (a .lines) (c .if2 .taken))
 
 returns-3 : tie.Need-returns-3
 unfolding fitting
-returns-3 c = let a = c .before .before .args in simp (ne-eqb _ _ (c .before .if1 .left), three-each (a .numbers) (a .lines) (c .if2 .left))
+returns-3 c =
+    let a = c .before .before .args in
+    simp (ne-eqb _ _ (c .before .if1 .left), three-each (a .numbers) (a .lines) (c .if2 .left))
 
 pub is-fitting-spec : {M : Type 1} → statement M
 is-fitting-spec =

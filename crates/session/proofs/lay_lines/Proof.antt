@@ -14,7 +14,8 @@ use Rattle.session.proofs.lay_lines.Tie as tie
 
 abbrev Inv-loop : tie.InvT-loop
 Inv-loop count withdrawn numbers₀ lines n₀ numbers n =
-    (n ≤ count - length withdrawn) × (length numbers ≡ 1024) × (take n (linesOf numbers) ≡ take n (withoutAll withdrawn (take count lines)))
+    (n ≤ count - length withdrawn) × (length numbers ≡ 1024)
+    × (take n (linesOf numbers) ≡ take n (withoutAll withdrawn (take count lines)))
 
 abbrev μ-loop : tie.MeasureT-loop
 μ-loop count withdrawn numbers₀ lines n₀ numbers n = count - length withdrawn - n
@@ -38,7 +39,8 @@ loop-again c =
       omega arith,
       c .before .before .put-line .kept .0 ∙ l .inv .1,
       rw (c .before .before .put-line .ensures, stored-next (l .numbers) (l .n) _ (omega arith), l .inv .2)
-          (sym (laid-next (a .t1) (a .count) (now (a .withdrawn)) (l .n) (omega arith) (omega arith) near offLine _ (ap (λ k. getD (a .t1) k offLine) (from .0)))),
+          (sym (laid-next (a .t1) (a .count) (now (a .withdrawn)) (l .n) (omega arith) (omega arith) near offLine _
+          (ap (λ k. getD (a .t1) k offLine) (from .0)))),
     )
 
 returns : tie.Need-returns Inv-loop μ-loop
@@ -50,5 +52,6 @@ returns c =
 
 pub lay-lines-spec : {M : Type 1} → statement M
 lay-lines-spec =
-    tie.close (tie.spec Inv-loop μ-loop loop-holds (λ c. search needs) source-in-requires (λ c. search needs) array-copy-out-put-line
+    tie.close (tie.spec Inv-loop μ-loop loop-holds (λ c. search needs) source-in-requires
+    (λ c. search needs) array-copy-out-put-line
     (λ c κs. search needs) (λ c. search needs) (λ c. search needs) loop-again (λ c. search needs) returns)

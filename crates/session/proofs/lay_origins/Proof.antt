@@ -1,4 +1,5 @@
--- `session::lay_origins` meets its contract. The invariant: the first n of the origins that are left are laid out. Assumes nothing.
+-- `session::lay_origins` meets its contract. The invariant: the first n of the origins that are left are laid out.
+-- Assumes nothing.
 use Prim.Native.Nat.{_-_, _≤_}
 use mathlib.Core.Path.{_≡_, refl, sym, _∙_, ap}
 use native.Mathlib.Omega.{arith}
@@ -15,7 +16,8 @@ use Rattle.session.proofs.lay_origins.Tie as tie
 
 abbrev Inv-loop : tie.InvT-loop
 Inv-loop count withdrawn numbers₀ origins n₀ numbers n =
-    (n ≤ count - length withdrawn) × (length numbers ≡ 768) × (take n (originsOf numbers) ≡ take n (withoutAll withdrawn (take count origins)))
+    (n ≤ count - length withdrawn) × (length numbers ≡ 768)
+    × (take n (originsOf numbers) ≡ take n (withoutAll withdrawn (take count origins)))
 
 abbrev μ-loop : tie.MeasureT-loop
 μ-loop count withdrawn numbers₀ origins n₀ numbers n = count - length withdrawn - n
@@ -43,7 +45,8 @@ loop-again c =
       omega arith,
       c .before .before .put-origin .kept .0 ∙ l .inv .1,
       rw (c .before .before .put-origin .ensures, take-set-next (originsOf (l .numbers)) (l .n) (omega arith) _, l .inv .2)
-          (sym (laid-next (a .t1) (a .count) (now (a .withdrawn)) (l .n) (omega arith) (omega arith) near unknown _ (ap (λ k. getD (a .t1) k unknown) (from .0)))),
+          (sym (laid-next (a .t1) (a .count) (now (a .withdrawn)) (l .n) (omega arith) (omega arith) near unknown _
+          (ap (λ k. getD (a .t1) k unknown) (from .0)))),
     )
 
 returns : tie.Need-returns Inv-loop μ-loop
@@ -55,5 +58,6 @@ returns c =
 
 pub lay-origins-spec : {M : Type 1} → statement M
 lay-origins-spec =
-    tie.close (tie.spec Inv-loop μ-loop loop-holds (λ c. search needs) source-in-requires (λ c. search needs) array-copy-out-put-origin
+    tie.close (tie.spec Inv-loop μ-loop loop-holds (λ c. search needs) source-in-requires
+    (λ c. search needs) array-copy-out-put-origin
     put-origin-requires (λ c. search needs) (λ c. search needs) loop-again (λ c. search needs) returns)

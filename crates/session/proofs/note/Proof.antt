@@ -8,7 +8,9 @@ use Rattle.session.proofs.note.Statement.{statement}
 use Rattle.session.proofs.note.Tie as tie
 
 returns : tie.Need-returns
-returns c = let a = c .before .args in (omega arith, rw (c .if1 .taken) (noted (now (a .found)) (a .n) (a .index) (c .before .pre .0)))
+returns c =
+    let a = c .before .args in
+    (omega arith, rw (c .if1 .taken) (noted (now (a .found)) (a .n) (a .index) (c .before .pre .0)))
 
 returns-2 : tie.Need-returns-2
 returns-2 c = let a = c .before .args in (omega arith, rw (c .if1 .left) (not-noted (now (a .found)) (a .n) (a .index)))

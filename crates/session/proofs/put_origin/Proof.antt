@@ -19,5 +19,6 @@ returns c = let a = c .args in three-set (now (a .numbers)) (a .i) _ _ _ _ refl 
 
 pub put-origin-spec : {M : Type 1} → statement M
 put-origin-spec =
-    tie.close (tie.spec (λ c. search needs) (λ c. search needs) (λ c. search needs) (λ c. search needs) (λ c. search needs) slice-write-numbers-2
+    tie.close (tie.spec (λ c. search needs) (λ c. search needs) (λ c. search needs) (λ c. search needs)
+    (λ c. search needs) slice-write-numbers-2
     (λ c. search needs) (λ c. search needs) slice-write-numbers-3 (λ c. search needs) returns)

@@ -21,13 +21,18 @@ returns c =
     let n = s .count - length w in
     let b = lines .lay-lines .last .1 .1 .1 .0 in
     let t = origins .lay-origins .last .1 .1 .1 .0 in
-    refilled (s .wish) (s .limit) (a .rigid) b (4 * n - 0) (leftOf w (s .count) (s .lines)) t (3 * n - 0) (leftOf w (s .count) (s .origins))
-    (laid-lines b n (4 * n - 0) _ (omega arith) (omega (arith, start .pre .1, lines .lay-lines .ensures .0)) (lines .lay-lines .ensures .1))
-    (laid-origins t n (3 * n - 0) _ (omega arith) (omega (arith, start .pre .1, origins .lay-origins .ensures .0)) (origins .lay-origins .ensures .1))
+    refilled (s .wish) (s .limit) (a .rigid) b (4 * n - 0) (leftOf w (s .count) (s .lines)) t (3 * n - 0)
+    (leftOf w (s .count) (s .origins))
+    (laid-lines b n (4 * n - 0) _ (omega arith) (omega (arith, start .pre .1, lines .lay-lines .ensures .0))
+    (lines .lay-lines .ensures .1))
+    (laid-origins t n (3 * n - 0) _ (omega arith) (omega (arith, start .pre .1, origins .lay-origins .ensures .0))
+    (origins .lay-origins .ensures .1))
     (started .start .ensures .0) (c .then-feed .ensures)
 
 pub refill-spec : {M : Type 1} → statement M
 refill-spec =
-    tie.close (tie.spec (λ c. search needs) (λ c κs. search needs) (λ c. search needs) (λ c κs. search needs) (λ c. search needs) (λ c κs. search needs)
-    (λ c. search needs) (λ c. search needs) (λ c. search needs) (λ c. search needs) (λ c. search needs) (λ c. search needs) (λ c. search needs)
+    tie.close (tie.spec (λ c. search needs) (λ c κs. search needs) (λ c. search needs) (λ c κs. search needs)
+    (λ c. search needs) (λ c κs. search needs)
+    (λ c. search needs) (λ c. search needs) (λ c. search needs) (λ c. search needs) (λ c. search needs)
+    (λ c. search needs) (λ c. search needs)
     (λ c. search needs) (λ c κs. search needs) returns)

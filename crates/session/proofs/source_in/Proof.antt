@@ -1,4 +1,5 @@
--- `session::source_in` meets its contract. The invariant: the indices from k on take the place so far to the answer. Assumes nothing.
+-- `session::source_in` meets its contract. The invariant: the indices from k on take the place so far to the answer.
+-- Assumes nothing.
 use Prim.Native.Nat.{_+_, _-_, _≤_}
 use mathlib.Core.Path.{_≡_, refl, sym, _∙_, ap}
 use native.Mathlib.Omega.{arith}
@@ -11,7 +12,8 @@ use Rattle.session.proofs.source_in.Statement.{statement}
 use Rattle.session.proofs.source_in.Tie as tie
 
 abbrev Inv-loop : tie.InvT-loop
-Inv-loop withdrawn n from₀ k₀ from k = (k ≤ length withdrawn) × (from ≤ n + k) × (sourceIn withdrawn n ≡ sourceIn (drop k withdrawn) from)
+Inv-loop withdrawn n from₀ k₀ from k =
+    (k ≤ length withdrawn) × (from ≤ n + k) × (sourceIn withdrawn n ≡ sourceIn (drop k withdrawn) from)
 
 abbrev μ-loop : tie.MeasureT-loop
 μ-loop withdrawn n from₀ k₀ from k = length withdrawn - k
@@ -25,8 +27,13 @@ source-requires c κs = omega arith
 loop-again : tie.Need-loop-again Inv-loop μ-loop
 loop-again c =
     let a = c .before .before .before .before .before .args in
-    let l = c .before .before .before .loop in
-    (omega arith, omega (arith, c .source .ensures .1), l .inv .2 ∙ source-on (now (a .withdrawn)) (l .k) (l .from) (omega arith) ∙ ap (sourceIn (drop (l .k + 1) (now (a .withdrawn)))) (sym (c .source .ensures .0)))
+    let l = c .before .before .before .loop in (
+      omega arith,
+      omega (arith, c .source .ensures .1),
+      l .inv .2
+          ∙ source-on (now (a .withdrawn)) (l .k) (l .from) (omega arith)
+          ∙ ap (sourceIn (drop (l .k + 1) (now (a .withdrawn)))) (sym (c .source .ensures .0)),
+    )
 
 returns : tie.Need-returns Inv-loop μ-loop
 returns c =
@@ -36,5 +43,6 @@ returns c =
 
 pub source-in-spec : {M : Type 1} → statement M
 source-in-spec =
-    tie.close (tie.spec Inv-loop μ-loop loop-holds (λ c. search needs) (λ c. search needs) source-requires (λ c. search needs) (λ c. search needs)
+    tie.close (tie.spec Inv-loop μ-loop loop-holds (λ c. search needs) (λ c. search needs) source-requires
+    (λ c. search needs) (λ c. search needs)
     loop-again returns)

@@ -10,9 +10,12 @@ returns : tie.Need-returns
 returns c =
     let start = c .before .before .before .before .before .before .before .before .before in
     c .settle .ensures
-    ∙ worked-right (start .args .session) (now (start .args .numbers)) (now (start .args .brought)) (search unmap) (start .pre .0) _ _ _ _
-    (c .before .before .before .before .before .store .ensures) (c .before .before .before .store-origins .ensures) refl (c .before .resume-linear-program .ensures)
+    ∙ worked-right (start .args .session) (now (start .args .numbers)) (now (start .args .brought)) (search unmap)
+    (start .pre .0) _ _ _ _
+    (c .before .before .before .before .before .store .ensures) (c .before .before .before .store-origins .ensures) refl
+    (c .before .resume-linear-program .ensures)
 
 pub work-spec : {M : Type 1} → statement M
 work-spec =
-    tie.close (tie.spec (λ c. search needs) (λ c κs. search needs) (λ c κs. search needs) (λ c κs. search needs) (λ c κs. search needs) returns)
+    tie.close (tie.spec (λ c. search needs) (λ c κs. search needs) (λ c κs. search needs) (λ c κs. search needs)
+    (λ c κs. search needs) returns)

@@ -28,10 +28,14 @@ returns-4 c =
     let n = d .before .before in
     let r = n .before .before .before .before .before .before .before in
     let a = r .before .before .before .before .args in
-    some-read (now (a .input)) (r .read .last .1 .0) _ (a .before) _ (r .before .before .if1 .left) (n .count .result) (tally-read-requires (d .before) (d .tally-read .lifetimes)) (d .tally-read .ensures)
+    some-read (now (a .input)) (r .read .last .1 .0) _ (a .before) _ (r .before .before .if1 .left) (n .count .result)
+    (tally-read-requires (d .before) (d .tally-read .lifetimes)) (d .tally-read .ensures)
 
 pub turn-spec : {M : Type 1} → statement M
 turn-spec =
-    tie.close (tie.spec returns (λ c. search needs) (λ c. search needs) (λ c. search needs) (λ c κs. search needs) (λ c. search needs) (λ c κs. search needs)
-    (λ c. search needs) returns-2 (λ c. search needs) (λ c. search needs) (λ c. search needs) (λ c κs. search needs) (λ c. search needs) returns-3
-    (λ c. search needs) (λ c. search needs) (λ c. search needs) (λ c κs. search needs) (λ c. search needs) tally-read-requires (λ c. search needs) returns-4)
+    tie.close (tie.spec returns (λ c. search needs) (λ c. search needs) (λ c. search needs) (λ c κs. search needs)
+    (λ c. search needs) (λ c κs. search needs)
+    (λ c. search needs) returns-2 (λ c. search needs) (λ c. search needs) (λ c. search needs) (λ c κs. search needs)
+    (λ c. search needs) returns-3
+    (λ c. search needs) (λ c. search needs) (λ c. search needs) (λ c κs. search needs)
+    (λ c. search needs) tally-read-requires (λ c. search needs) returns-4)

@@ -1,4 +1,5 @@
--- `wall_check::check_edges` meets its contract. The invariant: behind what is known, the edges from that of the vertex i on make the answer. Assumes nothing.
+-- `wall_check::check_edges` meets its contract. The invariant: behind what is known, the edges from that of the vertex
+-- i on make the answer. Assumes nothing.
 use Prim.Native.Nat.{_+_, _-_, _/_, _≤_}
 use mathlib.Core.Path.{_≡_, refl, sym, _∙_}
 use native.Mathlib.Omega.{arith}
@@ -33,7 +34,8 @@ loop-again : tie.Need-loop-again Inv-loop μ-loop
 loop-again c =
     let a = c .before .before .before .before .args in
     let l = c .before .before .loop in
-    let on = edges-on (a .from) (a .to) (a .obstacle) (a .kind) (now (a .vertices)) (l .i) (l .known) (c .check-edge .ensures .0) in
+    let on = edges-on (a .from) (a .to) (a .obstacle) (a .kind) (now (a .vertices)) (l .i) (l .known)
+    (c .check-edge .ensures .0) in
     (omega arith, omega (arith, c .check-edge .ensures .1, l .inv .1), l .inv .2 ∙ on)
 
 returns : tie.Need-returns Inv-loop μ-loop
@@ -41,7 +43,8 @@ returns c =
     let a = c .before .before .before .args in
     let l = c .before .loop in
     let few = few-edges (a .kind) (length (now (a .vertices)) / 2) in
-    let done = edges-done (a .from) (a .to) (a .obstacle) (a .kind) (now (a .vertices)) (l .i) {s = l .known} (omega (arith, few)) in
+    let done = edges-done (a .from) (a .to) (a .obstacle) (a .kind) (now (a .vertices)) (l .i) {s =
+    l .known} (omega (arith, few)) in
     (sym (l .inv .2 ∙ done), omega (arith, l .inv .1))
 
 pub check-edges-spec : {M : Type 1} → statement M

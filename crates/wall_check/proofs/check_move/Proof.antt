@@ -20,7 +20,8 @@ check-obstacles-requires c κs =
 
 returns-2 : tie.Need-returns-2
 unfolding checkedMove
-returns-2 c = simp (← c .before .before .before .judge-move .ensures, c .before .enum-told .given .1) (c .check-obstacles .ensures)
+returns-2 c = simp (← c .before .before .before .judge-move .ensures, c .before .enum-told .given .1)
+    (c .check-obstacles .ensures)
 
 pub check-move-spec : {M : Type 1} → statement M
 check-move-spec =

@@ -10,7 +10,11 @@ returns c = simp (c .enum-told .given .1)
 
 returns-2 : tie.Need-returns-2
 unfolding crosses
-returns-2 c = simp (← c .are-within .ensures, ← c .before .time-to-intersect-lines .ensures, c .before .before .before .ends .given .1)
+returns-2 c = simp (
+  ← c .are-within .ensures,
+  ← c .before .time-to-intersect-lines .ensures,
+  c .before .before .before .ends .given .1,
+)
 
 pub is-crossed-spec : {M : Type 1} → statement M
 is-crossed-spec =

@@ -10,7 +10,12 @@ returns : tie.Need-returns
 unfolding moveFault
 returns c =
     let placed = c .before .before in
-    simp (← placed .before .before .judge-vector .ensures, ← placed .before .judge-vector2 .ensures, ← placed .first-of .ensures, c .enum-told2 .given .1)
+    simp (
+      ← placed .before .before .judge-vector .ensures,
+      ← placed .before .judge-vector2 .ensures,
+      ← placed .first-of .ensures,
+      c .enum-told2 .given .1,
+    )
 
 returns-2 : tie.Need-returns-2
 unfolding moveFault
@@ -47,5 +52,6 @@ returns-3 c =
 
 pub judge-move-spec : {M : Type 1} → statement M
 judge-move-spec =
-    tie.close (tie.spec (λ c κs. search needs) (λ c κs. search needs) (λ c κs. search needs) (λ c. search needs) (λ c. search needs) returns
+    tie.close (tie.spec (λ c κs. search needs) (λ c κs. search needs) (λ c κs. search needs) (λ c. search needs)
+    (λ c. search needs) returns
     (λ c κs. search needs) (λ c. search needs) (λ c. search needs) (λ c κs. search needs) returns-2 returns-3)

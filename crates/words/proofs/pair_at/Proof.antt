@@ -11,4 +11,5 @@ returns c = simp (c .before .byte-at .ensures .0, c .byte-at2 .ensures .0, add-z
 
 pub pair-at-spec : {M : Type 1} → statement M
 pair-at-spec =
-    tie.close (tie.spec (λ c κs. search needs) (λ c. search needs) (λ c κs. search needs) (λ c. search needs) (λ c. search needs) returns)
+    tie.close (tie.spec (λ c κs. search needs) (λ c. search needs) (λ c κs. search needs) (λ c. search needs)
+    (λ c. search needs) returns)

@@ -13,8 +13,16 @@ returns c =
     let third = fourth .before .before .before .before in
     let second = third .before .before .before .before in
     let first = second .before .before .before .before in
-    simp (fourth .put-byte4 .ensures, third .put-byte3 .ensures, second .put-byte2 .ensures, first .put-byte .ensures, towards-suc, add-zero)
+    simp (
+      fourth .put-byte4 .ensures,
+      third .put-byte3 .ensures,
+      second .put-byte2 .ensures,
+      first .put-byte .ensures,
+      towards-suc,
+      add-zero,
+    )
 
 pub put-word-spec : {M : Type 1} → statement M
 put-word-spec =
-    tie.close (tie.spec (λ c κs. search needs) (λ c κs. search needs) (λ c κs. search needs) (λ c κs. search needs) (λ c. search needs) returns)
+    tie.close (tie.spec (λ c κs. search needs) (λ c κs. search needs) (λ c κs. search needs) (λ c κs. search needs)
+    (λ c. search needs) returns)

@@ -7,7 +7,13 @@ use Rattle.words.proofs.word_at.Tie as tie
 
 returns : tie.Need-returns
 unfolding wordOf
-returns c = simp (c .before .before .before .byte-at .ensures .0, c .before .before .byte-at2 .ensures .0, c .before .byte-at3 .ensures .0, c .byte-at4 .ensures .0, add-zero)
+returns c = simp (
+  c .before .before .before .byte-at .ensures .0,
+  c .before .before .byte-at2 .ensures .0,
+  c .before .byte-at3 .ensures .0,
+  c .byte-at4 .ensures .0,
+  add-zero,
+)
 
 pub word-at-spec : {M : Type 1} → statement M
 word-at-spec =

@@ -7,12 +7,15 @@ use Rattle.boltmeadow.proofs.scenes.bm_answer_record.Statement.{stateme
 use Rattle.boltmeadow.proofs.scenes.bm_answer_record.Tie as tie
 
 returns : tie.Need-returns
-returns c = answer-left (c .outcome-with .ensures ∙ ap answerTold (sym (c .before .before .solved .given .1))) (c .before .before .before .before .before .before .answer-scene .ensures)
+returns c = answer-left (c .outcome-with .ensures ∙ ap answerTold (sym (c .before .before .solved .given .1)))
+    (c .before .before .before .before .before .before .answer-scene .ensures)
 
 returns-2 : tie.Need-returns-2
-returns-2 c = answer-left (c .refused .ensures ∙ ap answerTold (sym (c .before .before .solved2 .given .1))) (c .before .before .before .before .before .before .answer-scene .ensures)
+returns-2 c = answer-left (c .refused .ensures ∙ ap answerTold (sym (c .before .before .solved2 .given .1)))
+    (c .before .before .before .before .before .before .answer-scene .ensures)
 
 pub bm-answer-record-spec : {M : Type 1} → statement M
 bm-answer-record-spec =
-    tie.close (tie.spec (λ c κs. search needs) (λ c. search needs) (λ c κs. search needs) (λ c. search needs) (λ c κs. search needs)
+    tie.close (tie.spec (λ c κs. search needs) (λ c. search needs) (λ c κs. search needs) (λ c. search needs)
+    (λ c κs. search needs)
     (λ c. search needs) returns (λ c. search needs) returns-2)

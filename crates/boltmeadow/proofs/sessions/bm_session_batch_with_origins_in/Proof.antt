@@ -8,4 +8,5 @@ returns : tie.Need-returns
 returns c = search batch-with-left
 
 pub bm-session-batch-with-origins-in-spec : {M : Type 1} → statement M
-bm-session-batch-with-origins-in-spec = tie.close (tie.spec (λ c κs. search needs) (λ c κs. search needs) (λ c κs. search needs) returns)
+bm-session-batch-with-origins-in-spec =
+    tie.close (tie.spec (λ c κs. search needs) (λ c κs. search needs) (λ c κs. search needs) returns)

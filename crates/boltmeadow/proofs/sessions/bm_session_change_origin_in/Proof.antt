@@ -11,4 +11,5 @@ returns c =
     rw (← changed .before .session-in .ensures, ← changed .change-origin .ensures, ← c .leave .ensures)
 
 pub bm-session-change-origin-in-spec : {M : Type 1} → statement M
-bm-session-change-origin-in-spec = tie.close (tie.spec (λ c κs. search needs) (λ c κs. search needs) (λ c κs. search needs) returns)
+bm-session-change-origin-in-spec =
+    tie.close (tie.spec (λ c κs. search needs) (λ c κs. search needs) (λ c κs. search needs) returns)

@@ -7,7 +7,12 @@ use Rattle.edges.proofs.collision.corner_line.Tie as tie
 
 returns : tie.Need-returns
 unfolding cornerLine if_then_else_
-returns c = simp (← c .new .ensures, ← c .before .normalize .ensures, ← c .before .before .perp .ensures, c .before .before .before .if1 .taken)
+returns c = simp (
+  ← c .new .ensures,
+  ← c .before .normalize .ensures,
+  ← c .before .before .perp .ensures,
+  c .before .before .before .if1 .taken,
+)
 
 returns-2 : tie.Need-returns-2
 unfolding cornerLine if_then_else_
@@ -15,5 +20,6 @@ returns-2 c = simp (← c .new2 .ensures, ← c .before .neg .ensures, c .before
 
 pub corner-line-spec : {M : Type 1} → statement M
 corner-line-spec =
-    tie.close (tie.spec (λ c κs. search needs) (λ c κs. search needs) (λ c κs. search needs) returns (λ c κs. search needs) (λ c κs. search needs)
+    tie.close (tie.spec (λ c κs. search needs) (λ c κs. search needs) (λ c κs. search needs) returns
+    (λ c κs. search needs) (λ c κs. search needs)
     returns-2)

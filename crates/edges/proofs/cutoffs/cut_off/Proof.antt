@@ -6,9 +6,21 @@ use Rattle.edges.proofs.cutoffs.cut_off.Tie as tie
 
 returns : tie.Need-returns
 unfolding cutoffOf
-returns c = simp (← c .dot2 .ensures, ← c .before .sub5 .ensures, ← c .before .before .dot .ensures, ← c .before .before .before .sub4 .ensures, ← c .before .before .before .before .t-cutoff-edge .ensures, ← c .before .before .before .before .before .sub3 .ensures, ← c .before .before .before .before .before .before .div2 .ensures, ← c .before .before .before .before .before .before .before .sub2 .ensures, ← c .before .before .before .before .before .before .before .before .div .ensures, ← c .before .before .before .before .before .before .before .before .before .sub .ensures)
+returns c = simp (
+  ← c .dot2 .ensures,
+  ← c .before .sub5 .ensures,
+  ← c .before .before .dot .ensures,
+  ← c .before .before .before .sub4 .ensures,
+  ← c .before .before .before .before .t-cutoff-edge .ensures,
+  ← c .before .before .before .before .before .sub3 .ensures,
+  ← c .before .before .before .before .before .before .div2 .ensures,
+  ← c .before .before .before .before .before .before .before .sub2 .ensures,
+  ← c .before .before .before .before .before .before .before .before .div .ensures,
+  ← c .before .before .before .before .before .before .before .before .before .sub .ensures,
+)
 
 pub cut-off-spec : {M : Type 1} → statement M
 cut-off-spec =
-    tie.close (tie.spec (λ c κs. search needs) (λ c κs. search needs) (λ c κs. search needs) (λ c κs. search needs) (λ c κs. search needs)
+    tie.close (tie.spec (λ c κs. search needs) (λ c κs. search needs) (λ c κs. search needs) (λ c κs. search needs)
+    (λ c κs. search needs)
     (λ c κs. search needs) (λ c κs. search needs) (λ c κs. search needs) (λ c κs. search needs) (λ c κs. search needs) returns)

@@ -12,8 +12,15 @@ returns c = simp (c .if1 .taken)
 
 returns-2 : tie.Need-returns-2
 unfolding distanceUnless if_then_else_
-returns-2 c = simp (← c .length-squared .ensures, ← c .before .sub .ensures, ← c .before .before .add .ensures, ← c .before .before .before .mul .ensures, c .before .before .before .before .if1 .left)
+returns-2 c = simp (
+  ← c .length-squared .ensures,
+  ← c .before .sub .ensures,
+  ← c .before .before .add .ensures,
+  ← c .before .before .before .mul .ensures,
+  c .before .before .before .before .if1 .left,
+)
 
 pub distance-unless-spec : {M : Type 1} → statement M
 distance-unless-spec =
-    tie.close (tie.spec returns (λ c κs. search needs) (λ c κs. search needs) (λ c κs. search needs) (λ c κs. search needs) returns-2)
+    tie.close (tie.spec returns (λ c κs. search needs) (λ c κs. search needs) (λ c κs. search needs)
+    (λ c κs. search needs) returns-2)

@@ -10,7 +10,12 @@ returns c = simp (c .if1 .taken, ← c .before .are-below .ensures)
 
 returns-2 : tie.Need-returns-2
 unfolding projectsLeft
-returns-2 c = simp (← c .are-below2 .ensures, c .before .if2 .taken, c .before .before .if1 .left, ← c .before .before .before .are-below .ensures)
+returns-2 c = simp (
+  ← c .are-below2 .ensures,
+  c .before .if2 .taken,
+  c .before .before .if1 .left,
+  ← c .before .before .before .are-below .ensures,
+)
 
 returns-3 : tie.Need-returns-3
 unfolding projectsLeft

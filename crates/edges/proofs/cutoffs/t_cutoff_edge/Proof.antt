@@ -11,7 +11,12 @@ returns c = simp (c .if1 .taken)
 
 returns-2 : tie.Need-returns-2
 unfolding tCutoff if_then_else_
-returns-2 c = simp (← c .length-squared .ensures, ← c .before .dot .ensures, ← c .before .before .sub .ensures, c .before .before .before .if1 .left)
+returns-2 c = simp (
+  ← c .length-squared .ensures,
+  ← c .before .dot .ensures,
+  ← c .before .before .sub .ensures,
+  c .before .before .before .if1 .left,
+)
 
 pub t-cutoff-edge-spec : {M : Type 1} → statement M
 t-cutoff-edge-spec =

@@ -6,7 +6,12 @@ use Rattle.edges.proofs.in_front.line_for_shadows.Tie as tie
 
 returns : tie.Need-returns
 unfolding lineForShadows
-returns c = simp (← c .choose-line .ensures, ← c .before .cut-off .ensures, ← c .before .before .shadow-beside2 .ensures, ← c .before .before .before .shadow-beside .ensures)
+returns c = simp (
+  ← c .choose-line .ensures,
+  ← c .before .cut-off .ensures,
+  ← c .before .before .shadow-beside2 .ensures,
+  ← c .before .before .before .shadow-beside .ensures,
+)
 
 pub line-for-shadows-spec : {M : Type 1} → statement M
 line-for-shadows-spec =

@@ -11,17 +11,44 @@ returns c = simp (← c .corner-line .ensures, c .before .if1 .taken, ← c .bef
 
 returns-2 : tie.Need-returns-2
 unfolding lineInFront if_then_else_
-returns-2 c = simp (← c .right-corner-line .ensures, c .before .if2 .taken, ← c .before .before .reaches2 .ensures, c .before .before .before .before .if1 .left, ← c .before .before .before .before .before .reaches .ensures)
+returns-2 c = simp (
+  ← c .right-corner-line .ensures,
+  c .before .if2 .taken,
+  ← c .before .before .reaches2 .ensures,
+  c .before .before .before .before .if1 .left,
+  ← c .before .before .before .before .before .reaches .ensures,
+)
 
 returns-3 : tie.Need-returns-3
 unfolding lineInFront if_then_else_
-returns-3 c = simp (← c .new .ensures, ← c .before .neg .ensures, c .before .before .if3 .taken, ← c .before .before .before .reaches3 .ensures, ← c .before .before .before .before .in-unit .ensures, c .before .before .before .before .before .if2 .left, ← c .before .before .before .before .before .before .reaches2 .ensures, c .before .before .before .before .before .before .before .before .if1 .left, ← c .before .before .before .before .before .before .before .before .before .reaches .ensures)
+returns-3 c = simp (
+  ← c .new .ensures,
+  ← c .before .neg .ensures,
+  c .before .before .if3 .taken,
+  ← c .before .before .before .reaches3 .ensures,
+  ← c .before .before .before .before .in-unit .ensures,
+  c .before .before .before .before .before .if2 .left,
+  ← c .before .before .before .before .before .before .reaches2 .ensures,
+  c .before .before .before .before .before .before .before .before .if1 .left,
+  ← c .before .before .before .before .before .before .before .before .before .reaches .ensures,
+)
 
 returns-4 : tie.Need-returns-4
 unfolding lineInFront if_then_else_
-returns-4 c = simp (← c .line-past .ensures, c .before .if3 .left, ← c .before .before .reaches3 .ensures, ← c .before .before .before .in-unit .ensures, c .before .before .before .before .if2 .left, ← c .before .before .before .before .before .reaches2 .ensures, c .before .before .before .before .before .before .before .if1 .left, ← c .before .before .before .before .before .before .before .before .reaches .ensures)
+returns-4 c = simp (
+  ← c .line-past .ensures,
+  c .before .if3 .left,
+  ← c .before .before .reaches3 .ensures,
+  ← c .before .before .before .in-unit .ensures,
+  c .before .before .before .before .if2 .left,
+  ← c .before .before .before .before .before .reaches2 .ensures,
+  c .before .before .before .before .before .before .before .if1 .left,
+  ← c .before .before .before .before .before .before .before .before .reaches .ensures,
+)
 
 pub line-in-front-spec : {M : Type 1} → statement M
 line-in-front-spec =
-    tie.close (tie.spec (λ c κs. search needs) (λ c κs. search needs) returns (λ c κs. search needs) (λ c κs. search needs) returns-2
-    (λ c κs. search needs) (λ c κs. search needs) (λ c κs. search needs) (λ c κs. search needs) returns-3 (λ c κs. search needs) returns-4)
+    tie.close (tie.spec (λ c κs. search needs) (λ c κs. search needs) returns (λ c κs. search needs)
+    (λ c κs. search needs) returns-2
+    (λ c κs. search needs) (λ c κs. search needs) (λ c κs. search needs) (λ c κs. search needs) returns-3
+    (λ c κs. search needs) returns-4)

@@ -6,7 +6,12 @@ use Rattle.edges.proofs.in_front.line_of_edge.Tie as tie
 
 returns : tie.Need-returns
 unfolding lineOfEdge
-returns c = simp (← c .line-for-shadows .ensures, ← c .before .is-degenerate .ensures, ← c .before .before .shadow-direction2 .ensures, ← c .before .before .before .shadow-direction .ensures)
+returns c = simp (
+  ← c .line-for-shadows .ensures,
+  ← c .before .is-degenerate .ensures,
+  ← c .before .before .shadow-direction2 .ensures,
+  ← c .before .before .before .shadow-direction .ensures,
+)
 
 pub line-of-edge-spec : {M : Type 1} → statement M
 line-of-edge-spec =

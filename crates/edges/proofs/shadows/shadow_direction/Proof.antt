@@ -19,4 +19,5 @@ returns-3 c = simp (c .enum-told2 .given .1, c .before .before .if1 .left)
 
 pub shadow-direction-spec : {M : Type 1} → statement M
 shadow-direction-spec =
-    tie.close (tie.spec (λ c κs. search needs) returns (λ c. search needs) (λ c κs. search needs) (λ c. search needs) returns-2 returns-3)
+    tie.close (tie.spec (λ c κs. search needs) returns (λ c. search needs) (λ c κs. search needs)
+    (λ c. search needs) returns-2 returns-3)

@@ -19,7 +19,12 @@ fault-unless-requires c κs = search needs
 
 returns-3 : tie.Need-returns-3
 unfolding grownFault newEntryFits if_then_else_
-returns-3 c = simp (c .fault-unless .ensures, eq-eqb _ _ (c .before .if3 .taken), le-leb _ _ (c .before .before .if2 .left), le-leb _ _ (c .before .before .before .if1 .left))
+returns-3 c = simp (
+  c .fault-unless .ensures,
+  eq-eqb _ _ (c .before .if3 .taken),
+  le-leb _ _ (c .before .before .if2 .left),
+  le-leb _ _ (c .before .before .before .if1 .left),
+)
 
 returns-4 : tie.Need-returns-4
 unfolding grownFault newEntryFits if_then_else_

@@ -113,7 +113,8 @@ returns c =
     c .update-by-parts .ensures
     ∙ update-cut _ _ _ (head .start-within .ensures .0) _ _ _ (count .word-at .ensures) (first .end-within .ensures .0)
     (cut-by (place .entry-at .ensures) refl (at .start-within2 .ensures .0) (to .end-within2 .ensures .0))
-    (cut-by (word .word-at2 .ensures) (bytes .most-bytes .ensures) (from .start-within3 .ensures .0) (past .end-within3 .ensures .0))
+    (cut-by (word .word-at2 .ensures) (bytes .most-bytes .ensures) (from .start-within3 .ensures .0)
+    (past .end-within3 .ensures .0))
 
 pub update-in-spec : {M : Type 1} → statement M
 update-in-spec =

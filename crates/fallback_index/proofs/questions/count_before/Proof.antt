@@ -20,14 +20,24 @@ cast-t9 : tie.Need-cast-t9
 cast-t9 c = search needs
 
 add-t10 : tie.Need-add-t10
-add-t10 c = let f = walked-few _ _ _ (sym (rw (c .before .before .met .given .1) at (c .before .before .before .before .walk .ensures))) in omega arith
+add-t10 c =
+    let f =
+    walked-few _ _ _
+    (sym (rw (c .before .before .met .given .1) at (c .before .before .before .before .walk .ensures))) in
+    omega arith
 
 enum-known-met-2 : tie.Need-enum-known-met-2
 enum-known-met-2 c = search needs
 
 returns : tie.Need-returns
 unfolding before
-returns c = let f = walked-few _ _ _ (sym (rw (c .before .before .met .given .1) at (c .before .before .before .before .walk .ensures))) in (simp (← c .word-at .ensures, ← c .before .before .before .before .walk .ensures, c .before .before .met .given .1), omega arith)
+returns c =
+    let f =
+    walked-few _ _ _
+    (sym (rw (c .before .before .met .given .1) at (c .before .before .before .before .walk .ensures))) in (
+      simp (← c .word-at .ensures, ← c .before .before .before .before .walk .ensures, c .before .before .met .given .1),
+      omega arith,
+    )
 
 returns-2 : tie.Need-returns-2
 unfolding before

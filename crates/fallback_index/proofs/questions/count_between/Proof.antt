@@ -19,7 +19,11 @@ enum-known-second-2 c = search needs
 
 returns : tie.Need-returns
 unfolding if_then_else_
-returns c = simp (c .before .before .second2 .given .1, c .before .before .before .before .before .first2 .given .1, lt-ltb _ _ (c .if1 .taken))
+returns c = simp (
+  c .before .before .second2 .given .1,
+  c .before .before .before .before .before .first2 .given .1,
+  lt-ltb _ _ (c .if1 .taken),
+)
 
 returns-2 : tie.Need-returns-2
 returns-2 c = simp (c .before .first .given .1)
@@ -29,7 +33,11 @@ returns-3 c = simp (c .before .second .given .1, c .before .before .before .befo
 
 returns-4 : tie.Need-returns-4
 unfolding if_then_else_
-returns-4 c = simp (c .before .before .second2 .given .1, c .before .before .before .before .before .first2 .given .1, le-ltb _ _ (c .if1 .left))
+returns-4 c = simp (
+  c .before .before .second2 .given .1,
+  c .before .before .before .before .before .first2 .given .1,
+  le-ltb _ _ (c .if1 .left),
+)
 
 pub count-between-spec : {M : Type 1} → statement M
 count-between-spec =

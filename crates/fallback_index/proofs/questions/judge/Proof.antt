@@ -25,7 +25,13 @@ first-of-requires : tie.Need-first-of-requires
 first-of-requires c κs = search needs
 
 returns : tie.Need-returns
-returns c = simp (c .first-of .ensures, c .before .judge-places .ensures, c .before .before .judge-head .ensures, c .before .before .before .word-at2 .ensures, c .before .before .before .before .word-at .ensures)
+returns c = simp (
+  c .first-of .ensures,
+  c .before .judge-places .ensures,
+  c .before .before .judge-head .ensures,
+  c .before .before .before .word-at2 .ensures,
+  c .before .before .before .before .word-at .ensures,
+)
 
 pub judge-spec : {M : Type 1} → statement M
 judge-spec =

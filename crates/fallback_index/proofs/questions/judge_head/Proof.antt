@@ -24,18 +24,38 @@ returns-2 c = simp (le-leb 4 _ (c .before .before .if1 .left), ← c .before .wo
 
 returns-3 : tie.Need-returns-3
 unfolding headFault
-returns-3 c = simp (le-leb 4 _ (c .before .before .before .if1 .left), ← c .before .before .word-at .ensures, eq-eqb _ _ (c .before .if2 .left), lt-leb 5 _ (c .if3 .taken))
+returns-3 c = simp (
+  le-leb 4 _ (c .before .before .before .if1 .left),
+  ← c .before .before .word-at .ensures,
+  eq-eqb _ _ (c .before .if2 .left),
+  lt-leb 5 _ (c .if3 .taken),
+)
 
 version-of-requires : tie.Need-version-of-requires
 version-of-requires c κs = search needs
 
 returns-4 : tie.Need-returns-4
 unfolding headFault
-returns-4 c = simp (le-leb 4 _ (c .before .before .before .before .before .if1 .left), ← c .before .before .before .before .word-at .ensures, eq-eqb _ _ (c .before .before .before .if2 .left), le-leb 5 _ (c .before .before .if3 .left), ← c .before .version-of .ensures, ne-eqb _ _ (c .if4 .taken))
+returns-4 c = simp (
+  le-leb 4 _ (c .before .before .before .before .before .if1 .left),
+  ← c .before .before .before .before .word-at .ensures,
+  eq-eqb _ _ (c .before .before .before .if2 .left),
+  le-leb 5 _ (c .before .before .if3 .left),
+  ← c .before .version-of .ensures,
+  ne-eqb _ _ (c .if4 .taken),
+)
 
 returns-5 : tie.Need-returns-5
 unfolding headFault
-returns-5 c = simp (le-leb 4 _ (c .before .before .before .before .before .before .if1 .left), ← c .before .before .before .before .before .word-at .ensures, eq-eqb _ _ (c .before .before .before .before .if2 .left), le-leb 5 _ (c .before .before .before .if3 .left), ← c .before .before .version-of .ensures, eq-eqb _ _ (c .before .if4 .left), lt-leb 13 _ (c .if5 .taken))
+returns-5 c = simp (
+  le-leb 4 _ (c .before .before .before .before .before .before .if1 .left),
+  ← c .before .before .before .before .before .word-at .ensures,
+  eq-eqb _ _ (c .before .before .before .before .if2 .left),
+  le-leb 5 _ (c .before .before .before .if3 .left),
+  ← c .before .before .version-of .ensures,
+  eq-eqb _ _ (c .before .if4 .left),
+  lt-leb 13 _ (c .if5 .taken),
+)
 
 word-at-requires-2 : tie.Need-word-at-requires-2
 word-at-requires-2 c κs = search needs
@@ -57,7 +77,17 @@ fault-unless-requires c κs = search needs
 
 returns-6 : tie.Need-returns-6
 unfolding headFault
-returns-6 c = simp (c .fault-unless .ensures, ← c .before .word-at2 .ensures, le-leb 4 _ (c .before .before .before .before .before .before .before .before .if1 .left), ← c .before .before .before .before .before .before .before .word-at .ensures, eq-eqb _ _ (c .before .before .before .before .before .before .if2 .left), le-leb 5 _ (c .before .before .before .before .before .if3 .left), ← c .before .before .before .before .version-of .ensures, eq-eqb _ _ (c .before .before .before .if4 .left), le-leb 13 _ (c .before .before .if5 .left))
+returns-6 c = simp (
+  c .fault-unless .ensures,
+  ← c .before .word-at2 .ensures,
+  le-leb 4 _ (c .before .before .before .before .before .before .before .before .if1 .left),
+  ← c .before .before .before .before .before .before .before .word-at .ensures,
+  eq-eqb _ _ (c .before .before .before .before .before .before .if2 .left),
+  le-leb 5 _ (c .before .before .before .before .before .if3 .left),
+  ← c .before .before .before .before .version-of .ensures,
+  eq-eqb _ _ (c .before .before .before .if4 .left),
+  le-leb 13 _ (c .before .before .if5 .left),
+)
 
 pub judge-head-spec : {M : Type 1} → statement M
 judge-head-spec =

@@ -19,7 +19,12 @@ returns-3 c = simp (le-leb _ _ (c .before .before .if1 .left), le-leb _ _ (c .be
 
 returns-4 : tie.Need-returns-4
 unfolding rangeFault
-returns-4 c = simp (c .fault-unless .ensures, le-leb _ _ (c .before .before .before .if1 .left), le-leb _ _ (c .before .before .if2 .left), le-leb _ _ (c .before .if3 .left))
+returns-4 c = simp (
+  c .fault-unless .ensures,
+  le-leb _ _ (c .before .before .before .if1 .left),
+  le-leb _ _ (c .before .before .if2 .left),
+  le-leb _ _ (c .before .if3 .left),
+)
 
 pub judge-range-spec : {M : Type 1} → statement M
 judge-range-spec = tie.close (tie.spec returns returns-2 returns-3 (λ c κs. search needs) returns-4)

@@ -14,7 +14,8 @@ part-write-all-end c =
     let build = told .before .before .before .before in
     let s = build .before .before .before .before .before .before .before in
     let a = s .args in
-    let there = entries-there (now (a .input)) (a .there) (now (a .entries)) (a .before) (s .pre .1) _ _ _ _ (rw (told .built2 .given .1) at (build .build-part .ensures)) in
+    let there = entries-there (now (a .input)) (a .there) (now (a .entries)) (a .before) (s .pre .1) _ _ _ _
+    (rw (told .built2 .given .1) at (build .build-part .ensures)) in
     omega (arith, there)
 
 returns : tie.Need-returns
@@ -28,8 +29,11 @@ returns-2 c =
     let told = c .before .before in
     let build = told .before .before .before .before in
     let s = build .before .before .before .before .before .before .before in
-    let a = s .args in
-    (worked (refused-step (now (a .input)) (a .there) (now (a .entries)) (a .before) (s .pre .1) _ _ (rw (told .built .given .1) at (build .build-part .ensures))), s .pre .0)
+    let a = s .args in (
+      worked (refused-step (now (a .input)) (a .there) (now (a .entries)) (a .before) (s .pre .1) _ _
+          (rw (told .built .given .1) at (build .build-part .ensures))),
+      s .pre .0,
+    )
 
 returns-3 : tie.Need-returns-3
 returns-3 c =
@@ -39,12 +43,15 @@ returns-3 c =
     let s = build .before .before .before .before .before .before .before in
     let a = s .args in
     let e = rw (told .built2 .given .1) at (build .build-part .ensures) in (
-      worked (whole-step (now (a .input)) (a .there) (now (a .entries)) (a .before) (s .pre .1) _ _ _ _ e _ _ (keep .keep .ensures)),
+      worked (whole-step (now (a .input)) (a .there) (now (a .entries)) (a .before) (s .pre .1) _ _ _ _ e _ _
+          (keep .keep .ensures)),
       few-wait (now (a .input)) (a .there) (now (a .entries)) (a .before) (s .pre .1) _ _ _ _ e _ _ (keep .keep .ensures),
     )
 
 pub step-spec : {M : Type 1} → statement M
 step-spec =
-    tie.close (tie.spec (λ c. search needs) (λ c. search needs) (λ c. search needs) (λ c κs. search needs) (λ c. search needs) (λ c. search needs)
-    (λ c. search needs) (λ c. search needs) part-write-all-end (λ c κs. search needs) (λ c. search needs) (λ c. search needs) returns
+    tie.close (tie.spec (λ c. search needs) (λ c. search needs) (λ c. search needs) (λ c κs. search needs)
+    (λ c. search needs) (λ c. search needs)
+    (λ c. search needs) (λ c. search needs) part-write-all-end (λ c κs. search needs) (λ c. search needs)
+    (λ c. search needs) returns
     (λ c κs. search needs) (λ c. search needs) (λ c. search needs) returns-2 (λ c. search needs) (λ c. search needs) returns-3)

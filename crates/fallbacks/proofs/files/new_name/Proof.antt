@@ -19,6 +19,8 @@ returns-3 c = simp length-set (omega (arith, c .if2 .left, c .before .if1 .left)
 
 pub new-name-spec : {M : Type 1} → statement M
 new-name-spec =
-    tie.close (tie.spec (λ c κs. search needs) (λ c. search needs) (λ c. search needs) (λ c. search needs) (λ c. search needs) (λ c. search needs)
-    (λ c. search needs) (λ c. search needs) slice-write-name-2 (λ c. search needs) slice-write-name-3 (λ c. search needs) slice-write-name-4
+    tie.close (tie.spec (λ c κs. search needs) (λ c. search needs) (λ c. search needs) (λ c. search needs)
+    (λ c. search needs) (λ c. search needs)
+    (λ c. search needs) (λ c. search needs) slice-write-name-2 (λ c. search needs) slice-write-name-3
+    (λ c. search needs) slice-write-name-4
     (λ c. search needs) (λ c. search needs) returns-3)

@@ -15,50 +15,67 @@ abbrev μ-loop : tie.MeasureT-loop
 μ-loop part buffer₀ start at₀ to₀ extent₀ buffer at to extent = length part - at
 
 loop-holds : tie.Need-loop-holds Inv-loop μ-loop
-loop-holds c = let p = c .before .before .pre in record { within = omega arith; grown = none-grown _; whole = p .1 .0; room-left = p .1 .1; stands = refl }
+loop-holds c = let p = c .before .before .pre in record {
+  within = omega arith;
+  grown = none-grown _;
+  whole = p .1 .0;
+  room-left = p .1 .1;
+  stands = refl;
+}
 
 same-length : tie.Need-same-length Inv-loop μ-loop
 same-length c =
     let met = c .before .before in
     let turn = met .before .before in
-    absurd (fills-no-bad (turn .before .before .before .pre .0) (turn .loop .inv) _ (rw (c .enum-told .given .1, met .before .whole-at .ensures) at (met .pass .ensures)))
+    absurd (fills-no-bad (turn .before .before .before .pre .0) (turn .loop .inv) _
+    (rw (c .enum-told .given .1, met .before .whole-at .ensures) at (met .pass .ensures)))
 
 returns : tie.Need-returns Inv-loop μ-loop
 returns c =
     let met = c .before .before in
     let turn = met .before .before in
-    absurd (fills-no-bad (turn .before .before .before .pre .0) (turn .loop .inv) _ (rw (c .enum-told .given .1, met .before .whole-at .ensures) at (met .pass .ensures)))
+    absurd (fills-no-bad (turn .before .before .before .pre .0) (turn .loop .inv) _
+    (rw (c .enum-told .given .1, met .before .whole-at .ensures) at (met .pass .ensures)))
 
 same-length-2 : tie.Need-same-length-2 Inv-loop μ-loop
 same-length-2 c =
     let met = c .before .before in
     let turn = met .before .before in
-    fills-length (turn .before .before .before .pre .0) (turn .loop .inv) (rw (c .enum-told2 .given .1, met .before .whole-at .ensures) at (met .pass .ensures))
+    fills-length (turn .before .before .before .pre .0) (turn .loop .inv)
+    (rw (c .enum-told2 .given .1, met .before .whole-at .ensures) at (met .pass .ensures))
 
 returns-2 : tie.Need-returns-2 Inv-loop μ-loop
 returns-2 c =
     let met = c .before .before in
     let turn = met .before .before in
-    fills-through (turn .before .before .before .pre .0) (turn .loop .inv) (rw (c .enum-told2 .given .1, met .before .whole-at .ensures) at (met .pass .ensures))
+    fills-through (turn .before .before .before .pre .0) (turn .loop .inv)
+    (rw (c .enum-told2 .given .1, met .before .whole-at .ensures) at (met .pass .ensures))
 
 sub-extended : tie.Need-sub-extended Inv-loop μ-loop
 sub-extended c =
     let met = c .before .before .before in
     let turn = met .before .before in
-    omega (arith, step-on _ _ (turn .before .before .before .pre .0) (turn .loop .inv .grown) _ _ (rw (c .before .passed .given .1, met .before .whole-at .ensures) at (met .pass .ensures)))
+    omega (
+      arith,
+      step-on _ _ (turn .before .before .before .pre .0) (turn .loop .inv .grown) _ _
+          (rw (c .before .passed .given .1, met .before .whole-at .ensures) at (met .pass .ensures)),
+    )
 
 extended-requires : tie.Need-extended-requires Inv-loop μ-loop
 extended-requires c κs =
     let met = c .before .before .before in
     let turn = met .before .before in
-    let f = step-fits _ _ (turn .before .before .before .pre .0) (turn .loop .inv .grown) _ _ (rw (c .before .passed .given .1, met .before .whole-at .ensures) at (met .pass .ensures)) in
+    let f = step-fits _ _ (turn .before .before .before .pre .0) (turn .loop .inv .grown) _ _
+    (rw (c .before .passed .given .1, met .before .whole-at .ensures) at (met .pass .ensures)) in
     (f .0, (f .1, f .2))
 
 put-new-entry-requires : tie.Need-put-new-entry-requires Inv-loop μ-loop
 put-new-entry-requires c κs =
     let met = c .before .before .before .before .before in
     let turn = met .before .before in
-    entry-room (turn .before .before .before .pre .0) (turn .loop .inv) _ _ (rw (c .before .before .before .passed .given .1, met .before .whole-at .ensures) at (met .pass .ensures)) (c .before .extended .ensures)
+    entry-room (turn .before .before .before .pre .0) (turn .loop .inv) _ _
+    (rw (c .before .before .before .passed .given .1, met .before .whole-at .ensures) at (met .pass .ensures))
+    (c .before .extended .ensures)
 
 loop-less : tie.Need-loop-less Inv-loop μ-loop
 loop-less c =
@@ -80,5 +97,7 @@ loop-again c =
 
 pub fill-spec : {M : Type 1} → statement M
 fill-spec =
-    tie.close (tie.spec Inv-loop μ-loop loop-holds (λ c κs. search needs) (λ c κs. search needs) (λ c. search needs) same-length returns
-    (λ c. search needs) same-length-2 returns-2 (λ c. search needs) sub-extended extended-requires put-new-entry-requires loop-less loop-again)
+    tie.close (tie.spec Inv-loop μ-loop loop-holds (λ c κs. search needs) (λ c κs. search needs)
+    (λ c. search needs) same-length returns
+    (λ c. search needs) same-length-2 returns-2 (λ c. search needs) sub-extended extended-requires
+    put-new-entry-requires loop-less loop-again)

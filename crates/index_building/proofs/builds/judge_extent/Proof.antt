@@ -9,7 +9,9 @@ use Rattle.index_building.proofs.builds.judge_extent.Tie as tie
 
 returns : tie.Need-returns
 unfolding extentFault
-returns c = let a = c .before .before .args in rw (← room-test (a .extent .bytes) (a .size) (omega arith), lt-leb _ _ (c .if1 .taken))
+returns c =
+    let a = c .before .before .args in
+    rw (← room-test (a .extent .bytes) (a .size) (omega arith), lt-leb _ _ (c .if1 .taken))
 
 returns-2 : tie.Need-returns-2
 unfolding extentFault

@@ -34,8 +34,10 @@ returns-3 c =
     let start = c .before .before .before .before .before .before .before in
     let parts = c .before .before .before .before .pass2 .given .0 in
     let short = taken-most (start .args .count) (linesOf (now (start .args .lines))) (start .pre .0) in
-    let relaxed = relaxed-behind _ _ _ short _ _ _ (failedLine (failureOf (parts .0))) (parts .1 .1 .0) _ (c .before .solve-linear-program-3d .ensures) in
-    simp (le-ltb _ _ (c .before .before .if1 .left), c .before .before .before .before .pass2 .given .1) (c .relaxed-answer .ensures ∙ relaxed)
+    let relaxed = relaxed-behind _ _ _ short _ _ _ (failedLine (failureOf (parts .0))) (parts .1 .1 .0) _
+    (c .before .solve-linear-program-3d .ensures) in
+    simp (le-ltb _ _ (c .before .before .if1 .left), c .before .before .before .before .pass2 .given .1)
+    (c .relaxed-answer .ensures ∙ relaxed)
 
 returns-4 : tie.Need-returns-4
 unfolding afterPass if_then_else_
@@ -43,5 +45,6 @@ returns-4 c = simp (c .before .pass3 .given .1)
 
 pub after-pass-spec : {M : Type 1} → statement M
 after-pass-spec =
-    tie.close (tie.spec (λ c. search needs) (λ c. search needs) returns (λ c κs. search needs) relaxed-answer-requires (λ c. search needs)
+    tie.close (tie.spec (λ c. search needs) (λ c. search needs) returns (λ c κs. search needs) relaxed-answer-requires
+    (λ c. search needs)
     returns-2 returns-3 returns-4)

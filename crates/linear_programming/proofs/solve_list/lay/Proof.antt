@@ -24,7 +24,13 @@ loop-again c =
     let l = c .before .before .before .before .before .before .loop in (
       omega arith,
       c .before .before .put-line .kept .0 ∙ l .inv .1,
-      rw (c .before .before .put-line .ensures, stored-next (l .numbers) (l .n) _ (omega arith), take-next (c .before .before .before .before .before .before .before .before .args .t1) (l .n) (omega arith) offLine, l .inv .2),
+      rw (
+        c .before .before .put-line .ensures,
+        stored-next (l .numbers) (l .n) _ (omega arith),
+        take-next (c .before .before .before .before .before .before .before .before .args .t1) (l .n)
+            (omega arith) offLine,
+        l .inv .2,
+      ),
     )
 
 returns : tie.Need-returns Inv-loop μ-loop
@@ -34,5 +40,6 @@ returns c =
 
 pub lay-spec : {M : Type 1} → statement M
 lay-spec =
-    tie.close (tie.spec Inv-loop μ-loop loop-holds (λ c. search needs) (λ c. search needs) (λ c κs. search needs) (λ c. search needs)
+    tie.close (tie.spec Inv-loop μ-loop loop-holds (λ c. search needs) (λ c. search needs) (λ c κs. search needs)
+    (λ c. search needs)
     (λ c. search needs) loop-again (λ c. search needs) returns)

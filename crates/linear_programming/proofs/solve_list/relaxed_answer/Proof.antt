@@ -12,4 +12,6 @@ returns-2 c = simp (c .before .relaxed2 .given .1)
 
 pub relaxed-answer-spec : {M : Type 1} → statement M
 relaxed-answer-spec =
-    tie.close (tie.spec (λ c. search needs) (λ c. let h = rw (c .before .relaxed .given .1) at (c .before .before .before .pre .1) in omega arith) (λ c. search needs) returns returns-2)
+    tie.close (tie.spec (λ c. search needs) (λ c. let h =
+    rw (c .before .relaxed .given .1) at (c .before .before .before .pre .1) in omega arith)
+    (λ c. search needs) returns returns-2)

@@ -38,8 +38,10 @@ unfolding resumed
 returns-2 c =
     let start = c .before .before .before .before .before .before .before in
     let short = taken-most (start .args .count) (linesOf (now (start .args .lines))) (start .pre) in
-    let relaxed = relaxed-behind _ _ _ short _ _ _ (failedOf (start .args .failed)) 0 _ (c .before .solve-linear-program-3d .ensures) in
-    simp (← c .before .before .new2 .ensures, c .before .before .before .before .phase2 .given .1) (c .relaxed-answer .ensures ∙ relaxed)
+    let relaxed = relaxed-behind _ _ _ short _ _ _ (failedOf (start .args .failed)) 0 _
+    (c .before .solve-linear-program-3d .ensures) in
+    simp (← c .before .before .new2 .ensures, c .before .before .before .before .phase2 .given .1)
+    (c .relaxed-answer .ensures ∙ relaxed)
 
 returns-3 : tie.Need-returns-3
 unfolding resumed

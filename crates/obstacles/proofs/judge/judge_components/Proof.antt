@@ -11,8 +11,13 @@ returns : tie.Need-returns
 unfolding componentsFault
 returns c =
     let a = c .before .before .before .before .args in
-    rw (drop-drop 1 (2 * a .i) (now (a .vertices)), ← c .before .judge-number2 .ensures, ← c .before .before .judge-number .ensures) (c .first-of .ensures)
+    rw (
+      drop-drop 1 (2 * a .i) (now (a .vertices)),
+      ← c .before .judge-number2 .ensures,
+      ← c .before .before .judge-number .ensures,
+    ) (c .first-of .ensures)
 
 pub judge-components-spec : {M : Type 1} → statement M
 judge-components-spec =
-    tie.close (tie.spec (λ c. search needs) (λ c κs. search needs) (λ c. search needs) (λ c κs. search needs) (λ c κs. search needs) returns)
+    tie.close (tie.spec (λ c. search needs) (λ c κs. search needs) (λ c. search needs) (λ c κs. search needs)
+    (λ c κs. search needs) returns)

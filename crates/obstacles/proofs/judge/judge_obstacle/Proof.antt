@@ -13,19 +13,32 @@ returns c = simp (c .enum-told2 .given .1, ← c .before .before .judge-head .en
 
 returns-2 : tie.Need-returns-2
 unfolding obstacleFault
-returns-2 c = simp (c .enum-told4 .given .1, ← c .before .before .judge-outline .ensures, c .before .before .before .enum-told .given .1, ← c .before .before .before .before .before .judge-head .ensures)
+returns-2 c = simp (
+  c .enum-told4 .given .1,
+  ← c .before .before .judge-outline .ensures,
+  c .before .before .before .enum-told .given .1,
+  ← c .before .before .before .before .before .judge-head .ensures,
+)
 
 mul-fault-unless : tie.Need-mul-fault-unless
 mul-fault-unless c =
-    let passed = rw (c .before .before .before .before .enum-told .given .1) at (c .before .before .before .before .before .before .judge-head .ensures) in
+    let passed =
+    rw (c .before .before .before .before .enum-told .given .1) at (c .before .before .before .before .before .before .judge-head .ensures) in
     let room = head-room 0 (c .before .before .before .before .before .before .before .before .args .head) (sym passed) in
     omega (arith, room .0)
 
 returns-3 : tie.Need-returns-3
 unfolding obstacleFault
-returns-3 c = simp (← c .fault-unless .ensures, c .before .before .enum-told3 .given .1, ← c .before .before .before .before .judge-outline .ensures, c .before .before .before .before .before .enum-told .given .1, ← c .before .before .before .before .before .before .before .judge-head .ensures)
+returns-3 c = simp (
+  ← c .fault-unless .ensures,
+  c .before .before .enum-told3 .given .1,
+  ← c .before .before .before .before .judge-outline .ensures,
+  c .before .before .before .before .before .enum-told .given .1,
+  ← c .before .before .before .before .before .before .before .judge-head .ensures,
+)
 
 pub judge-obstacle-spec : {M : Type 1} → statement M
 judge-obstacle-spec =
-    tie.close (tie.spec (λ c κs. search needs) (λ c. search needs) (λ c. search needs) returns (λ c κs. search needs) (λ c. search needs)
+    tie.close (tie.spec (λ c κs. search needs) (λ c. search needs) (λ c. search needs) returns (λ c κs. search needs)
+    (λ c. search needs)
     (λ c. search needs) returns-2 mul-fault-unless (λ c κs. search needs) returns-3)

@@ -27,10 +27,12 @@ returns-2 c =
     let known = c .before .before .before in
     let a = known .before .before .before .before .args in
     let passed = rw (known .enum-told .given .1) at (known .before .before .judge-components .ensures) in
-    let own : _ ≡ frontOf (drop (2 * a .i) (now (a .vertices))) = c .before .before .vertex-at .ensures ∙ front-at (now (a .vertices)) (a .i) (components-there (now (a .vertices)) (a .i) passed) in
+    let own : _ ≡ frontOf (drop (2 * a .i) (now (a .vertices))) = c .before .before .vertex-at .ensures
+    ∙ front-at (now (a .vertices)) (a .i) (components-there (now (a .vertices)) (a .i) passed) in
     rw (← own, ← passed, ← c .before .may-follow .ensures) (c .fault-unless .ensures)
 
 pub judge-vertex-spec : {M : Type 1} → statement M
 judge-vertex-spec =
-    tie.close (tie.spec (λ c κs. search needs) (λ c. search needs) (λ c. search needs) returns vertex-at-requires (λ c κs. search needs)
+    tie.close (tie.spec (λ c κs. search needs) (λ c. search needs) (λ c. search needs) returns vertex-at-requires
+    (λ c κs. search needs)
     (λ c κs. search needs) returns-2)

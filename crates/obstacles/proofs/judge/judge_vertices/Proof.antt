@@ -1,4 +1,5 @@
--- `obstacles::judge::judge_vertices` meets its contract. The invariant: the vertices before i pass, and so are there. Assumes nothing.
+-- `obstacles::judge::judge_vertices` meets its contract. The invariant: the vertices before i pass, and so are there.
+-- Assumes nothing.
 use Prim.Native.Nat.{_-_, _*_, _≤_}
 use mathlib.Core.Path.{_≡_, sym, _∙_}
 use native.Mathlib.Omega.{arith}
@@ -16,7 +17,8 @@ use Rattle.obstacles.proofs.judge.judge_vertices.Tie as tie
 
 abbrev Inv-loop : tie.InvT-loop
 Inv-loop vertices count previous₀ i₀ previous i =
-    (i ≤ count) × (2 * i ≤ length vertices) × (verticesFault noneBefore count vertices ≡ verticesFault (outerOf previous) (count - i) (drop (2 * i) vertices))
+    (i ≤ count) × (2 * i ≤ length vertices) × (verticesFault noneBefore count vertices
+    ≡ verticesFault (outerOf previous) (count - i) (drop (2 * i) vertices))
 
 abbrev μ-loop : tie.MeasureT-loop
 μ-loop vertices count previous₀ i₀ previous i = count - i
@@ -30,7 +32,8 @@ returns c =
     let a = looping .before .before .args in
     let l = looping .loop in
     let step = rw (c .enum-told2 .given .1) at (c .before .before .judge-vertex .ensures) in
-    rw (c .enum-told2 .given .1) (sym (l .inv .2 ∙ vertex-stop (now (a .vertices)) (a .count) (l .i) (outerOf (l .previous)) _ (omega arith) step))
+    rw (c .enum-told2 .given .1) (sym (l .inv .2
+    ∙ vertex-stop (now (a .vertices)) (a .count) (l .i) (outerOf (l .previous)) _ (omega arith) step))
 
 vertex-at-requires : tie.Need-vertex-at-requires Inv-loop μ-loop
 vertex-at-requires c κs =
@@ -48,8 +51,12 @@ loop-again c =
     let l = looping .loop in
     let step = rw (passed .enum-told .given .1) at (passed .before .before .judge-vertex .ensures) in
     let there = next-lent (now (a .vertices)) (a .count) (l .i) (outerOf (l .previous)) (l .inv .1) step in
-    let own = c .vertex-at .ensures ∙ front-at (now (a .vertices)) (l .i) (omega arith) in
-    (omega arith, there, l .inv .2 ∙ vertex-on (now (a .vertices)) (a .count) (l .i) (outerOf (l .previous)) _ (omega arith) step own)
+    let own = c .vertex-at .ensures ∙ front-at (now (a .vertices)) (l .i) (omega arith) in (
+      omega arith,
+      there,
+      l .inv .2 ∙ vertex-on (now (a .vertices)) (a .count) (l .i) (outerOf (l .previous)) _
+          (omega arith) step own,
+    )
 
 returns-2 : tie.Need-returns-2 Inv-loop μ-loop
 returns-2 c =
@@ -59,5 +66,6 @@ returns-2 c =
 
 pub judge-vertices-spec : {M : Type 1} → statement M
 judge-vertices-spec =
-    tie.close (tie.spec Inv-loop μ-loop loop-holds (λ c κs. search needs) (λ c. search needs) (λ c. search needs) returns vertex-at-requires
+    tie.close (tie.spec Inv-loop μ-loop loop-holds (λ c κs. search needs) (λ c. search needs)
+    (λ c. search needs) returns vertex-at-requires
     (λ c. search needs) (λ c. search needs) loop-again returns-2)

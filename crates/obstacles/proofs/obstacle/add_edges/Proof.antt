@@ -1,4 +1,5 @@
--- `obstacles::obstacle::add_edges` meets its contract. The invariant: the lines of the first i edges stand in the numbers, blank behind them. Assumes nothing.
+-- `obstacles::obstacle::add_edges` meets its contract. The invariant: the lines of the first i edges stand in the
+-- numbers, blank behind them. Assumes nothing.
 use Prim.Native.Nat.{_+_, _-_, _*_, _/_, _≤_, _<_}
 use mathlib.Core.Path.{_≡_, refl, sym, ap, _∙_}
 use native.Mathlib.Omega.{arith}
@@ -20,7 +21,8 @@ use Rattle.obstacles.proofs.obstacle.add_edges.Tie as tie
 abbrev Inv-loop : tie.InvT-loop
 Inv-loop agent kind vertices margin horizon lines₀ edges count₀ i₀ lines count i =
     (count ≤ i) × (i ≤ edges) × (edges ≤ 64) × (edges ≤ length vertices / 2) × Filled count lines
-    × (linesUpTo agent kind (length vertices / 2) (verticesOf vertices) margin horizon i ≡ standing (linesOf (take (4 * count) lines)))
+    × (linesUpTo agent kind (length vertices / 2) (verticesOf vertices) margin horizon i
+    ≡ standing (linesOf (take (4 * count) lines)))
 
 abbrev μ-loop : tie.MeasureT-loop
 μ-loop agent kind vertices margin horizon lines₀ edges count₀ i₀ lines count i = edges - i
@@ -28,8 +30,14 @@ abbrev μ-loop : tie.MeasureT-loop
 loop-holds : tie.Need-loop-holds Inv-loop μ-loop
 unfolding linesUpTo linesOf
 loop-holds c =
-    let few = few-counted _ _ (c .edge-count .ensures) in
-    (omega arith, omega arith, omega (arith, few, c .before .before .before .pre .0), few, filled-none _ (c .before .before .before .pre .1), refl)
+    let few = few-counted _ _ (c .edge-count .ensures) in (
+      omega arith,
+      omega arith,
+      omega (arith, few, c .before .before .before .pre .0),
+      few,
+      filled-none _ (c .before .before .before .pre .1),
+      refl,
+    )
 
 mul-admitted-line : tie.Need-mul-admitted-line Inv-loop μ-loop
 mul-admitted-line c = omega arith
@@ -54,11 +62,15 @@ loop-less c = omega arith
 
 loop-again : tie.Need-loop-again Inv-loop μ-loop
 loop-again c =
-    let a = c .before .before .before .before .before .before .before .before .before .before .before .before .before .before .before .args in
+    let a =
+    c .before .before .before .before .before .before .before .before .before .before .before .before .before .before .before .args in
     let l = c .before .before .before .before .before .before .before .before .before .before .before .loop in
     let n = length (now (a .vertices)) / 2 in
     let few : l .count < 64 = omega arith in
-    let made = rw (c .before .before .before .before .before .admitted .given .1, sub-zero) at (c .before .before .before .before .before .before .before .admitted-line .ensures) in
+    let made = rw (
+      c .before .before .before .before .before .admitted .given .1,
+      sub-zero,
+    ) at (c .before .before .before .before .before .before .before .admitted-line .ensures) in
     let room : 4 * l .count + 4 ≤ length (l .lines) = omega (arith, l .inv .4 .size) in
     let stored = c .before .before .put-line .ensures ∙ stored-sets (l .lines) (l .count) _ room in (
       omega arith,
@@ -66,7 +78,9 @@ loop-again c =
       l .inv .2,
       l .inv .3,
       rw stored (filled-next (l .lines) (l .count) _ few (l .inv .4)),
-      rw (stored, stored-lines (l .lines) (l .count) _ room) (add-kept (a .agent) (a .kind) n (verticesOf (now (a .vertices))) (a .margin) (a .horizon) (l .i) _ _ (l .inv .5) made),
+      rw (stored, stored-lines (l .lines) (l .count) _ room)
+          (add-kept (a .agent) (a .kind) n (verticesOf (now (a .vertices))) (a .margin) (a .horizon) (l .i) _ _
+          (l .inv .5) made),
     )
 
 loop-less-2 : tie.Need-loop-less-2 Inv-loop μ-loop
@@ -77,11 +91,20 @@ loop-again-2 c =
     let a = c .before .before .before .before .before .before .before .before .before .before .args in
     let l = c .before .before .before .before .before .before .loop in
     let n = length (now (a .vertices)) / 2 in
-    let made = rw (c .enum-told .given .1, sub-zero) at (c .before .before .admitted-line .ensures) in
-    (omega arith, omega arith, l .inv .2, l .inv .3, l .inv .4, add-nothing (a .agent) (a .kind) n (verticesOf (now (a .vertices))) (a .margin) (a .horizon) (l .i) _ (l .inv .5) made)
+    let made = rw (c .enum-told .given .1, sub-zero) at (c .before .before .admitted-line .ensures) in (
+      omega arith,
+      omega arith,
+      l .inv .2,
+      l .inv .3,
+      l .inv .4,
+      add-nothing (a .agent) (a .kind) n (verticesOf (now (a .vertices))) (a .margin) (a .horizon) (l .i) _
+          (l .inv .5) made,
+    )
 
 same-length : tie.Need-same-length Inv-loop μ-loop
-same-length c = c .before .before .before .before .before .before .before .loop .inv .4 .size ∙ sym (blank-long _ (c .before .before .before .before .before .before .before .before .before .before .before .pre .1))
+same-length c = c .before .before .before .before .before .before .before .loop .inv .4 .size
+    ∙ sym
+    (blank-long _ (c .before .before .before .before .before .before .before .before .before .before .before .pre .1))
 
 returns : tie.Need-returns Inv-loop μ-loop
 unfolding obstacleLines
@@ -90,7 +113,9 @@ returns c =
     let l = c .before .before .before .before .before .before .before .loop in
     let n = length (now (a .vertices)) / 2 in
     let made = rw (c .before .admitted2 .given .1, sub-zero) at (c .before .before .before .admitted-line .ensures) in
-    rw (add-refused (a .agent) (a .kind) n (verticesOf (now (a .vertices))) (a .margin) (a .horizon) (l .i) (edgeCount (a .kind) n) _ _ (l .inv .5) made (omega (arith, c .before .before .before .before .before .before .before .before .edge-count .ensures)))
+    rw (add-refused (a .agent) (a .kind) n (verticesOf (now (a .vertices))) (a .margin) (a .horizon) (l .i)
+    (edgeCount (a .kind) n) _ _ (l .inv .5) made
+    (omega (arith, c .before .before .before .before .before .before .before .before .edge-count .ensures)))
 
 same-length-2 : tie.Need-same-length-2 Inv-loop μ-loop
 same-length-2 c = c .before .loop .inv .4 .size ∙ sym (blank-long _ (c .before .before .before .before .before .pre .1))
@@ -107,5 +132,6 @@ returns-2 c =
 pub add-edges-spec : {M : Type 1} → statement M
 add-edges-spec =
     tie.close (tie.spec Inv-loop μ-loop (λ c κs. search needs) loop-holds mul-admitted-line sub-admitted-line (λ c. search needs)
-    part-admitted-line-end admitted-line-requires add-i (λ c. search needs) (λ c κs. search needs) add-count loop-less loop-again (λ c. search needs)
+    part-admitted-line-end admitted-line-requires add-i (λ c. search needs) (λ c κs. search needs) add-count loop-less
+    loop-again (λ c. search needs)
     loop-less-2 loop-again-2 (λ c. search needs) same-length returns same-length-2 returns-2)

@@ -8,7 +8,8 @@ returns : tie.Need-returns
 returns c = rw (c .before .count .given .1) at (c .before .before .before .before .add-edges .ensures)
 
 returns-2 : tie.Need-returns-2
-returns-2 c = c .refused .ensures ∙ rw (c .before .before .number .given .1) at (c .before .before .before .before .before .add-edges .ensures)
+returns-2 c = c .refused .ensures
+    ∙ rw (c .before .before .number .given .1) at (c .before .before .before .before .before .add-edges .ensures)
 
 pub lines-for-edges-spec : {M : Type 1} → statement M
 lines-for-edges-spec =

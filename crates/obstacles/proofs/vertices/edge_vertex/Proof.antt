@@ -10,9 +10,19 @@ returns c = simp (c .if1 .taken, ← c .before .is-end .ensures, ← c .before .
 
 returns-2 : tie.Need-returns-2
 unfolding edgeVertexAt
-returns-2 c = simp (← c .is-convex .ensures, ← c .before .vertex-at3 .ensures, ← c .before .before .next-index .ensures .0, ← c .before .before .before .vertex-at2 .ensures, ← c .before .before .before .before .previous-index .ensures .0, c .before .before .before .before .before .if1 .left, ← c .before .before .before .before .before .before .is-end .ensures, ← c .before .before .before .before .before .before .before .vertex-at .ensures)
+returns-2 c = simp (
+  ← c .is-convex .ensures,
+  ← c .before .vertex-at3 .ensures,
+  ← c .before .before .next-index .ensures .0,
+  ← c .before .before .before .vertex-at2 .ensures,
+  ← c .before .before .before .before .previous-index .ensures .0,
+  c .before .before .before .before .before .if1 .left,
+  ← c .before .before .before .before .before .before .is-end .ensures,
+  ← c .before .before .before .before .before .before .before .vertex-at .ensures,
+)
 
 pub edge-vertex-spec : {M : Type 1} → statement M
 edge-vertex-spec =
-    tie.close (tie.spec (λ c κs. search needs) (λ c κs. search needs) returns (λ c κs. search needs) (λ c κs. search needs) (λ c κs. search needs)
+    tie.close (tie.spec (λ c κs. search needs) (λ c κs. search needs) returns (λ c κs. search needs)
+    (λ c κs. search needs) (λ c κs. search needs)
     (λ c κs. search needs) (λ c κs. search needs) returns-2)

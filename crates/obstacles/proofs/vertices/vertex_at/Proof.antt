@@ -12,5 +12,6 @@ returns c = let a = c .before .before .args in sym (vertex-nth (now (a .vertices
 
 pub vertex-at-spec : {M : Type 1} → statement M
 vertex-at-spec =
-    tie.close (tie.spec (λ c. search needs) (λ c. search needs) (λ c. search needs) (λ c. search needs) (λ c. search needs) (λ c. search needs)
+    tie.close (tie.spec (λ c. search needs) (λ c. search needs) (λ c. search needs) (λ c. search needs)
+    (λ c. search needs) (λ c. search needs)
     returns)

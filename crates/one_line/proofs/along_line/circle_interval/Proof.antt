@@ -11,7 +11,12 @@ returns c = simp (c .if1 .taken, ← c .before .dot2 .ensures, ← c .before .be
 
 returns-2 : tie.Need-returns-2
 unfolding chord if_then_else_
-returns-2 c = rw (← c .before .before .before .dot .ensures, ← c .before .before .dot2 .ensures, c .before .if1 .left, ← c .sqrt .ensures)
+returns-2 c = rw (
+  ← c .before .before .before .dot .ensures,
+  ← c .before .before .dot2 .ensures,
+  c .before .if1 .left,
+  ← c .sqrt .ensures,
+)
 
 pub circle-interval-spec : {M : Type 1} → statement M
 circle-interval-spec =

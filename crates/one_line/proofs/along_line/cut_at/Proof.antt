@@ -15,4 +15,5 @@ returns-2 c = simp (← c .unless-fails2 .ensures, ← c .before .max .ensures, 
 
 pub cut-at-spec : {M : Type 1} → statement M
 cut-at-spec =
-    tie.close (tie.spec (λ c κs. search needs) (λ c κs. search needs) returns (λ c κs. search needs) (λ c κs. search needs) returns-2)
+    tie.close (tie.spec (λ c κs. search needs) (λ c κs. search needs) returns (λ c κs. search needs)
+    (λ c κs. search needs) returns-2)

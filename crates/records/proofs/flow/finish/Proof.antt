@@ -8,7 +8,8 @@ returns : tie.Need-returns
 returns c = nothing-left _ _ (c .if1 .taken)
 
 returns-2 : tie.Need-returns-2
-returns-2 c = some-left _ _ (c .before .before .before .before .if1 .left) (c .before .before .before .before .before .before .pre) _ _ (c .before .before .write-refusal .ensures)
+returns-2 c = some-left _ _ (c .before .before .before .before .if1 .left)
+    (c .before .before .before .before .before .before .pre) _ _ (c .before .before .write-refusal .ensures)
 
 pub finish-spec : {M : Type 1} → statement M
 finish-spec =

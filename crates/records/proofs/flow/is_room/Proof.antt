@@ -18,7 +18,9 @@ returns-2 c = let a = c .before .before .args in rw (lt-leb (2 * a .input + long
 
 returns-3 : tie.Need-returns-3
 unfolding hasRoomFor
-returns-3 c = let a = c .before .before .before .args in rw (le-leb (2 * a .input + longestAnswer) (a .output) (omega arith)) (c .fits-behind .ensures)
+returns-3 c =
+    let a = c .before .before .before .args in
+    rw (le-leb (2 * a .input + longestAnswer) (a .output) (omega arith)) (c .fits-behind .ensures)
 
 pub is-room-spec : {M : Type 1} → statement M
 is-room-spec =

@@ -20,7 +20,11 @@ step-requires : tie.Need-step-requires Inv-loop μ-loop
 step-requires c κs = (c .before .loop .inv .inside, c .before .loop .inv .fits)
 
 same-length : tie.Need-same-length Inv-loop μ-loop
-same-length c = omega (arith, c .before .before .before .before .step .kept, c .before .before .before .before .before .before .loop .inv .sized)
+same-length c = omega (
+  arith,
+  c .before .before .before .before .step .kept,
+  c .before .before .before .before .before .before .loop .inv .sized,
+)
 
 returns : tie.Need-returns Inv-loop μ-loop
 returns c =
@@ -30,14 +34,17 @@ returns c =
 loop-less : tie.Need-loop-less Inv-loop μ-loop
 loop-less c =
     let l = c .before .before .before .before .before .before .before in
-    let t = advance _ _ _ _ _ (l .loop .inv) _ _ (rw (c .before .next .given .1) at (c .before .before .before .before .before .step .ensures)) in
+    let t = advance _ _ _ _ _ (l .loop .inv) _ _
+    (rw (c .before .next .given .1) at (c .before .before .before .before .before .step .ensures)) in
     omega (arith, t .moves, t .inside)
 
 loop-again : tie.Need-loop-again Inv-loop μ-loop
 loop-again c =
     let l = c .before .before .before .before .before .before .before in
-    goes-on _ _ _ _ _ (l .loop .inv) _ _ (rw (c .before .next .given .1) at (c .before .before .before .before .before .step .ensures))
+    goes-on _ _ _ _ _ (l .loop .inv) _ _
+    (rw (c .before .next .given .1) at (c .before .before .before .before .before .step .ensures))
 
 pub work-spec : {M : Type 1} → statement M
 work-spec =
-    tie.close (tie.spec Inv-loop μ-loop loop-holds step-requires (λ c. search needs) (λ c. search needs) same-length returns loop-less loop-again)
+    tie.close (tie.spec Inv-loop μ-loop loop-holds step-requires (λ c. search needs)
+    (λ c. search needs) same-length returns loop-less loop-again)

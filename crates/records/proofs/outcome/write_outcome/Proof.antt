@@ -18,5 +18,6 @@ returns c =
 
 pub write-outcome-spec : {M : Type 1} → statement M
 write-outcome-spec =
-    tie.close (tie.spec (λ c. search needs) (λ c κs. search needs) (λ c κs. search needs) (λ c κs. search needs) (λ c κs. search needs)
+    tie.close (tie.spec (λ c. search needs) (λ c κs. search needs) (λ c κs. search needs) (λ c κs. search needs)
+    (λ c κs. search needs)
     (λ c. search needs) (λ c. search needs) returns (λ c. search needs))

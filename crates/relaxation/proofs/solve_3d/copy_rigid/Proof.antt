@@ -28,7 +28,13 @@ loop-again c =
     let h : l .n < length (linesOf b) = omega (arith, lines-fit b (l .n + 1) (omega arith)) in (
       omega arith,
       c .before .before .put-line .kept .0 ∙ l .inv .1,
-      rw (c .before .before .put-line .ensures, stored-next (l .tight) (l .n) (c .before .before .before .line-at .result) (omega arith), take-next (linesOf b) (l .n) h offLine, c .before .before .before .line-at .ensures, l .inv .2),
+      rw (
+        c .before .before .put-line .ensures,
+        stored-next (l .tight) (l .n) (c .before .before .before .line-at .result) (omega arith),
+        take-next (linesOf b) (l .n) h offLine,
+        c .before .before .before .line-at .ensures,
+        l .inv .2,
+      ),
     )
 
 returns : tie.Need-returns Inv-loop μ-loop
@@ -38,5 +44,6 @@ returns c =
 
 pub copy-rigid-spec : {M : Type 1} → statement M
 copy-rigid-spec =
-    tie.close (tie.spec Inv-loop μ-loop loop-holds (λ c κs. search needs) (λ c κs. search needs) (λ c. search needs) (λ c. search needs) loop-again
+    tie.close (tie.spec Inv-loop μ-loop loop-holds (λ c κs. search needs) (λ c κs. search needs) (λ c. search needs)
+    (λ c. search needs) loop-again
     (λ c. search needs) returns)

@@ -1,5 +1,5 @@
--- `relaxation::solve_3d::relax_from` meets its contract. The invariant: the lines from i on take value and penetration now to the same end.
--- Assumes nothing.
+-- `relaxation::solve_3d::relax_from` meets its contract. The invariant: the lines from i on take value and penetration
+-- now to the same end. Assumes nothing.
 use Prim.Native.Nat.{_+_, _-_, _*_, _≤_}
 use mathlib.Core.Path.{_≡_, refl, sym, _∙_}
 use native.Mathlib.Omega.{arith}
@@ -20,8 +20,10 @@ use Rattle.relaxation.proofs.solve_3d.relax_from.Tie as tie
 abbrev Inv-loop : tie.InvT-loop
 Inv-loop lines rigid from count radius penetration best-value₀ depth₀ counted₀ i₀ best-value depth counted i =
     (counted ≤ 32896 * i)
-    × (walk (relaxLine rigid radius) (take from (linesOf lines)) (drop from (take count (linesOf lines))) (relaxed best-value₀ depth₀ 0)
-    ≡ walk (relaxLine rigid radius) (take i (linesOf lines)) (drop i (take count (linesOf lines))) (relaxed best-value depth counted))
+    × (walk (relaxLine rigid radius) (take from (linesOf lines)) (drop from (take count (linesOf lines)))
+    (relaxed best-value₀ depth₀ 0)
+    ≡ walk (relaxLine rigid radius) (take i (linesOf lines)) (drop i (take count (linesOf lines)))
+    (relaxed best-value depth counted))
 
 abbrev μ-loop : tie.MeasureT-loop
 μ-loop lines rigid from count radius penetration best-value₀ depth₀ counted₀ i₀ best-value depth counted i = count - i
@@ -35,7 +37,9 @@ returns c =
     let l = c .before .before .before .before .loop in
     let step = rw (c .enum-told .given .1) at (c .before .before .relax-line .ensures) in
     rw (c .enum-told .given .1)
-    (sym (l .inv .1 ∙ walk-stop (relaxLine (a .rigid) (a .radius)) (linesOf (now (a .lines))) (a .count) (l .i) (lines-fit (now (a .lines)) (a .count) (omega arith)) offLine (omega arith) (sym step) (relax-refused-stays _ _ _)))
+    (sym (l .inv .1 ∙ walk-stop (relaxLine (a .rigid) (a .radius)) (linesOf (now (a .lines))) (a .count) (l .i)
+    (lines-fit (now (a .lines)) (a .count) (omega arith)) offLine (omega arith) (sym step)
+    (relax-refused-stays _ _ _)))
 
 loop-again : tie.Need-loop-again Inv-loop μ-loop
 loop-again c =
@@ -44,16 +48,19 @@ loop-again c =
     let step = rw (c .before .relaxed .given .1) at (c .before .before .before .relax-line .ensures) in
     let short = length-take-le (l .i) (linesOf (now (a .lines))) (lines-fit (now (a .lines)) (l .i) (omega arith)) in (
       omega (arith, relax-most _ _ _ _ (omega (arith, short)) _ _ _ _ _ _ step),
-      l .inv .1 ∙ walk-on (relaxLine (a .rigid) (a .radius)) (linesOf (now (a .lines))) (a .count) (l .i) (lines-fit (now (a .lines)) (a .count) (omega arith)) offLine (omega arith) (sym step),
+      l .inv .1 ∙ walk-on (relaxLine (a .rigid) (a .radius)) (linesOf (now (a .lines))) (a .count) (l .i)
+          (lines-fit (now (a .lines)) (a .count) (omega arith)) offLine (omega arith) (sym step),
     )
 
 returns-2 : tie.Need-returns-2 Inv-loop μ-loop
 returns-2 c =
     let a = c .before .before .before .args in
     let l = c .before .loop in
-    sym (l .inv .1 ∙ walk-done (relaxLine (a .rigid) (a .radius)) (linesOf (now (a .lines))) (a .count) (l .i) (lines-fit (now (a .lines)) (a .count) (omega arith)) (omega arith))
+    sym (l .inv .1 ∙ walk-done (relaxLine (a .rigid) (a .radius)) (linesOf (now (a .lines))) (a .count) (l .i)
+    (lines-fit (now (a .lines)) (a .count) (omega arith)) (omega arith))
 
 pub relax-from-spec : {M : Type 1} → statement M
 relax-from-spec =
-    tie.close (tie.spec Inv-loop μ-loop loop-holds (λ c κs. search needs) (λ c. search needs) (λ c. search needs) returns (λ c. search needs)
+    tie.close (tie.spec Inv-loop μ-loop loop-holds (λ c κs. search needs) (λ c. search needs)
+    (λ c. search needs) returns (λ c. search needs)
     (λ c. search needs) loop-again returns-2)

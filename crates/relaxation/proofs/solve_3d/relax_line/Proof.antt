@@ -20,17 +20,22 @@ returns c = simp (c .if1 .taken, ← c .before .depth-in .ensures, ← c .before
 
 after-inner-requires : tie.Need-after-inner-requires
 after-inner-requires c κs =
-    let k = c .before .before .before .tighten-into .ensures .0 in
-    (omega arith, inner-solve-most _ _ _ (c .solve-tightened .result) (simp length-take (omega (arith, k))) (c .solve-tightened .ensures))
+    let k = c .before .before .before .tighten-into .ensures .0 in (
+      omega arith,
+      inner-solve-most _ _ _ (c .solve-tightened .result) (simp length-take (omega (arith, k)))
+          (c .solve-tightened .ensures),
+    )
 
 returns-2 : tie.Need-returns-2
 unfolding relaxLine if_then_else_
 returns-2 c =
     let a = c .before .before .before .before .before .before .before .before .before .before .before .args in
     let short = length-take-le (a .index) (linesOf (now (a .lines))) (lines-fit (now (a .lines)) (a .index) (omega arith)) in
-    let list = c .before .before .before .before .tighten-into .ensures .2 ∙ lesser-rigid _ _ _ short (c .before .before .before .before .before .before .lesser .ensures) in
+    let list = c .before .before .before .before .tighten-into .ensures .2
+    ∙ lesser-rigid _ _ _ short (c .before .before .before .before .before .before .lesser .ensures) in
     simp (
-      ← examined (a .rigid) (take (a .index) (linesOf (now (a .lines)))) short (c .before .before .before .before .before .before .lesser .ensures),
+      ← examined (a .rigid) (take (a .index) (linesOf (now (a .lines)))) short
+          (c .before .before .before .before .before .before .lesser .ensures),
       ← c .after-inner .ensures,
       ← c .before .solve-tightened .ensures,
       ← c .before .before .perp .ensures,
@@ -42,6 +47,8 @@ returns-2 c =
 
 pub relax-line-spec : {M : Type 1} → statement M
 relax-line-spec =
-    tie.close (tie.spec (λ c κs. search needs) (λ c κs. search needs) (λ c. search needs) returns (λ c κs. search needs) (λ c. search needs)
-    (λ c κs. search needs) (λ c κs. search needs) (λ c κs. search needs) (λ c. search needs) (λ c. search needs) (λ c. search needs)
+    tie.close (tie.spec (λ c κs. search needs) (λ c κs. search needs) (λ c. search needs) returns (λ c κs. search needs)
+    (λ c. search needs)
+    (λ c κs. search needs) (λ c κs. search needs) (λ c κs. search needs) (λ c. search needs) (λ c. search needs)
+    (λ c. search needs)
     (λ c. search needs) after-inner-requires returns-2)

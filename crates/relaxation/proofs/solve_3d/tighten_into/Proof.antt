@@ -1,5 +1,5 @@
--- `relaxation::solve_3d::tighten_into` meets its contract. The invariant: the lines from i on, tightened behind the first n that are made, give the same list.
--- Assumes nothing.
+-- `relaxation::solve_3d::tighten_into` meets its contract. The invariant: the lines from i on, tightened behind the
+-- first n that are made, give the same list. Assumes nothing.
 use Prim.Native.Nat.{_-_, _≤_}
 use mathlib.Core.Path.{_≡_, sym, _∙_}
 use mathlib.Core.List.{foldl}
@@ -20,7 +20,8 @@ use Rattle.relaxation.proofs.solve_3d.tighten_into.Tie as tie
 abbrev Inv-loop : tie.InvT-loop
 Inv-loop lines rigid index constraint tight₀ n₀ i₀ tight n i =
     (n ≤ i) × (i ≤ index) × (length tight ≡ 1020)
-    × (tightened rigid constraint (take index (linesOf lines)) ≡ foldl (tightenNext constraint) (take n (linesOf tight)) (drop i (take index (linesOf lines))))
+    × (tightened rigid constraint (take index (linesOf lines))
+    ≡ foldl (tightenNext constraint) (take n (linesOf tight)) (drop i (take index (linesOf lines))))
 
 abbrev μ-loop : tie.MeasureT-loop
 μ-loop lines rigid index constraint tight₀ n₀ i₀ tight n i = index - i
@@ -37,17 +38,24 @@ loop-holds c =
 
 loop-again : tie.Need-loop-again Inv-loop μ-loop
 loop-again c =
-    let a = c .before .before .before .before .before .before .before .before .before .before .before .before .before .before .before .before .before .args in
+    let a =
+    c .before .before .before .before .before .before .before .before .before .before .before .before .before .before .before .before .before .args in
     let l = c .before .before .before .before .before .before .before .before .before .before .loop in
     let b = now (a .lines) in
-    let few = c .before .before .before .before .before .before .before .before .before .before .before .before .before .before .before .before .before .pre .1 in
-    let all = c .before .before .before .before .before .before .before .before .before .before .before .before .before .before .before .before .before .pre .2 in
-    let made = rw (c .before .before .before .before .before .line .given .1, c .before .before .before .before .before .before .before .before .line-at .ensures) at (c .before .before .before .before .before .before .before .tighten .ensures) in (
+    let few =
+    c .before .before .before .before .before .before .before .before .before .before .before .before .before .before .before .before .before .pre .1 in
+    let all =
+    c .before .before .before .before .before .before .before .before .before .before .before .before .before .before .before .before .before .pre .2 in
+    let made = rw (
+      c .before .before .before .before .before .line .given .1,
+      c .before .before .before .before .before .before .before .before .line-at .ensures,
+    ) at (c .before .before .before .before .before .before .before .tighten .ensures) in (
       omega arith,
       omega arith,
       c .before .before .put-line .kept .0 ∙ l .inv .2,
       l .inv .3
-          ∙ fold-on (tightenNext (a .constraint)) (linesOf b) (a .index) (l .i) (lines-fit b (a .index) (omega arith)) offLine (omega arith)
+          ∙ fold-on (tightenNext (a .constraint)) (linesOf b) (a .index) (l .i)
+          (lines-fit b (a .index) (omega arith)) offLine (omega arith)
           (next-kept _ _ _ _ made ∙ rw (c .before .before .put-line .ensures, stored-next (l .tight) (l .n) _ (omega arith))),
     )
 
@@ -56,22 +64,33 @@ loop-again-2 c =
     let a = c .before .before .before .before .before .before .before .before .before .before .before .before .args in
     let l = c .before .before .before .before .before .loop in
     let b = now (a .lines) in
-    let made = rw (c .enum-told .given .1, c .before .before .before .line-at .ensures) at (c .before .before .tighten .ensures) in (
+    let made = rw (
+      c .enum-told .given .1,
+      c .before .before .before .line-at .ensures,
+    ) at (c .before .before .tighten .ensures) in (
       omega arith,
       omega arith,
       l .inv .2,
-      l .inv .3 ∙ fold-on (tightenNext (a .constraint)) (linesOf b) (a .index) (l .i) (lines-fit b (a .index) (omega arith)) offLine (omega arith) (next-skipped _ _ _ made),
+      l .inv .3 ∙ fold-on (tightenNext (a .constraint)) (linesOf b) (a .index) (l .i)
+          (lines-fit b (a .index) (omega arith)) offLine (omega arith) (next-skipped _ _ _ made),
     )
 
 returns : tie.Need-returns Inv-loop μ-loop
 returns c =
     let a = c .before .before .before .before .before .before .before .before .args in
     let l = c .before .loop in
-    let b = now (a .lines) in
-    (omega arith, l .inv .2, sym (l .inv .3 ∙ fold-done (tightenNext (a .constraint)) (linesOf b) (a .index) (l .i) (lines-fit b (a .index) (omega arith)) (omega arith)))
+    let b = now (a .lines) in (
+      omega arith,
+      l .inv .2,
+      sym (l .inv .3
+          ∙ fold-done (tightenNext (a .constraint)) (linesOf b) (a .index) (l .i) (lines-fit b (a .index) (omega arith))
+          (omega arith)),
+    )
 
 pub tighten-into-spec : {M : Type 1} → statement M
 tighten-into-spec =
-    tie.close (tie.spec Inv-loop μ-loop (λ c κs. search needs) loop-holds (λ c κs. search needs) (λ c. search needs) (λ c κs. search needs)
-    (λ c. search needs) (λ c κs. search needs) (λ c. search needs) (λ c. search needs) loop-again (λ c. search needs) (λ c. search needs) loop-again-2
+    tie.close (tie.spec Inv-loop μ-loop (λ c κs. search needs) loop-holds (λ c κs. search needs) (λ c. search needs)
+    (λ c κs. search needs)
+    (λ c. search needs) (λ c κs. search needs) (λ c. search needs) (λ c. search needs) loop-again (λ c. search needs)
+    (λ c. search needs) loop-again-2
     (λ c. search needs) returns)

@@ -16,14 +16,17 @@ put-bytes-requires c κs =
     (omega (arith, s .pre), simp length-set (omega (arith, c .before .before .before .put-pair .kept .0, s .pre)))
 
 same-length : tie.Need-same-length
-same-length c = c .before .before .put-bytes .kept .0 ∙ simp length-set (c .before .before .before .before .before .before .put-pair .kept .0)
+same-length c = c .before .before .put-bytes .kept .0
+    ∙ simp length-set (c .before .before .before .before .before .before .put-pair .kept .0)
 
 returns : tie.Need-returns
 returns c =
     let a = c .before .before .before .before .before .before .before .before .before .before .args in
     start-put (now (a .buffer)) _ _ _ (now (a .source)) (a .size) (a .version) (a .start)
-    (c .before .before .before .before .before .before .put-pair .ensures ∙ ap (sets (now (a .buffer)) 0) (pair-stored _)) refl (c .before .before .put-bytes .ensures)
+    (c .before .before .before .before .before .before .put-pair .ensures
+    ∙ ap (sets (now (a .buffer)) 0) (pair-stored _)) refl (c .before .before .put-bytes .ensures)
 
 pub put-start-spec : {M : Type 1} → statement M
 put-start-spec =
-    tie.close (tie.spec (λ c. search needs) (λ c. search needs) (λ c κs. search needs) (λ c. search needs) (λ c. search needs) put-bytes-requires same-length returns)
+    tie.close (tie.spec (λ c. search needs) (λ c. search needs) (λ c κs. search needs) (λ c. search needs)
+    (λ c. search needs) put-bytes-requires same-length returns)

@@ -1,4 +1,5 @@
--- `scene_records::neighbours::store_lines` meets its contract. The invariant: what is stored and what is still to be read make up the whole. Assumes nothing.
+-- `scene_records::neighbours::store_lines` meets its contract. The invariant: what is stored and what is still to be
+-- read make up the whole. Assumes nothing.
 use Prim.Native.Nat.{_-_, _≤_}
 use mathlib.Core.Path.{_≡_, refl, sym, _∙_}
 use native.Mathlib.Nat.{sub-zero}
@@ -16,7 +17,8 @@ use Rattle.scene_records.proofs.neighbours.store_lines.Tie as tie
 abbrev Inv-loop : tie.InvT-loop
 Inv-loop bytes version count lines₀ numbers₀ next₀ i₀ lines numbers next i =
     (i ≤ count) × (length lines ≡ length lines₀) × (length numbers ≡ length numbers₀)
-    × (storedRows (rows lines₀ numbers₀) 0 (from next₀ (numberedLines version bytes count)) ≡ storedRows (rows lines numbers) i (from next (numberedLines version bytes (count - i))))
+    × (storedRows (rows lines₀ numbers₀) 0 (from next₀ (numberedLines version bytes count))
+    ≡ storedRows (rows lines numbers) i (from next (numberedLines version bytes (count - i))))
 
 abbrev μ-loop : tie.MeasureT-loop
 μ-loop bytes version count lines₀ numbers₀ next₀ i₀ lines numbers next i =
@@ -26,7 +28,11 @@ loop-holds : tie.Need-loop-holds Inv-loop μ-loop
 loop-holds c = (omega arith, refl, refl, rw sub-zero)
 
 slice-write-numbers : tie.Need-slice-write-numbers Inv-loop μ-loop
-slice-write-numbers c = omega (arith, c .before .before .before .before .before .before .loop .inv .2, c .before .before .before .before .before .before .before .before .before .before .pre .1)
+slice-write-numbers c = omega (
+  arith,
+  c .before .before .before .before .before .before .loop .inv .2,
+  c .before .before .before .before .before .before .before .before .before .before .pre .1,
+)
 
 loop-less : tie.Need-loop-less Inv-loop μ-loop
 loop-less c = omega arith
@@ -35,11 +41,18 @@ loop-again : tie.Need-loop-again Inv-loop μ-loop
 loop-again c =
     let l = c .before .before .before .before .before .before .loop in
     let a = c .before .before .before .before .before .before .before .before .before .before .args in
-    let put = c .before .before .put-line .ensures ∙ stored-sets (l .lines) (l .i) _ (omega (arith, l .inv .1, c .before .before .before .before .before .before .before .before .before .before .pre .0)) in (
+    let put = c .before .before .put-line .ensures
+    ∙ stored-sets (l .lines) (l .i) _ (omega (
+      arith,
+      l .inv .1,
+      c .before .before .before .before .before .before .before .before .before .before .pre .0,
+    )) in (
       omega arith,
       omega (arith, c .before .before .put-line .kept .0, l .inv .1),
       simp length-set (l .inv .2),
-      l .inv .3 ∙ rows-next (now (a .bytes)) _ _ (l .i) _ _ _ _ (a .count) (c .before .before .before .before .before .loop-test .taken) (c .before .before .before .before .numbered-line-at .ensures) put,
+      l .inv .3 ∙ rows-next (now (a .bytes)) _ _ (l .i) _ _ _ _ (a .count)
+          (c .before .before .before .before .before .loop-test .taken)
+          (c .before .before .before .before .numbered-line-at .ensures) put,
     )
 
 same-length : tie.Need-same-length Inv-loop μ-loop
@@ -53,5 +66,6 @@ returns c = let l = c .before .loop in rows-done _ _ _ _ _ _ (c .loop-test .left
 
 pub store-lines-spec : {M : Type 1} → statement M
 store-lines-spec =
-    tie.close (tie.spec Inv-loop μ-loop loop-holds (λ c κs. search needs) (λ c κs. search needs) (λ c. search needs) slice-write-numbers
+    tie.close (tie.spec Inv-loop μ-loop loop-holds (λ c κs. search needs) (λ c κs. search needs)
+    (λ c. search needs) slice-write-numbers
     (λ c. search needs) loop-less loop-again same-length same-length-2 returns)

@@ -20,4 +20,5 @@ returns-3 c = rw (c .before .before .cursor .given .1) (word-missing 1 _ _ (omeg
 
 pub byte-at-spec : {M : Type 1} → statement M
 byte-at-spec =
-    tie.close (tie.spec (λ c. search needs) (λ c. search needs) returns (λ c. search needs) (λ c. search needs) returns-2 returns-3)
+    tie.close (tie.spec (λ c. search needs) (λ c. search needs) returns (λ c. search needs)
+    (λ c. search needs) returns-2 returns-3)

@@ -27,15 +27,22 @@ word-at-requires : tie.Need-word-at-requires
 word-at-requires c κs = search needs
 
 add-t7 : tie.Need-add-t7
-add-t7 c = omega (arith, leb-true _ (length (now (c .before .before .before .before .before .before .before .args .bytes))) (sym (c .before .before .fits-behind .ensures) ∙ c .before .if1 .taken))
+add-t7 c =
+    omega (
+      arith,
+      leb-true _ (length (now (c .before .before .before .before .before .before .before .args .bytes)))
+          (sym (c .before .before .fits-behind .ensures) ∙ c .before .if1 .taken),
+    )
 
 returns-2 : tie.Need-returns-2
 unfolding told from
-returns-2 c = rw (c .before .before .before .before .cursor .given .1) (word-read _ _ _ (sym (c .before .before .fits-behind .ensures) ∙ c .before .if1 .taken) (c .word-at .ensures))
+returns-2 c = rw (c .before .before .before .before .cursor .given .1)
+    (word-read _ _ _ (sym (c .before .before .fits-behind .ensures) ∙ c .before .if1 .taken) (c .word-at .ensures))
 
 returns-3 : tie.Need-returns-3
 unfolding told from
-returns-3 c = rw (c .before .before .before .cursor .given .1) (word-none _ _ (sym (c .before .fits-behind .ensures) ∙ c .if1 .left))
+returns-3 c = rw (c .before .before .before .cursor .given .1) (word-none _ _ (sym (c .before .fits-behind .ensures)
+    ∙ c .if1 .left))
 
 pub word-at-spec : {M : Type 1} → statement M
 word-at-spec =

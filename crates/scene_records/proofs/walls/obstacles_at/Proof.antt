@@ -1,4 +1,5 @@
--- `scene_records::walls::obstacles_at` meets its contract. The invariant: what is stored and what is still to be read make up the whole. Assumes nothing.
+-- `scene_records::walls::obstacles_at` meets its contract. The invariant: what is stored and what is still to be read
+-- make up the whole. Assumes nothing.
 use Prim.Native.Nat.{_-_, _≤_}
 use mathlib.Core.Path.{_≡_, refl, sym, _∙_}
 use native.Mathlib.Nat.{sub-zero}
@@ -14,8 +15,10 @@ use Rattle.scene_records.proofs.walls.obstacles_at.Tie as tie
 
 abbrev Inv-loop : tie.InvT-loop
 Inv-loop bytes count kinds₀ counts₀ vertices₀ next₀ total₀ i₀ kinds counts vertices next total i =
-    (i ≤ count) × (total ≤ 192) × (length kinds ≡ length kinds₀) × (length counts ≡ length counts₀) × (length vertices ≡ length vertices₀)
-    × (storedWalls (walls kinds₀ counts₀ vertices₀) 0 0 (from next₀ (obstacles bytes count 0)) ≡ storedWalls (walls kinds counts vertices) i total (from next (obstacles bytes (count - i) total)))
+    (i ≤ count) × (total ≤ 192) × (length kinds ≡ length kinds₀) × (length counts ≡ length counts₀)
+    × (length vertices ≡ length vertices₀)
+    × (storedWalls (walls kinds₀ counts₀ vertices₀) 0 0 (from next₀ (obstacles bytes count 0))
+    ≡ storedWalls (walls kinds counts vertices) i total (from next (obstacles bytes (count - i) total)))
 
 abbrev μ-loop : tie.MeasureT-loop
 μ-loop bytes count kinds₀ counts₀ vertices₀ next₀ total₀ i₀ kinds counts vertices next total i =
@@ -25,16 +28,37 @@ loop-holds : tie.Need-loop-holds Inv-loop μ-loop
 loop-holds c = (omega arith, omega arith, refl, refl, refl, rw sub-zero)
 
 outline-at-requires : tie.Need-outline-at-requires Inv-loop μ-loop
-outline-at-requires c κs = omega (arith, head-fits _ (c .before .before .before .before .loop .total) (c .before .before .before .before .loop .next) _ _ (c .before .before .before .before .loop .inv .1) (c .before .before .head-at .ensures) (c .before .wide .ensures .0), c .before .before .before .before .loop .inv .4, c .before .before .before .before .before .before .before .before .before .pre .2)
+outline-at-requires c κs = omega (
+  arith,
+  head-fits _ (c .before .before .before .before .loop .total)
+      (c .before .before .before .before .loop .next) _ _ (c .before .before .before .before .loop .inv .1)
+      (c .before .before .head-at .ensures) (c .before .wide .ensures .0),
+  c .before .before .before .before .loop .inv .4,
+  c .before .before .before .before .before .before .before .before .before .pre .2,
+)
 
 slice-write-kinds : tie.Need-slice-write-kinds Inv-loop μ-loop
-slice-write-kinds c = omega (arith, c .before .before .before .before .before .before .before .loop .inv .2, c .before .before .before .before .before .before .before .before .before .before .before .before .pre .0)
+slice-write-kinds c = omega (
+  arith,
+  c .before .before .before .before .before .before .before .loop .inv .2,
+  c .before .before .before .before .before .before .before .before .before .before .before .before .pre .0,
+)
 
 slice-write-counts : tie.Need-slice-write-counts Inv-loop μ-loop
-slice-write-counts c = omega (arith, c .before .before .before .before .before .before .before .loop .inv .3, c .before .before .before .before .before .before .before .before .before .before .before .before .pre .1)
+slice-write-counts c = omega (
+  arith,
+  c .before .before .before .before .before .before .before .loop .inv .3,
+  c .before .before .before .before .before .before .before .before .before .before .before .before .pre .1,
+)
 
 add-total : tie.Need-add-total Inv-loop μ-loop
-add-total c = omega (arith, head-fits _ (c .before .before .before .before .before .before .before .loop .total) (c .before .before .before .before .before .before .before .loop .next) _ _ (c .before .before .before .before .before .before .before .loop .inv .1) (c .before .before .before .before .before .head-at .ensures) (c .before .before .before .before .wide .ensures .0))
+add-total c = omega (
+  arith,
+  head-fits _ (c .before .before .before .before .before .before .before .loop .total)
+      (c .before .before .before .before .before .before .before .loop .next) _ _
+      (c .before .before .before .before .before .before .before .loop .inv .1)
+      (c .before .before .before .before .before .head-at .ensures) (c .before .before .before .before .wide .ensures .0),
+)
 
 loop-less : tie.Need-loop-less Inv-loop μ-loop
 loop-less c = omega arith
@@ -45,11 +69,17 @@ loop-again c =
     let a = c .before .before .before .before .before .before .before .before .before .before .before .before .args in
     let read = c .before .before .before .before .before .head-at .ensures in (
       omega arith,
-      head-fits _ (c .before .before .before .before .before .before .before .loop .total) (c .before .before .before .before .before .before .before .loop .next) _ _ (c .before .before .before .before .before .before .before .loop .inv .1) (c .before .before .before .before .before .head-at .ensures) (c .before .before .before .before .wide .ensures .0),
+      head-fits _ (c .before .before .before .before .before .before .before .loop .total)
+          (c .before .before .before .before .before .before .before .loop .next) _ _
+          (c .before .before .before .before .before .before .before .loop .inv .1)
+          (c .before .before .before .before .before .head-at .ensures)
+          (c .before .before .before .before .wide .ensures .0),
       simp length-set (l .inv .2),
       simp length-set (l .inv .3),
       omega (arith, c .before .before .outline-at .kept .1, l .inv .4),
-      l .inv .5 ∙ walls-next (now (a .bytes)) _ _ _ _ (l .i) (l .total) _ _ _ (a .count) _ _ _ (c .before .before .before .before .before .before .loop-test .taken) (head-known _ _ read) (c .before .before .before .before .wide .ensures .0) (c .before .before .outline-at .ensures),
+      l .inv .5 ∙ walls-next (now (a .bytes)) _ _ _ _ (l .i) (l .total) _ _ _ (a .count) _ _ _
+          (c .before .before .before .before .before .before .loop-test .taken) (head-known _ _ read)
+          (c .before .before .before .before .wide .ensures .0) (c .before .before .outline-at .ensures),
     )
 
 same-length : tie.Need-same-length Inv-loop μ-loop
@@ -66,5 +96,6 @@ returns c = let l = c .before .loop in walls-done _ _ _ _ _ _ (c .loop-test .lef
 
 pub obstacles-at-spec : {M : Type 1} → statement M
 obstacles-at-spec =
-    tie.close (tie.spec Inv-loop μ-loop loop-holds (λ c κs. search needs) (λ c κs. search needs) outline-at-requires slice-write-kinds
+    tie.close (tie.spec Inv-loop μ-loop loop-holds (λ c κs. search needs) (λ c κs. search needs) outline-at-requires
+    slice-write-kinds
     slice-write-counts add-total (λ c. search needs) loop-less loop-again same-length same-length-2 same-length-3 returns)

@@ -14,9 +14,11 @@ returns c =
     let a = read .before .before .before .before .args in
     let size : 2 * (a .start + a .count) - 2 * a .start ≡ 2 * a .count = omega arith in
     let closing = rw size at (c .before .may-close .ensures) in
-    rw (c .held-to .ensures) (outline-stored (now (a .bytes)) _ _ (a .kind) (a .start) (a .count) (a .cursor) _ (read .before .before .before .before .pre) _ (read .vertices-at .ensures) closing)
+    rw (c .held-to .ensures) (outline-stored (now (a .bytes)) _ _ (a .kind) (a .start) (a .count) (a .cursor) _
+    (read .before .before .before .before .pre) _ (read .vertices-at .ensures) closing)
 
 pub outline-at-spec : {M : Type 1} → statement M
 outline-at-spec =
     tie.close (tie.spec (λ c κs. search needs) (λ c. search needs) (λ c. search needs) (λ c. search needs) (λ c. search needs)
-    (λ c. search needs) (λ c. search needs) (λ c. search needs) (λ c κs. search needs) (λ c κs. search needs) (λ c. search needs) returns)
+    (λ c. search needs) (λ c. search needs) (λ c. search needs) (λ c κs. search needs) (λ c κs. search needs)
+    (λ c. search needs) returns)

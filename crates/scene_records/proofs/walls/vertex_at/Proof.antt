@@ -5,7 +5,8 @@ use Rattle.scene_records.proofs.walls.vertex_at.Statement.{statement}
 use Rattle.scene_records.proofs.walls.vertex_at.Tie as tie
 
 returns : tie.Need-returns
-returns c = rw (c .held-to .ensures, c .before .may-follow .ensures) (vertex-read _ _ _ _ _ (c .before .before .before .vector-at .ensures))
+returns c = rw (c .held-to .ensures, c .before .may-follow .ensures)
+    (vertex-read _ _ _ _ _ (c .before .before .before .vector-at .ensures))
 
 pub vertex-at-spec : {M : Type 1} → statement M
 vertex-at-spec =

@@ -1,4 +1,5 @@
--- `scene_records::walls::vertices_at` meets its contract. The invariant: what is stored and what is still to be read make up the whole. Assumes nothing.
+-- `scene_records::walls::vertices_at` meets its contract. The invariant: what is stored and what is still to be read
+-- make up the whole. Assumes nothing.
 use Prim.Native.Nat.{_+_, _-_, _*_, _≤_}
 use mathlib.Core.Path.{_≡_, refl, sym, _∙_}
 use native.Mathlib.Nat.{add-zero, sub-zero}
@@ -28,10 +29,14 @@ loop-holds : tie.Need-loop-holds Inv-loop μ-loop
 loop-holds c = (omega arith, refl, rw (add-zero, sub-zero))
 
 add-put : tie.Need-add-put Inv-loop μ-loop
-add-put c = let looping = c .before .before .before .before in omega (arith, looping .loop .inv .1, looping .before .before .before .pre)
+add-put c =
+    let looping = c .before .before .before .before in
+    omega (arith, looping .loop .inv .1, looping .before .before .before .pre)
 
 put-requires : tie.Need-put-requires Inv-loop μ-loop
-put-requires c κs = let looping = c .before .before .before .before in omega (arith, looping .loop .inv .1, looping .before .before .before .pre)
+put-requires c κs =
+    let looping = c .before .before .before .before in
+    omega (arith, looping .loop .inv .1, looping .before .before .before .pre)
 
 loop-less : tie.Need-loop-less Inv-loop μ-loop
 loop-less c = omega arith
@@ -45,7 +50,9 @@ loop-again c =
     let put = c .before .before .put .ensures in (
       omega arith,
       omega (arith, c .before .before .put .kept .0, l .inv .1),
-      l .inv .2 ∙ stored-next coordinates 2 (λ v. refl) (vertex (now (a .bytes))) onVertex _ _ _ _ _ _ (outerOf (l .previous)) _ (a .count) (l .i) (read .before .loop-test .taken) (read .vertex-at .ensures) put (omega arith),
+      l .inv .2 ∙ stored-next coordinates 2 (λ v. refl) (vertex (now (a .bytes))) onVertex _ _ _ _ _ _
+          (outerOf (l .previous)) _ (a .count) (l .i) (read .before .loop-test .taken) (read .vertex-at .ensures) put
+          (omega arith),
     )
 
 same-length : tie.Need-same-length Inv-loop μ-loop
@@ -56,7 +63,8 @@ unfolding verticesAt
 returns c =
     let l = c .before .loop in
     let a = c .before .before .before .before .args in
-    stored-done coordinates 2 (λ v. refl) (vertex (now (a .bytes))) onVertex _ _ _ (outerOf (l .previous)) _ _ (c .loop-test .left) ∙ sym (l .inv .2)
+    stored-done coordinates 2 (λ v. refl) (vertex (now (a .bytes))) onVertex _ _ _ (outerOf (l .previous)) _ _
+    (c .loop-test .left) ∙ sym (l .inv .2)
 
 pub vertices-at-spec : {M : Type 1} → statement M
 vertices-at-spec =

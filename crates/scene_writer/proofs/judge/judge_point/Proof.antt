@@ -7,7 +7,8 @@ use Rattle.scene_writer.proofs.judge.judge_point.Statement.{statement}
 use Rattle.scene_writer.proofs.judge.judge_point.Tie as tie
 
 returns : tie.Need-returns
-returns c = rw (number-there _ _ _ nan (c .before .before .before .if1 .taken), ← c .before .is-within .ensures) (c .fault-unless .ensures)
+returns c = rw (number-there _ _ _ nan (c .before .before .before .if1 .taken), ← c .before .is-within .ensures)
+    (c .fault-unless .ensures)
 
 returns-2 : tie.Need-returns-2
 returns-2 c = sym (number-missing _ _ _ (c .if1 .left))

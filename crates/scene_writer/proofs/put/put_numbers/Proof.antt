@@ -1,4 +1,5 @@
--- `scene_writer::put::put_numbers` meets its contract. The invariant: what is put and what is still to be put make up the whole. Assumes nothing.
+-- `scene_writer::put::put_numbers` meets its contract. The invariant: what is put and what is still to be put make up
+-- the whole. Assumes nothing.
 use Prim.Native.Nat.{_+_, _-_, _*_, _≤_}
 use mathlib.Core.Path.{_≡_, refl, sym, _∙_}
 use native.Mathlib.Omega.{arith}
@@ -12,7 +13,8 @@ use Rattle.scene_writer.proofs.put.put_numbers.Tie as tie
 
 abbrev Inv-loop : tie.InvT-loop
 Inv-loop buffer₀ at numbers from n k₀ buffer k =
-    (k ≤ n) × (length buffer ≡ length buffer₀) × (sets buffer₀ at (run numbers from n) ≡ sets buffer (at + 4 * k) (run numbers (from + k) (n - k)))
+    (k ≤ n) × (length buffer ≡ length buffer₀)
+    × (sets buffer₀ at (run numbers from n) ≡ sets buffer (at + 4 * k) (run numbers (from + k) (n - k)))
 
 abbrev μ-loop : tie.MeasureT-loop
 μ-loop buffer₀ at numbers from n k₀ buffer k = n - k
@@ -26,8 +28,14 @@ loop-again : tie.Need-loop-again Inv-loop μ-loop
 loop-again c =
     let l = c .before .before .before .before .before .before .loop in
     let s = c .before .before .before .before .before .before .before .before .before in
-    let a = s .args in
-    (omega arith, c .before .before .put-number .kept .0 ∙ l .inv .1, l .inv .2 ∙ turn-next (now (a .numbers)) (a .from) (a .n) (a .at) (l .buffer) _ (l .k) (c .before .before .before .before .before .loop-test .taken) (s .pre .1) (c .before .before .put-number .ensures))
+    let a = s .args in (
+      omega arith,
+      c .before .before .put-number .kept .0 ∙ l .inv .1,
+      l .inv .2
+          ∙ turn-next (now (a .numbers)) (a .from) (a .n) (a .at) (l .buffer) _ (l .k)
+          (c .before .before .before .before .before .loop-test .taken) (s .pre .1)
+          (c .before .before .put-number .ensures),
+    )
 
 same-length : tie.Need-same-length Inv-loop μ-loop
 same-length c = c .before .loop .inv .1

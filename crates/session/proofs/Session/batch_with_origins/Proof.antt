@@ -14,11 +14,15 @@ returns c = continues-by _ _ _ _ (simp (c .enum-told .given .1, ← c .before .b
 work-requires : tie.Need-work-requires
 work-requires c κs =
     let a = c .before .before .before .before .before .args in
-    batch-counts _ (now (a .numbers)) (now (a .origins)) (rw (c .enum-told2 .given .1) at (c .before .before .judge-batch .ensures))
+    batch-counts _ (now (a .numbers)) (now (a .origins))
+    (rw (c .enum-told2 .given .1) at (c .before .before .judge-batch .ensures))
 
 returns-2 : tie.Need-returns-2
 unfolding fedWith
-returns-2 c = continues-by _ _ _ _ (simp (c .before .enum-told2 .given .1, ← c .before .before .before .judge-batch .ensures) (c .work .ensures))
+returns-2 c = continues-by _ _ _ _ (simp (
+  c .before .enum-told2 .given .1,
+  ← c .before .before .before .judge-batch .ensures,
+) (c .work .ensures))
 
 pub batch-with-origins-spec : {M : Type 1} → statement M
 batch-with-origins-spec =

@@ -36,5 +36,6 @@ returns-2 c =
 
 pub first-unmet-spec : {M : Type 1} → statement M
 first-unmet-spec =
-    tie.close (tie.spec (λ c. search needs) (λ c. search needs) (λ c. search needs) (λ c κs. search needs) (λ c. search needs) returns (λ c. search needs)
+    tie.close (tie.spec (λ c. search needs) (λ c. search needs) (λ c. search needs) (λ c κs. search needs)
+    (λ c. search needs) returns (λ c. search needs)
     (λ c κs. search needs) (λ c κs. search needs) name-requires returns-2)

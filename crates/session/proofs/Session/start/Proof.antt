@@ -8,13 +8,25 @@ use Rattle.session.proofs.Session.start.Tie as tie
 
 returns : tie.Need-returns
 unfolding startedAs
-returns c = begins-by _ _ _ _ (simp (← c .blank-origins .ensures, ← c .before .blank-lines .ensures, c .before .before .before .answer .given .1, ← c .before .before .before .before .before .solve-linear-program .ensures, phase-back, failed-back))
+returns c = begins-by _ _ _ _ (simp (
+  ← c .blank-origins .ensures,
+  ← c .before .blank-lines .ensures,
+  c .before .before .before .answer .given .1,
+  ← c .before .before .before .before .before .solve-linear-program .ensures,
+  phase-back,
+  failed-back,
+))
 
 returns-2 : tie.Need-returns-2
 unfolding startedAs
-returns-2 c = begins-by _ _ _ _ (simp (← c .blank .ensures, c .before .before .answer2 .given .1, ← c .before .before .before .before .solve-linear-program .ensures))
+returns-2 c = begins-by _ _ _ _ (simp (
+  ← c .blank .ensures,
+  c .before .before .answer2 .given .1,
+  ← c .before .before .before .before .solve-linear-program .ensures,
+))
 
 pub start-spec : {M : Type 1} → statement M
 start-spec =
-    tie.close (tie.spec (λ c. search needs) (λ c. search needs) (λ c. search needs) (λ c κs. search needs) (λ c. search needs) (λ c κs. search needs)
+    tie.close (tie.spec (λ c. search needs) (λ c. search needs) (λ c. search needs) (λ c κs. search needs)
+    (λ c. search needs) (λ c κs. search needs)
     (λ c κs. search needs) (λ c. search needs) (λ c κs. search needs) returns returns-2)
