@@ -33,11 +33,14 @@ joined-assoc (lines l) (lines m) (refused r) = refl
 joined-assoc (lines l) (lines m) (lines n) = ap lines (sym (append-assoc l m n))
 
 -- ---- a loop over the obstacles: what is made so far, joined with what the rest makes
-module _ (agent : Agent) (margin horizon : Float) (v : List Float) (ks cs : List ℕ) (n : ℕ) (kinds : n ≤ length ks) (counts : n ≤ length cs) where
+module _ (agent : Agent) (margin horizon : Float) (v : List Float) (ks cs : List ℕ) (n : ℕ) (kinds : n ≤ length ks)
+    (counts : n ≤ length cs) where
   abbrev pub edgesFrom : ℕ → ℕ → Answer
   edgesFrom offset i = edgeLines agent margin horizon v offset (headsFrom ks cs n i)
 
-  pub edges-on : (i offset : ℕ) (a b : Answer) → i < n → b ≡ joined a (linesAt agent margin horizon v offset (headOf (getD ks i 0) (getD cs i 0))) → joined a (edgesFrom offset i) ≡ joined b (edgesFrom (offset + getD cs i 0) (i + 1))
+  pub edges-on : (i offset : ℕ) (a b : Answer) → i < n →
+      b ≡ joined a (linesAt agent margin horizon v offset (headOf (getD ks i 0) (getD cs i 0))) →
+      joined a (edgesFrom offset i) ≡ joined b (edgesFrom (offset + getD cs i 0) (i + 1))
   unfolding edgeLines
   edges-on i offset a b h e = rw (heads-next ks cs n i kinds counts h, e) (joined-assoc a _ _)
 
@@ -47,7 +50,8 @@ module _ (agent : Agent) (margin horizon : Float) (v : List Float) (ks cs : List
 
 -- ---- one obstacle: the vertices that it is lent are its own
 
-module _ (agent : Agent) (margin horizon : Float) (v : List Float) (offset : ℕ) (h : Head) (there : 2 * (offset + h .count) ≤ length v) where
+module _ (agent : Agent) (margin horizon : Float) (v : List Float) (offset : ℕ) (h : Head)
+    (there : 2 * (offset + h .count) ≤ length v) where
   abbrev part : List Float
   part = take (2 * (offset + h .count) - 2 * offset) (drop (2 * offset) v)
 
@@ -57,10 +61,12 @@ module _ (agent : Agent) (margin horizon : Float) (v : List Float) (offset : ℕ
   pub part-many : length part / 2 ≡ h .count
   part-many = rw cut (part-size v offset (h .count) (omega arith))
 
-  pub part-lines : obstacleLines agent (h .kind) (length part / 2) (verticesOf part) margin horizon ≡ linesAt agent margin horizon v offset h
+  pub part-lines : obstacleLines agent (h .kind) (length part / 2) (verticesOf part) margin horizon
+      ≡ linesAt agent margin horizon v offset h
   part-lines = rw (cut, part-size v offset (h .count) (omega arith))
 
-  pub part-lefts : obstacleEdges agent (h .kind) (length part / 2) (verticesOf part) margin horizon ≡ leftsAt agent margin horizon v offset h
+  pub part-lefts : obstacleEdges agent (h .kind) (length part / 2) (verticesOf part) margin horizon
+      ≡ leftsAt agent margin horizon v offset h
   part-lefts = rw (cut, part-size v offset (h .count) (omega arith))
 
 -- ---- its own lines behind the `count` that stand
@@ -70,7 +76,8 @@ pub standing-own : (b : List Float) (count own : ℕ) → 4 * (count + own) ≤ 
 standing-own b count own fits =
     let e : 4 * (count + own) ≡ 4 * count + 4 * own = omega arith in
     let front : length (take (4 * count) b) ≡ 4 * count = length-take-le (4 * count) b (omega arith) in
-    rw (e, take-add (4 * count) (4 * own) b) (lines-append (take (4 * count) b) (take (4 * own) (drop (4 * count) b)) (rw front (omega arith)))
+    rw (e, take-add (4 * count) (4 * own) b) (lines-append (take (4 * count) b) (take (4 * own) (drop (4 * count) b))
+    (rw front (omega arith)))
 
 -- one line more
 module _ (b : List Float) (count own : ℕ) (l : Line) (fits : 4 * (count + own) + 4 ≤ length b) where
@@ -118,8 +125,11 @@ module _ (b : List Float) (count own : ℕ) (l : Line) (fits : 4 * (count + own)
 -- ---- the neighbours
 
 -- numbers copied behind `count` lines are lines behind them
-pub copied-lines : (numbers more : List Float) (count made : ℕ) → 4 * count ≤ length numbers → 4 * made ≤ length more → linesOf (take (4 * (count + made)) (paste numbers (4 * count) more (4 * made))) ≡ linesOf (take (4 * count) numbers) ++ linesOf (take (4 * made) more)
+pub copied-lines : (numbers more : List Float) (count made : ℕ) → 4 * count ≤ length numbers → 4 * made ≤ length more →
+    linesOf (take (4 * (count + made)) (paste numbers (4 * count) more (4 * made)))
+    ≡ linesOf (take (4 * count) numbers) ++ linesOf (take (4 * made) more)
 copied-lines numbers more count made h k =
     let e : 4 * (count + made) ≡ 4 * count + 4 * made = omega arith in
     let whole : length (take (4 * count) numbers) ≡ 4 * count = length-take-le (4 * count) numbers h in
-    rw (e, take-paste numbers (4 * count) more (4 * made) h k) (lines-append (take (4 * count) numbers) (take (4 * made) more) (rw whole (omega arith)))
+    rw (e, take-paste numbers (4 * count) more (4 * made) h k)
+    (lines-append (take (4 * count) numbers) (take (4 * made) more) (rw whole (omega arith)))

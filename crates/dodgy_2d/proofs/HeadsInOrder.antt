@@ -51,7 +51,8 @@ module _ (ks cs : List ℕ) (n i : ℕ) (kinds : n ≤ length ks) (counts : n �
 
   one-more : i < n → left ≡ (ownFault ⊳ later)
   unfolding obstaclesFault
-  one-more h = rw (heads-next ks cs n i kinds counts h, ← behind total (own .count) v) (⊳-assoc (headFault total own) (outlineFault own (drop (2 * total) v)) _)
+  one-more h = rw (heads-next ks cs n i kinds counts h, ← behind total (own .count) v)
+      (⊳-assoc (headFault total own) (outlineFault own (drop (2 * total) v)) _)
 
   pub obstacle-on : i < n → fine ≡ ownFault → left ≡ later
   obstacle-on h e = one-more h ∙ rw (← e)

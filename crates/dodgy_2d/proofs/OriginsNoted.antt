@@ -1,4 +1,5 @@
--- The origins of a pass's lines: walls noted one by one, obstacle behind obstacle, then the neighbours; and the one of a line. Assumes nothing.
+-- The origins of a pass's lines: walls noted one by one, obstacle behind obstacle, then the neighbours; and the one of
+-- a line. Assumes nothing.
 use Prim.Native.Nat.{ℕ, zero, suc, _+_, _*_, _/_, _%_, _≤_, _<_}
 use mathlib.Core.Path.{_≡_, refl, sym, ap, _∙_}
 use mathlib.Core.List.{List, [], _∷_, _++_, map, map-append, append-assoc, append-nil}
@@ -17,16 +18,16 @@ use Rattle.edges.specs.declared.Agent.{Agent}
 use Rattle.dodgy_2d.specs.declared.EdgeLines.{EdgeLines}
 use Rattle.dodgy_2d.specs.declared.EdgeLines.the-variants as edge-lines
 use Rattle.dodgy_2d.specs.declared.Scene.{Scene}
-use Rattle.dodgy_2d.specs.Scenes.{headsIn}
 use Rattle.dodgy_2d.specs.Outcomes.{passAt}
-use Rattle.dodgy_2d.specs.Origins.{originsAt, edgeOrigins, neighboursFrom, failedOrigin, passOrigin}
+use Rattle.dodgy_2d.specs.Origins.{originsAt, edgeOrigins, edgeOriginsAt, neighboursFrom, failedOrigin, passOrigin}
 use Rattle.dodgy_2d.specs.Read.{wallsIn, WallsAre, counted}
 use Rattle.dodgy_2d.proofs.HeadsInOrder.{headsFrom, heads-next, heads-none}
 
 -- ---- one wall more
 
 -- the number of an edge's wall says its place and its left vertex
-wall-said : (place left : ℕ) → left < 256 → edgeOrigin ((256 * place + left) / 256) ((256 * place + left) % 256) ≡ edgeOrigin place left
+wall-said : (place left : ℕ) → left < 256 → edgeOrigin ((256 * place + left) / 256) ((256 * place + left) % 256)
+    ≡ edgeOrigin place left
 wall-said place left h =
     let p : (256 * place + left) / 256 ≡ place = omega arith in
     let v : (256 * place + left) % 256 ≡ left = omega arith in
@@ -49,11 +50,13 @@ noted-on walls at place left noted lefts there byte e =
 
 -- ---- obstacle behind obstacle
 
-module _ (agent : Agent) (margin horizon : Float) (v : List Float) (ks cs : List ℕ) (n : ℕ) (kinds : n ≤ length ks) (counts : n ≤ length cs) where
+module _ (agent : Agent) (margin horizon : Float) (v : List Float) (ks cs : List ℕ) (n : ℕ) (kinds : n ≤ length ks)
+    (counts : n ≤ length cs) where
   abbrev pub originsFrom : ℕ → ℕ → List Origin
   originsFrom offset i = edgeOrigins agent margin horizon v i offset (headsFrom ks cs n i)
 
-  pub origins-on : (i offset : ℕ) (so-far noted : List Origin) → i < n → noted ≡ so-far ++ originsAt agent margin horizon v i offset (headOf (getD ks i 0) (getD cs i 0)) →
+  pub origins-on : (i offset : ℕ) (so-far noted : List Origin) → i < n →
+      noted ≡ so-far ++ originsAt agent margin horizon v i offset (headOf (getD ks i 0) (getD cs i 0)) →
       so-far ++ originsFrom offset i ≡ noted ++ originsFrom (offset + getD cs i 0) (i + 1)
   unfolding edgeOrigins
   origins-on i offset so-far noted h e = rw (heads-next ks cs n i kinds counts h, e) (sym (append-assoc so-far _ _))
@@ -62,7 +65,8 @@ module _ (agent : Agent) (margin horizon : Float) (v : List Float) (ks cs : List
   unfolding edgeOrigins
   origins-done i offset so-far h = rw (heads-none ks cs n i kinds counts h) (append-nil so-far)
 
-pub walls-told : {walls : List ℕ} {origins : List Origin} {e : EdgeLines} {n : ℕ} → WallsAre walls origins e → e ≡ edge-lines.Count n → wallsIn n walls ≡ origins
+pub walls-told : {walls : List ℕ} {origins : List Origin} {e : EdgeLines} {n : ℕ} → WallsAre walls origins e →
+    e ≡ edge-lines.Count n → wallsIn n walls ≡ origins
 walls-told {walls} {origins} {e} {n} told same = count-told (rw same at told)
   where
     count-told : {m : ℕ} → WallsAre walls origins (edge-lines.Count m) → wallsIn m walls ≡ origins
@@ -104,17 +108,22 @@ module _ (walls : List ℕ) (rigid neighbours : ℕ) (fits : rigid ≤ length wa
   pub neighbour-of : (k i : ℕ) → k ≡ rigid + i → i < neighbours → getD all-origins k unknown ≡ neighbourOrigin i
   neighbour-of k i e h =
       let j : k ≡ length (wallsIn rigid walls) + i = e ∙ ap (λ (r : ℕ). r + i) (sym walls-long) in
-      rw j (getD-append-add (wallsIn rigid walls) (neighboursFrom 0 neighbours) i unknown) ∙ neighbour-at 0 neighbours i h ∙ ap neighbourOrigin (zero-add i)
+      rw j (getD-append-add (wallsIn rigid walls) (neighboursFrom 0 neighbours) i unknown)
+      ∙ neighbour-at 0 neighbours i h ∙ ap neighbourOrigin (zero-add i)
 
   pub none-of : (k : ℕ) → rigid + neighbours ≤ k → getD all-origins k unknown ≡ unknown
   none-of k h =
-      List·getD-eq-default all-origins unknown (rw (length-append (wallsIn rigid walls) (neighboursFrom 0 neighbours), walls-long, neighbours-long 0 neighbours) h)
+      List·getD-eq-default all-origins unknown (rw (
+        length-append (wallsIn rigid walls) (neighboursFrom 0 neighbours),
+        walls-long,
+        neighbours-long 0 neighbours,
+      ) h)
 
 -- ---- a pass
 
 pub pass-origin : (s : Scene) (velocity : Vec2) (walls : List Origin) (o : Outcome) →
-    walls ≡ edgeOrigins (record { position = s .agent .position; velocity = velocity }) (s .margin) (s .horizon) (s .vertices) 0 0 (headsIn s) →
-    o ≡ passAt s velocity → failedOrigin (walls ++ neighboursFrom 0 (s .neighbours)) o ≡ passOrigin s velocity
+    walls ≡ edgeOriginsAt s velocity → o ≡ passAt s velocity →
+    failedOrigin (walls ++ neighboursFrom 0 (s .neighbours)) o ≡ passOrigin s velocity
 unfolding passOrigin
 pass-origin s velocity walls o e f = rw (e, f)
 

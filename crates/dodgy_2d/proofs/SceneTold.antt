@@ -1,6 +1,5 @@
--- What a scene is answered: an outcome from 1 to 5, unless it is at fault, or an edge line is refused with 9 that is made for the cart's velocity or for
--- the cart at rest.
--- No solve of a scene is refused. Assumes nothing.
+-- What a scene is answered: an outcome from 1 to 5, unless it is at fault, or an edge line is refused with 9 that is
+-- made for the cart's velocity or for the cart at rest. No solve of a scene is refused. Assumes nothing.
 use Prim.Native.Nat.{ℕ, _≤_}
 use mathlib.Core.Path.{_≡_, refl}
 use mathlib.Core.List.{_++_}
@@ -26,11 +25,13 @@ data PassTold (s : Scene) (v : Vec2) : Outcome → Type 0 where
 stood-passed : {s : Scene} {v : Vec2} {o : Outcome} → Stood o → PassTold s v o
 stood-passed stood = passed
 
-solved-told : (s : Scene) (v : Vec2) (a : Answer) → sceneFault s ≡ fine → edgesAt s v ≡ a → FewAdmitted 192 a → PassTold s v (solvedOver (s .wish) (s .limit) (neighboursIn s) a)
+solved-told : (s : Scene) (v : Vec2) (a : Answer) → sceneFault s ≡ fine → edgesAt s v ≡ a → FewAdmitted 192 a →
+    PassTold s v (solvedOver (s .wish) (s .limit) (neighboursIn s) a)
 solved-told s v (refused r) h e (refuses nine) = edge-refused nine e
 solved-told s v (lines l) h e (few-admitted few all) =
     let p = parts s h in
-    stood-passed (never-refused _ (s .wish) (s .limit) (l ++ neighboursIn s) (p .wish) (rw (faults-append l (neighboursIn s), all, p .lines)))
+    stood-passed (never-refused _ (s .wish) (s .limit) (l ++ neighboursIn s) (p .wish)
+    (rw (faults-append l (neighboursIn s), all, p .lines)))
 
 pass-told : (s : Scene) (v : Vec2) → sceneFault s ≡ fine → PassTold s v (passAt s v)
 unfolding passAt
@@ -58,4 +59,5 @@ first-told s (refusal r) h (edge-refused nine e) = by-edge nine h e
 
 pub scene-told : (s : Scene) → Told s (sceneOutcome s)
 unfolding sceneOutcome
-scene-told s = unless-case (Told s) refusedScene (sceneFault s) (λ e. first-told s _ e (pass-told s (s .agent .velocity) e)) (λ r e. at-fault e)
+scene-told s = unless-case (Told s) refusedScene (sceneFault s)
+    (λ e. first-told s _ e (pass-told s (s .agent .velocity) e)) (λ r e. at-fault e)

@@ -31,18 +31,23 @@ originsAt agent margin horizon vertices place offset h = map (edgeOrigin place) 
 unfoldable pub edgeOrigins : Agent → Float → Float → List Float → ℕ → ℕ → List Head → List Origin
 edgeOrigins agent margin horizon vertices place offset [] = []
 edgeOrigins agent margin horizon vertices place offset (h ∷ hs) =
-    originsAt agent margin horizon vertices place offset h ++ edgeOrigins agent margin horizon vertices (place + 1) (offset + h .count) hs
+    originsAt agent margin horizon vertices place offset h ++ edgeOrigins agent margin horizon vertices (place + 1)
+    (offset + h .count) hs
 
 -- so many neighbours from a place on
 unfoldable pub neighboursFrom : ℕ → ℕ → List Origin
 neighboursFrom place zero = []
 neighboursFrom place (suc n) = neighbourOrigin place ∷ neighboursFrom (place + 1) n
 
+-- those of the obstacles' lines, for a cart that has this velocity
+abbrev pub edgeOriginsAt : Scene → Vec2 → List Origin
+edgeOriginsAt s velocity =
+    edgeOrigins (record { position = s .agent .position; velocity = velocity }) (s .margin) (s .horizon)
+    (s .vertices) 0 0 (headsIn s)
+
 -- "obstacle lines (rigid), then neighbour lines"
 abbrev pub passOrigins : Scene → Vec2 → List Origin
-passOrigins s velocity =
-    edgeOrigins (record { position = s .agent .position; velocity = velocity }) (s .margin) (s .horizon) (s .vertices) 0 0 (headsIn s)
-    ++ neighboursFrom 0 (s .neighbours)
+passOrigins s velocity = edgeOriginsAt s velocity ++ neighboursFrom 0 (s .neighbours)
 
 -- ---- the failed line's
 

@@ -46,7 +46,8 @@ solvedOver wish limit neighbours (refused r) = refusal r
 
 -- the obstacles' lines for a cart that has this velocity
 abbrev pub edgesAt : Scene → Vec2 → Answer
-edgesAt s velocity = edgeLines (record { position = s .agent .position; velocity = velocity }) (s .margin) (s .horizon) (s .vertices) 0 (headsIn s)
+edgesAt s velocity = edgeLines (record { position = s .agent .position; velocity = velocity }) (s .margin) (s .horizon)
+    (s .vertices) 0 (headsIn s)
 
 unfoldable pub passAt : Scene → Vec2 → Outcome
 passAt s velocity = solvedOver (s .wish) (s .limit) (neighboursIn s) (edgesAt s velocity)
@@ -56,7 +57,8 @@ atRest = zeroVector
 
 -- ---- the outcomes
 
--- "outcomes 3, 4, and 5 for a second rigid failure, whose point is taken. Probes add over passes; the failed line is that of the last pass run."
+-- "outcomes 3, 4, and 5 for a second rigid failure, whose point is taken. Probes add over passes; the failed line is
+-- that of the last pass run."
 abbrev pub secondPass : ℕ → Outcome → SceneOutcome
 secondPass n (stands (solving p) f m) = outcome 3 p f (n + m)
 secondPass n (stands (relaxing p depth) f m) = outcome 4 p f (n + m)

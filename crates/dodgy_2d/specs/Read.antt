@@ -1,9 +1,10 @@
 -- What a scene's answer says, in 01's outcomes and numbers. Definitions only. Assumes nothing.
-use Prim.Native.Nat.{ℕ, _*_, _/_, _%_}
+use Prim.Native.Nat.{ℕ, _+_, _*_, _/_, _%_, _≤_}
 use mathlib.Core.Path.{_≡_}
 use mathlib.Core.List.{List, map}
-use lib.ListN.{take}
+use lib.ListN.{length, take}
 use lib.Ieee.{Float}
+use Rattle.common.specs.declared.Vec2.{Vec2}
 use Rattle.common.specs.Vectors.{vec}
 use Rattle.lines.specs.Lines.{linesOf}
 use Rattle.lines.specs.declared.Origin.{Origin}
@@ -12,9 +13,12 @@ use Rattle.linear_programming.specs.Read.{failedOf, failedAs}
 use Rattle.obstacles.specs.Obstacles.{Answer, lines, refused}
 use Rattle.dodgy_2d.specs.declared.EdgeLines.{EdgeLines}
 use Rattle.dodgy_2d.specs.declared.EdgeLines.the-variants as edge-lines
+use Rattle.dodgy_2d.specs.declared.Scene.{Scene}
 use Rattle.dodgy_2d.specs.declared.SceneAnswer.{SceneAnswer}
 use Rattle.dodgy_2d.specs.declared.SceneAnswer.the-variants as answer
-use Rattle.dodgy_2d.specs.Outcomes.{SceneOutcome, outcome, refusedScene}
+use Rattle.dodgy_2d.specs.Scenes.{neighboursIn}
+use Rattle.dodgy_2d.specs.Outcomes.{SceneOutcome, outcome, refusedScene, joined, edgesAt}
+use Rattle.dodgy_2d.specs.Origins.{edgeOriginsAt}
 
 abbrev pub outcomeOf : SceneAnswer → SceneOutcome
 outcomeOf (answer.Outcome code x y f n o) = outcome code (vec x y) (failedOf f) n
@@ -41,6 +45,19 @@ wallsIn n walls = map (λ (w : ℕ). edgeOrigin (w / 256) (w % 256)) (take n wal
 pub data WallsAre (walls : List ℕ) (origins : List Origin) : EdgeLines → Type 0 where
   counted : {n : ℕ} → wallsIn n walls ≡ origins → WallsAre walls origins (edge-lines.Count n)
   none-told : {r : ℕ} → WallsAre walls origins (edge-lines.Refused r)
+
+-- with so many neighbours' lines behind the obstacles'
+abbrev pub allOf : ℕ → EdgeLines → List Float → Answer
+allOf neighbours (edge-lines.Count n) numbers = lines (linesOf (take (4 * (n + neighbours)) numbers))
+allOf neighbours (edge-lines.Refused r) numbers = refused r
+
+-- a pass's lines stand in lent numbers, "obstacle lines (rigid), then neighbour lines", and the rigid ones' walls are noted
+pub record Chosen (s : Scene) (velocity : Vec2) (numbers : List Float) (walls : List ℕ) (r : EdgeLines) : Type 0 where
+  pub room : (length numbers ≡ 1024) × (length walls ≡ 192)
+  pub few : countIn r ≤ 192
+  pub rigid : edgesOf r numbers ≡ edgesAt s velocity
+  pub all : allOf (s .neighbours) r numbers ≡ joined (edgesAt s velocity) (lines (neighboursIn s))
+  pub noted : WallsAre walls (edgeOriginsAt s velocity) r
 
 -- and back: the enum that says an outcome and the failed line's origin
 abbrev pub sceneAnswerAs : SceneOutcome → Origin → SceneAnswer

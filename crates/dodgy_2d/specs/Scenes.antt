@@ -1,4 +1,5 @@
--- A scene's parts, and its first fault in the order of the record's fields (01, "What is admitted", "Refusal numbers", "Records"). Definitions only. Assumes nothing.
+-- A scene's parts, and its first fault in the order of the record's fields (01, "What is admitted", "Refusal numbers",
+-- "Records"). Definitions only. Assumes nothing.
 use Prim.Native.Nat.{ℕ, _+_, _*_}
 use mathlib.Core.List.{List, [], _∷_}
 use lib.Dec.{leb}
@@ -46,7 +47,8 @@ cartFault s = agentFault (s .agent) (s .margin) (s .horizon) ⊳ vectorFault (s 
 -- each obstacle's head, behind the running total of vertices, then its own vertices, none doubled, then the obstacles behind it
 unfoldable pub obstaclesFault : ℕ → List Head → List Float → Fault
 obstaclesFault total [] xs = fine
-obstaclesFault total (h ∷ hs) xs = headFault total h ⊳ outlineFault h xs ⊳ obstaclesFault (total + h .count) hs (drop (2 * h .count) xs)
+obstaclesFault total (h ∷ hs) xs =
+    headFault total h ⊳ outlineFault h xs ⊳ obstaclesFault (total + h .count) hs (drop (2 * h .count) xs)
 
 unfoldable pub sceneFault : Scene → Fault
 sceneFault s =

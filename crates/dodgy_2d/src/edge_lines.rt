@@ -1,5 +1,5 @@
-// The obstacles' lines, obstacle behind obstacle, filled into lent numbers, four a line; and beside them each line's wall, one number a line: 256 times the
-// obstacle's place, and the left vertex of its edge.
+// The obstacles' lines, obstacle behind obstacle, filled into lent numbers, four a line; and beside them each line's
+// wall, one number a line: 256 times the obstacle's place, and the left vertex of its edge.
 use crate::EdgeLines;
 use crate::judge::wide;
 use admission::Head;
@@ -32,7 +32,8 @@ pub(crate) fn copy(numbers: &mut [f32], at: usize, more: [f32; 256], n: usize)
     }
 }
 
-// The lines of one obstacle behind the `count` lines that stand, and their walls. Its edges see the lines that it made itself, and no others.
+// The lines of one obstacle behind the `count` lines that stand, and their walls. Its edges see the lines that it made
+// itself, and no others.
 fn add_obstacle(
     agent: Agent,
     place: usize,
@@ -44,7 +45,8 @@ fn add_obstacle(
     walls: &mut [u32],
     count: usize,
 ) -> EdgeLines
-    requires { ⌜ (length (now numbers) ≡ 1024) × (length (now walls) ≡ 192) × (count + length (now vertices) / 2 ≤ 192) × (place < 16) ⌝ }
+    requires { ⌜ (length (now numbers) ≡ 1024) × (length (now walls) ≡ 192) × (count + length (now vertices) / 2 ≤ 192)
+        × (place < 16) ⌝ }
     ensures { λ r. ⌜ (length (now (numbers .exit)) ≡ 1024) × (length (now (walls .exit)) ≡ 192)
         × (countIn r ≤ count + length (now (vertices .entry)) / 2)
         × (edgesOf r (now (numbers .exit)) ≡ joined (linesAre (linesOf (take (4 * count) (now (numbers .entry)))))
@@ -79,7 +81,8 @@ fn add_obstacle(
     EdgeLines::Count(count + own)
 }
 
-// The lines of the first `n` obstacles, each with its vertices behind those of the ones before. An obstacle sees no other one's lines.
+// The lines of the first `n` obstacles, each with its vertices behind those of the ones before. An obstacle sees no
+// other one's lines.
 pub(crate) fn edge_lines(
     agent: Agent,
     kinds: [u8; 16],
@@ -91,8 +94,14 @@ pub(crate) fn edge_lines(
     numbers: &mut [f32],
     walls: &mut [u32],
 ) -> EdgeLines
-    requires { ⌜ (n ≤ 16) × (length (now numbers) ≡ 1024) × (obstaclesFault 0 (headsOf (take n kinds) (take n counts)) (now vertices) ≡ fine) × (length (now walls) ≡ 192) ⌝ }
-    ensures { λ r. ⌜ (length (now (numbers .exit)) ≡ 1024) × (countIn r ≤ 192) × (edgesOf r (now (numbers .exit)) ≡ edgeLines agent margin horizon (now (vertices .entry)) 0 (headsOf (take n kinds) (take n counts))) × WallsAre (now (walls .exit)) (edgeOrigins agent margin horizon (now (vertices .entry)) 0 0 (headsOf (take n kinds) (take n counts))) r × (length (now (walls .exit)) ≡ 192) ⌝ }
+    requires { ⌜ (n ≤ 16) × (length (now numbers) ≡ 1024)
+        × (obstaclesFault 0 (headsOf (take n kinds) (take n counts)) (now vertices) ≡ fine)
+        × (length (now walls) ≡ 192) ⌝ }
+    ensures { λ r. ⌜ (length (now (numbers .exit)) ≡ 1024) × (countIn r ≤ 192)
+        × (edgesOf r (now (numbers .exit))
+        ≡ edgeLines agent margin horizon (now (vertices .entry)) 0 (headsOf (take n kinds) (take n counts)))
+        × WallsAre (now (walls .exit)) (edgeOrigins agent margin horizon (now (vertices .entry)) 0 0
+        (headsOf (take n kinds) (take n counts))) r × (length (now (walls .exit)) ≡ 192) ⌝ }
 {
     let mut count = 0usize;
     let mut offset = 0usize;

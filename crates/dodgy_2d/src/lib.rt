@@ -1,4 +1,5 @@
-// A cart's velocity from its scene (the Rust's lib.rs, cut): the obstacles' lines, then the neighbours', solved in at most two passes.
+// A cart's velocity from its scene (the Rust's lib.rs, cut): the obstacles' lines, then the neighbours', solved in at
+// most two passes.
 use admission::Judged;
 use common::Vec2;
 use edges::Agent;
@@ -13,7 +14,8 @@ mod edge_lines;
 mod judge;
 mod passes;
 
-// What a velocity is wanted for: the cart, its walls and its neighbours' lines. Vertices are two numbers each, obstacle behind obstacle; lines four.
+// What a velocity is wanted for: the cart, its walls and its neighbours' lines. Vertices are two numbers each, obstacle
+// behind obstacle; lines four.
 pub struct Scene {
     pub agent: Agent,
     pub margin: f32,
@@ -40,16 +42,16 @@ pub(crate) enum EdgeLines {
     Refused(u8),
 }
 
-// The outcome 1 to 5 with the velocity, the failed line of the last pass run, the probes of all passes, and the failed line's origin; or the number of the
-// scene's refusal.
+// The outcome 1 to 5 with the velocity, the failed line of the last pass run, the probes of all passes, and the failed
+// line's origin; or the number of the scene's refusal.
 pub enum SceneAnswer {
     Outcome(u8, f32, f32, FailedLine, u32, Origin),
     Refused(u8),
 }
 
 impl SceneAnswer {
-    // Where the failed line comes from: an edge by its obstacle's place in the scene and its left vertex there, or a neighbour by its place; unknown where
-    // no line failed.
+    // Where the failed line comes from: an edge by its obstacle's place in the scene and its left vertex there, or a
+    // neighbour by its place; unknown where no line failed.
     pub fn origin(self) -> Origin
         ensures { λ r. ⌜ r ≡ originOf self ⌝ }
     {
@@ -60,9 +62,10 @@ impl SceneAnswer {
     }
 }
 
-// The velocity of a scene: 1 where the lines are met, 2 where neighbours' lines had to be relaxed; where the obstacles' lines cannot be met, they are made
-// again for a cart at rest: 3 and 4, and 5 where that fails too, whose point is taken. Refused: the scene's first fault in the order of its fields
-// (6, 4, 3, 5, 14, 7), an edge line that is not admitted (9). The solves' own 8 and 9 are never told of a scene (proofs/SceneTold.antt).
+// The velocity of a scene: 1 where the lines are met, 2 where neighbours' lines had to be relaxed; where the obstacles'
+// lines cannot be met, they are made again for a cart at rest: 3 and 4, and 5 where that fails too, whose point is
+// taken. Refused: the scene's first fault in the order of its fields (6, 4, 3, 5, 14, 7), an edge line that is not
+// admitted (9). The solves' own 8 and 9 are never told of a scene (proofs/SceneTold.antt).
 pub fn compute_avoiding_velocity(scene: Scene) -> SceneAnswer
     ensures { λ r. ⌜ r ≡ sceneAnswerAs (sceneOutcome scene) (sceneOrigin scene) ⌝ }
 {

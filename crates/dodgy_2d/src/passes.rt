@@ -8,6 +8,7 @@ use edges::Agent;
 use linear_programming::Answer;
 use linear_programming::FailedLine;
 use linear_programming::Phase;
+use lines::Line;
 use lines::Origin;
 ghost use mathlib.Core.Path.{_≡_};
 ghost use Prim.Native.Nat.{_≤_};
@@ -19,7 +20,7 @@ ghost use Rattle.linear_programming.specs.Read.{outcomeOf as listOutcomeOf};
 ghost use Rattle.dodgy_2d.specs.Scenes.{sceneFault};
 ghost use Rattle.dodgy_2d.specs.Outcomes.{passAt, firstPass, secondPass, atRest};
 ghost use Rattle.dodgy_2d.specs.Origins.{neighboursFrom, failedOrigin, passOrigin, lastVelocity};
-ghost use Rattle.dodgy_2d.specs.Read.{outcomeOf, originOf, wallsIn};
+ghost use Rattle.dodgy_2d.specs.Read.{outcomeOf, originOf, wallsIn, Chosen};
 
 // What a pass comes to, and the origin of its failed line.
 struct Passed {
@@ -27,7 +28,8 @@ struct Passed {
     origin: Origin,
 }
 
-// The origin of the line at an index: its edge's, as noted among the first `rigid` walls, or behind them its place among the neighbours.
+// The origin of the line at an index: its edge's, as noted among the first `rigid` walls, or behind them its place
+// among the neighbours.
 fn origin_at(walls: &[u32], rigid: usize, neighbours: usize, index: usize) -> Origin
     requires { ⌜ (rigid ≤ length (now walls)) × (neighbours ≤ 64) ⌝ }
     ensures { λ r. ⌜ r ≡ getD (wallsIn rigid (now (walls .entry)) ++ neighboursFrom 0 neighbours) index unknown ⌝ }
@@ -54,7 +56,8 @@ fn origin_at(walls: &[u32], rigid: usize, neighbours: usize, index: usize) -> Or
 // The origin of the line that failed, unknown where none did.
 fn failed_origin(answer: Answer, walls: &[u32], rigid: usize, neighbours: usize) -> Origin
     requires { ⌜ (rigid ≤ length (now walls)) × (neighbours ≤ 64) ⌝ }
-    ensures { λ r. ⌜ r ≡ failedOrigin (wallsIn rigid (now (walls .entry)) ++ neighboursFrom 0 neighbours) (listOutcomeOf answer) ⌝ }
+    ensures { λ r. ⌜ r ≡ failedOrigin (wallsIn rigid (now (walls .entry)) ++ neighboursFrom 0 neighbours)
+        (listOutcomeOf answer) ⌝ }
 {
     match answer {
         Answer::Stands(_, failed, _) => match failed {
@@ -65,18 +68,17 @@ fn failed_origin(answer: Answer, walls: &[u32], rigid: usize, neighbours: usize)
     }
 }
 
-// One pass: the obstacles' lines for a velocity, rigid, then the neighbours' lines as they came.
-fn pass(scene: Scene, velocity: Vec2) -> Passed
-    requires { ⌜ sceneFault scene ≡ fine ⌝ }
-    ensures { λ r. ⌜ (listOutcomeOf (r .answer) ≡ passAt scene velocity) × (r .origin ≡ passOrigin scene velocity) ⌝ }
+// The lines of a pass, in lent numbers, and the walls of the rigid ones: the obstacles' lines for a velocity, then the
+// neighbours' as they came.
+fn choose_lines(scene: Scene, velocity: Vec2, numbers: &mut [f32], walls: &mut [u32]) -> EdgeLines
+    requires { ⌜ (sceneFault scene ≡ fine) × (length (now numbers) ≡ 1024) × (length (now walls) ≡ 192) ⌝ }
+    ensures { λ r. ⌜ Chosen scene velocity (now (numbers .exit)) (now (walls .exit)) r ⌝ }
 {
     let position = scene.agent.position;
     let agent = Agent { position, velocity };
     let kinds = scene.kinds;
     let counts = scene.counts;
     let vertices = scene.vertices;
-    let mut numbers = [0.0f32; 1024];
-    let mut walls = [0u32; 192];
     let made = edge_lines::edge_lines(
         agent,
         kinds,
@@ -85,18 +87,32 @@ fn pass(scene: Scene, velocity: Vec2) -> Passed
         &vertices,
         scene.margin,
         scene.horizon,
-        &mut numbers,
-        &mut walls,
+        numbers,
+        walls,
     );
-    match made {
+    let EdgeLines::Count(rigid) = made else {
+        return made;
+    };
+    let lines = scene.lines;
+    edge_lines::copy(numbers, 4 * rigid, lines, 4 * scene.neighbours);
+    EdgeLines::Count(rigid)
+}
+
+// One pass: the lines chosen for a velocity, solved.
+fn pass(scene: Scene, velocity: Vec2) -> Passed
+    requires { ⌜ sceneFault scene ≡ fine ⌝ }
+    ensures { λ r. ⌜ (listOutcomeOf (r .answer) ≡ passAt scene velocity) × (r .origin ≡ passOrigin scene velocity) ⌝ }
+{
+    let mut numbers = [0.0f32; 4 * Line::MOST];
+    let mut walls = [0u32; 192];
+    let chosen = choose_lines(scene, velocity, &mut numbers, &mut walls);
+    match chosen {
         EdgeLines::Refused(number) => Passed {
             answer: Answer::Refused(number),
             origin: Origin::UNKNOWN,
         },
         EdgeLines::Count(rigid) => {
-            let lines = scene.lines;
             let end = rigid + scene.neighbours;
-            edge_lines::copy(&mut numbers, 4 * rigid, lines, 4 * scene.neighbours);
             let answer = linear_programming::solve_linear_program(
                 &numbers[0..4 * end],
                 rigid,
@@ -133,7 +149,8 @@ fn fall_back(scene: Scene, probes: u32) -> SceneAnswer
 // The first pass, with the cart's velocity: 1, or 2 where it relaxed. A rigid failure falls back.
 pub(crate) fn solve(scene: Scene) -> SceneAnswer
     requires { ⌜ sceneFault scene ≡ fine ⌝ }
-    ensures { λ r. ⌜ (outcomeOf r ≡ firstPass scene (passAt scene (scene .agent .velocity))) × (originOf r ≡ passOrigin scene (lastVelocity scene (passAt scene (scene .agent .velocity)))) ⌝ }
+    ensures { λ r. ⌜ (outcomeOf r ≡ firstPass scene (passAt scene (scene .agent .velocity)))
+        × (originOf r ≡ passOrigin scene (lastVelocity scene (passAt scene (scene .agent .velocity)))) ⌝ }
 {
     let passed = pass(scene, scene.agent.velocity);
     let answer = passed.answer;

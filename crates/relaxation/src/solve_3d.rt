@@ -71,7 +71,8 @@ fn tighten(constraint: Line, previous: Line) -> Tightened
 // The rigid lines, unchanged.
 fn copy_rigid(lines: &[f32], rigid: usize, tight: &mut [f32])
     requires { ⌜ (rigid ≤ 255) × (4 * rigid ≤ length (now lines)) × (length (now tight) ≡ 1020) ⌝ }
-    ensures { λ _. ⌜ (length (now (tight .exit)) ≡ 1020) × (take rigid (linesOf (now (tight .exit))) ≡ take rigid (linesOf (now (lines .entry)))) ⌝ }
+    ensures { λ _. ⌜ (length (now (tight .exit)) ≡ 1020) × (take rigid (linesOf (now (tight .exit)))
+        ≡ take rigid (linesOf (now (lines .entry)))) ⌝ }
 {
     let mut n = 0usize;
     while n < rigid {
@@ -89,7 +90,9 @@ fn tighten_into(
     tight: &mut [f32],
 ) -> usize
     requires { ⌜ (rigid ≤ index) × (index ≤ 255) × (4 * index ≤ length (now lines)) × (length (now tight) ≡ 1020) ⌝ }
-    ensures { λ r. ⌜ (r ≤ index) × (length (now (tight .exit)) ≡ 1020) × (take r (linesOf (now (tight .exit))) ≡ tightened rigid constraint (take index (linesOf (now (lines .entry))))) ⌝ }
+    ensures { λ r. ⌜ (r ≤ index) × (length (now (tight .exit)) ≡ 1020)
+        × (take r (linesOf (now (tight .exit)))
+        ≡ tightened rigid constraint (take index (linesOf (now (lines .entry))))) ⌝ }
 {
     copy_rigid(lines, rigid, tight);
     let mut n = rigid;
@@ -107,7 +110,7 @@ fn tighten_into(
 
 // The inner solve: the tightened list by value, its count beside it.
 fn solve_tightened(
-    tight: [f32; 1020],
+    tight: [f32; 4 * (Line::MOST - 1)],
     count: usize,
     radius: f32,
     direction: Vec2,
@@ -171,14 +174,15 @@ fn relax_line(
     probes: u32,
 ) -> LinearProgram3D
     requires { ⌜ (4 * index + 4 ≤ length (now lines)) × (index < mostLines) × (probes < 16777216) ⌝ }
-    ensures { λ r. ⌜ relaxedOf r ≡ relaxLine rigid radius (take index (linesOf (now (lines .entry)))) (getD (linesOf (now (lines .entry))) index offLine) (relaxed value penetration probes) ⌝ }
+    ensures { λ r. ⌜ relaxedOf r ≡ relaxLine rigid radius (take index (linesOf (now (lines .entry))))
+        (getD (linesOf (now (lines .entry))) index offLine) (relaxed value penetration probes) ⌝ }
 {
     let constraint = lines::line_at(lines, index);
     if depth_in(constraint, value) <= penetration {
         return LinearProgram3D::Relaxed(value, penetration, probes + 1);
     }
     let copied = lesser(rigid, index);
-    let mut tight = [0.0f32; 1020];
+    let mut tight = [0.0f32; 4 * (Line::MOST - 1)];
     let count = tighten_into(lines, copied, index, constraint, &mut tight);
     let inner = solve_tightened(tight, count, radius, constraint.direction.perp());
     // every line behind the copied ones was examined
@@ -197,7 +201,8 @@ pub(crate) fn relax_from(
     penetration: f32,
 ) -> LinearProgram3D
     requires { ⌜ (count ≤ mostLines) × (4 * count ≤ length (now lines)) ⌝ }
-    ensures { λ r. ⌜ relaxedOf r ≡ walk (relaxLine rigid radius) (take from (linesOf (now (lines .entry)))) (drop from (take count (linesOf (now (lines .entry))))) (relaxed value penetration 0) ⌝ }
+    ensures { λ r. ⌜ relaxedOf r ≡ walk (relaxLine rigid radius) (take from (linesOf (now (lines .entry))))
+        (drop from (take count (linesOf (now (lines .entry))))) (relaxed value penetration 0) ⌝ }
 {
     let mut best_value = value;
     let mut depth = penetration;

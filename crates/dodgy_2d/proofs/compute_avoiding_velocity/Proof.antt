@@ -16,7 +16,8 @@ solve-requires c κs = sym (rw (c .enum-told .given .1) at (c .before .before .j
 
 returns-2 : tie.Need-returns-2
 unfolding sceneOutcome sceneOrigin
-returns-2 c = simp (c .before .enum-told .given .1, ← c .before .before .before .judge-scene .ensures) (said _ _ (c .solve .ensures .0) (c .solve .ensures .1))
+returns-2 c = simp (c .before .enum-told .given .1, ← c .before .before .before .judge-scene .ensures)
+    (said _ _ (c .solve .ensures .0) (c .solve .ensures .1))
 
 pub compute-avoiding-velocity-spec : {M : Type 1} → statement M
 compute-avoiding-velocity-spec =

@@ -1,5 +1,5 @@
--- `dodgy_2d::edge_lines::add_obstacle` meets its contract. The invariant: what its first i edges make stands behind the `count` lines, their walls are
--- noted beside it, and the lines before it are as they were. Assumes nothing.
+-- `dodgy_2d::edge_lines::add_obstacle` meets its contract. The invariant: what its first i edges make stands behind the
+-- `count` lines, their walls are noted beside it, and the lines before it are as they were. Assumes nothing.
 use Prim.Native.Nat.{_+_, _-_, _*_, _/_, _≤_, _<_}
 use mathlib.Core.Path.{_≡_, refl, sym, _∙_}
 use mathlib.Core.List.{_++_, map, append-nil}
@@ -24,9 +24,11 @@ abbrev Inv-loop : tie.InvT-loop
 Inv-loop agent place kind vertices margin horizon numbers₀ walls₀ count all own₀ i₀ numbers walls own i =
     (own ≤ i) × (i ≤ all) × (all ≤ length vertices / 2) × (count + length vertices / 2 ≤ 192) × (place < 16)
     × (length numbers ≡ 1024) × (length walls ≡ 192) × (take (4 * count) numbers ≡ take (4 * count) numbers₀)
-    × (linesUpTo agent kind (length vertices / 2) (verticesOf vertices) margin horizon i ≡ standing (linesOf (take (4 * own) (drop (4 * count) numbers))))
+    × (linesUpTo agent kind (length vertices / 2) (verticesOf vertices) margin horizon i
+    ≡ standing (linesOf (take (4 * own) (drop (4 * count) numbers))))
     × (wallsIn (count + own) walls
-    ≡ wallsIn count walls₀ ++ map (edgeOrigin place) (makersUpTo agent kind (length vertices / 2) (verticesOf vertices) margin horizon i))
+    ≡ wallsIn count walls₀ ++ map (edgeOrigin place) (makersUpTo agent kind (length vertices / 2)
+    (verticesOf vertices) margin horizon i))
 
 abbrev μ-loop : tie.MeasureT-loop
 μ-loop agent place kind vertices margin horizon numbers₀ walls₀ count all own₀ i₀ numbers walls own i = all - i
@@ -56,7 +58,8 @@ loop-again c =
     let n = length (now (a .vertices)) / 2 in
     let vs = verticesOf (now (a .vertices)) in
     let cut : 4 * (a .count + l .own) - 4 * a .count ≡ 4 * l .own = omega arith in
-    let own-edge : l .i < edgeCount (a .kind) n = omega (arith, turn .before .before .before .before .before .edge-count .ensures) in
+    let own-edge : l .i < edgeCount (a .kind) n =
+    omega (arith, turn .before .before .before .before .before .edge-count .ensures) in
     let made = rw (c .before .before .before .before .before .found .given .1, cut) at (turn .get-line-alone .ensures)
     ∙ alone-edge (a .agent) (a .kind) n vs (a .margin) (a .horizon) (now (a .vertices)) (l .i) _ refl refl own-edge in
     let room : 4 * (a .count + l .own) + 4 ≤ length (l .numbers) = omega (arith, l .inv .5) in
@@ -75,7 +78,8 @@ loop-again c =
           (add-kept (a .agent) (a .kind) n vs (a .margin) (a .horizon) (l .i) _ _ (l .inv .8) made),
       rw (left, next, maker-kept (a .agent) (a .kind) n vs (a .margin) (a .horizon) (l .i) _ _ (l .inv .8) made)
           (noted-on (l .walls) (a .count + l .own) (a .place) (l .i) (wallsIn (a .count) (now (a .walls)))
-          (makersUpTo (a .agent) (a .kind) n vs (a .margin) (a .horizon) (l .i)) (omega (arith, l .inv .6)) (omega arith) (l .inv .9)),
+          (makersUpTo (a .agent) (a .kind) n vs (a .margin) (a .horizon) (l .i)) (omega (arith, l .inv .6))
+          (omega arith) (l .inv .9)),
     )
 
 loop-again-2 : tie.Need-loop-again-2 Inv-loop μ-loop
@@ -86,7 +90,8 @@ loop-again-2 c =
     let n = length (now (a .vertices)) / 2 in
     let vs = verticesOf (now (a .vertices)) in
     let cut : 4 * (a .count + l .own) - 4 * a .count ≡ 4 * l .own = omega arith in
-    let own-edge : l .i < edgeCount (a .kind) n = omega (arith, turn .before .before .before .before .before .edge-count .ensures) in
+    let own-edge : l .i < edgeCount (a .kind) n =
+    omega (arith, turn .before .before .before .before .before .edge-count .ensures) in
     let made = rw (c .enum-told .given .1, cut) at (turn .get-line-alone .ensures)
     ∙ alone-edge (a .agent) (a .kind) n vs (a .margin) (a .horizon) (now (a .vertices)) (l .i) _ refl refl own-edge in (
       omega arith,
@@ -102,10 +107,12 @@ loop-again-2 c =
     )
 
 same-length : tie.Need-same-length Inv-loop μ-loop
-same-length c = c .before .before .before .before .before .before .before .loop .inv .5 ∙ sym (c .before .before .before .before .before .before .before .before .before .before .before .before .pre .0)
+same-length c = c .before .before .before .before .before .before .before .loop .inv .5
+    ∙ sym (c .before .before .before .before .before .before .before .before .before .before .before .before .pre .0)
 
 same-length-2 : tie.Need-same-length-2 Inv-loop μ-loop
-same-length-2 c = c .before .before .before .before .before .before .before .loop .inv .6 ∙ sym (c .before .before .before .before .before .before .before .before .before .before .before .before .pre .1)
+same-length-2 c = c .before .before .before .before .before .before .before .loop .inv .6
+    ∙ sym (c .before .before .before .before .before .before .before .before .before .before .before .before .pre .1)
 
 returns : tie.Need-returns Inv-loop μ-loop
 unfolding obstacleLines
@@ -116,13 +123,15 @@ returns c =
     let n = length (now (a .vertices)) / 2 in
     let vs = verticesOf (now (a .vertices)) in
     let cut : 4 * (a .count + l .own) - 4 * a .count ≡ 4 * l .own = omega arith in
-    let own-edge : l .i < edgeCount (a .kind) n = omega (arith, turn .before .before .before .before .before .edge-count .ensures) in
+    let own-edge : l .i < edgeCount (a .kind) n =
+    omega (arith, turn .before .before .before .before .before .edge-count .ensures) in
     let made = rw (c .before .found2 .given .1, cut) at (turn .get-line-alone .ensures)
     ∙ alone-edge (a .agent) (a .kind) n vs (a .margin) (a .horizon) (now (a .vertices)) (l .i) _ refl refl own-edge in (
       l .inv .5,
       l .inv .6,
       omega arith,
-      rw (add-refused (a .agent) (a .kind) n vs (a .margin) (a .horizon) (l .i) (edgeCount (a .kind) n) _ _ (l .inv .8) made (omega arith)),
+      rw (add-refused (a .agent) (a .kind) n vs (a .margin) (a .horizon) (l .i) (edgeCount (a .kind) n) _ _
+          (l .inv .8) made (omega arith)),
       none-told,
     )
 
@@ -149,7 +158,10 @@ returns-2 c =
 pub add-obstacle-spec : {M : Type 1} → statement M
 add-obstacle-spec =
     tie.close (tie.spec Inv-loop μ-loop (λ c κs. search needs) loop-holds (λ c. omega arith) (λ c. omega arith) (λ c. omega arith)
-    (λ c. omega arith) (λ c. omega arith) (λ c. omega arith) (λ c. omega arith) (λ c κs. search needs) (λ c. omega arith) (λ c. search needs)
-    (λ c. omega arith) (λ c κs. search needs) (λ c. omega arith) (λ c. omega arith) (λ c. omega arith) (λ c. omega arith) (λ c. omega arith)
-    (λ c. omega arith) (λ c. omega arith) (λ c. omega arith) (λ c. omega arith) loop-again (λ c. search needs) (λ c. omega arith) loop-again-2
+    (λ c. omega arith) (λ c. omega arith) (λ c. omega arith) (λ c. omega arith) (λ c κs. search needs)
+    (λ c. omega arith) (λ c. search needs)
+    (λ c. omega arith) (λ c κs. search needs) (λ c. omega arith) (λ c. omega arith) (λ c. omega arith)
+    (λ c. omega arith) (λ c. omega arith)
+    (λ c. omega arith) (λ c. omega arith) (λ c. omega arith) (λ c. omega arith) loop-again (λ c. search needs)
+    (λ c. omega arith) loop-again-2
     (λ c. search needs) same-length same-length-2 returns (λ c. omega arith) same-length-3 same-length-4 returns-2)

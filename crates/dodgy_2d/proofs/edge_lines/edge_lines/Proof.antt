@@ -1,5 +1,5 @@
--- `dodgy_2d::edge_lines::edge_lines` meets its contract. The invariant: the lines of the obstacles before i, joined with what the rest makes, are all
--- of them, and so are their origins. Assumes nothing.
+-- `dodgy_2d::edge_lines::edge_lines` meets its contract. The invariant: the lines of the obstacles before i, joined
+-- with what the rest makes, are all of them, and so are their origins. Assumes nothing.
 use Prim.Native.Nat.{_-_, _*_, _≤_}
 use mathlib.Core.Path.{_≡_, refl, sym, _∙_}
 use mathlib.Core.List.{_++_}
@@ -28,16 +28,29 @@ Inv-loop agent n vertices margin horizon numbers₀ walls₀ kinds counts count�
     × (2 * offset ≤ length vertices)
     × (length numbers ≡ 1024)
     × (obstaclesFault offset (headsFrom kinds counts n i) (drop (2 * offset) vertices) ≡ fine)
-    × (edgeLines agent margin horizon vertices 0 (headsFrom kinds counts n 0) ≡ joined (lines (linesOf (take (4 * count) numbers))) (edgeLines agent margin horizon vertices offset (headsFrom kinds counts n i)))
+    × (edgeLines agent margin horizon vertices 0 (headsFrom kinds counts n 0)
+    ≡ joined (lines (linesOf (take (4 * count) numbers))) (edgeLines agent margin horizon vertices offset
+    (headsFrom kinds counts n i)))
     × (length walls ≡ 192)
-    × (edgeOrigins agent margin horizon vertices 0 0 (headsFrom kinds counts n 0) ≡ wallsIn count walls ++ edgeOrigins agent margin horizon vertices i offset (headsFrom kinds counts n i))
+    × (edgeOrigins agent margin horizon vertices 0 0 (headsFrom kinds counts n 0)
+    ≡ wallsIn count walls ++ edgeOrigins agent margin horizon vertices i offset (headsFrom kinds counts n i))
 
 abbrev μ-loop : tie.MeasureT-loop
 μ-loop agent n vertices margin horizon numbers₀ walls₀ kinds counts count₀ offset₀ i₀ numbers walls count offset i = n - i
 
 loop-holds : tie.Need-loop-holds Inv-loop μ-loop
 unfolding linesOf
-loop-holds c = (omega arith, omega arith, omega arith, omega arith, c .before .before .before .pre .1, c .before .before .before .pre .2, sym (joined-none _), c .before .before .before .pre .3, refl)
+loop-holds c = (
+  omega arith,
+  omega arith,
+  omega arith,
+  omega arith,
+  c .before .before .before .pre .1,
+  c .before .before .before .pre .2,
+  sym (joined-none _),
+  c .before .before .before .pre .3,
+  refl,
+)
 
 mul-add-obstacle : tie.Need-mul-add-obstacle Inv-loop μ-loop
 mul-add-obstacle c = omega arith
@@ -61,7 +74,8 @@ part-add-obstacle-end : tie.Need-part-add-obstacle-end Inv-loop μ-loop
 part-add-obstacle-end c =
     let a = c .before .before .before .before .before .before .before .args in
     let l = c .before .before .before .loop in
-    let own = own-fine (a .t2) (a .t3) (a .n) (l .i) (omega arith) (omega arith) (l .offset) (now (a .vertices)) (omega arith) (l .inv .5) in
+    let own = own-fine (a .t2) (a .t3) (a .n) (l .i) (omega arith) (omega arith) (l .offset) (now (a .vertices))
+    (omega arith) (l .inv .5) in
     rw (c .before .wide .ensures .0)
     (own-there (a .t2) (a .t3) (a .n) (l .i) (omega arith) (omega arith) (l .offset) (now (a .vertices)) (l .inv .3) (own .0))
 
@@ -71,9 +85,11 @@ add-obstacle-requires c κs =
     let a = start .args in
     let l = c .before .before .before .before .before .before .loop in
     let wide = c .before .before .before .before .wide .ensures .0 in
-    let own = own-fine (a .t2) (a .t3) (a .n) (l .i) (omega arith) (omega arith) (l .offset) (now (a .vertices)) (omega arith) (l .inv .5) in
+    let own = own-fine (a .t2) (a .t3) (a .n) (l .i) (omega arith) (omega arith) (l .offset) (now (a .vertices))
+    (omega arith) (l .inv .5) in
     let room = own-room (a .t2) (a .t3) (a .n) (l .i) (omega arith) (omega arith) (l .offset) (now (a .vertices)) (own .0) in
-    let there = own-there (a .t2) (a .t3) (a .n) (l .i) (omega arith) (omega arith) (l .offset) (now (a .vertices)) (l .inv .3) (own .0) in
+    let there = own-there (a .t2) (a .t3) (a .n) (l .i) (omega arith) (omega arith) (l .offset) (now (a .vertices))
+    (l .inv .3) (own .0) in
     let h = headOf (getD (a .t2) (l .i) 0) (getD (a .t3) (l .i) 0) in
     let many = part-many (a .agent) (a .margin) (a .horizon) (now (a .vertices)) (l .offset) h there in
     (l .inv .4, l .inv .7, rw (wide, many) (omega (arith, room .1)), omega (arith, start .pre .0))
@@ -96,7 +112,8 @@ returns c =
       call .add-obstacle .ensures .0,
       rw (c .enum-told .given .1) (omega arith),
       rw (c .enum-told .given .1)
-          (sym (l .inv .6 ∙ edges-on (a .agent) (a .margin) (a .horizon) (now (a .vertices)) (a .t2) (a .t3) (a .n) kinds counts (l .i)
+          (sym (l .inv .6 ∙ edges-on (a .agent) (a .margin) (a .horizon) (now (a .vertices)) (a .t2) (a .t3)
+          (a .n) kinds counts (l .i)
           (l .offset) (lines (linesOf (take (4 * l .count) (l .numbers)))) _ (omega arith) step)),
       rw (c .enum-told .given .1) none-told,
       call .add-obstacle .ensures .1,
@@ -129,11 +146,13 @@ loop-again c =
       call .add-obstacle .ensures .0,
       rw wide (own .1),
       rw wide
-          (l .inv .6 ∙ edges-on (a .agent) (a .margin) (a .horizon) (now (a .vertices)) (a .t2) (a .t3) (a .n) kinds counts (l .i) (l .offset)
+          (l .inv .6 ∙ edges-on (a .agent) (a .margin) (a .horizon) (now (a .vertices)) (a .t2) (a .t3)
+          (a .n) kinds counts (l .i) (l .offset)
           (lines (linesOf (take (4 * l .count) (l .numbers)))) _ (omega arith) step),
       call .add-obstacle .ensures .1,
       rw wide
-          (l .inv .8 ∙ origins-on (a .agent) (a .margin) (a .horizon) (now (a .vertices)) (a .t2) (a .t3) (a .n) kinds counts (l .i)
+          (l .inv .8 ∙ origins-on (a .agent) (a .margin) (a .horizon) (now (a .vertices)) (a .t2) (a .t3)
+          (a .n) kinds counts (l .i)
           (l .offset) (wallsIn (l .count) (l .walls)) _ (omega arith) noted),
     )
 
@@ -146,14 +165,19 @@ returns-2 c =
     let l = c .before .loop in (
       l .inv .4,
       omega arith,
-      sym (l .inv .6 ∙ edges-done (a .agent) (a .margin) (a .horizon) (now (a .vertices)) (a .t2) (a .t3) (a .n) (omega arith) (omega arith) (l .i) (l .offset) (linesOf (take (4 * l .count) (l .numbers))) (omega arith)),
-      counted (sym (l .inv .8 ∙ origins-done (a .agent) (a .margin) (a .horizon) (now (a .vertices)) (a .t2) (a .t3) (a .n) (omega arith) (omega arith) (l .i) (l .offset) (wallsIn (l .count) (l .walls)) (omega arith))),
+      sym (l .inv .6 ∙ edges-done (a .agent) (a .margin) (a .horizon) (now (a .vertices)) (a .t2) (a .t3) (a .n)
+          (omega arith) (omega arith) (l .i) (l .offset) (linesOf (take (4 * l .count) (l .numbers))) (omega arith)),
+      counted (sym (l .inv .8 ∙ origins-done (a .agent) (a .margin) (a .horizon) (now (a .vertices)) (a .t2) (a .t3)
+          (a .n) (omega arith) (omega arith) (l .i) (l .offset) (wallsIn (l .count) (l .walls)) (omega arith))),
       l .inv .7,
     )
 
 pub edge-lines-spec : {M : Type 1} → statement M
 edge-lines-spec =
-    tie.close (tie.spec Inv-loop μ-loop loop-holds (λ c. search needs) (λ c. search needs) (λ c κs. search needs) mul-add-obstacle add-add-obstacle
-    mul-add-obstacle-2 mul-add-obstacle-3 sub-add-obstacle part-add-obstacle-start part-add-obstacle-end add-obstacle-requires (λ c. search needs)
-    (λ c. search needs) (λ c. search needs) (λ c. search needs) returns (λ c. search needs) (λ c. search needs) (λ c. search needs) loop-again
+    tie.close (tie.spec Inv-loop μ-loop loop-holds (λ c. search needs) (λ c. search needs)
+    (λ c κs. search needs) mul-add-obstacle add-add-obstacle
+    mul-add-obstacle-2 mul-add-obstacle-3 sub-add-obstacle part-add-obstacle-start part-add-obstacle-end
+    add-obstacle-requires (λ c. search needs)
+    (λ c. search needs) (λ c. search needs) (λ c. search needs) returns (λ c. search needs) (λ c. search needs)
+    (λ c. search needs) loop-again
     (λ c. search needs) same-length-4 returns-2)

@@ -22,26 +22,52 @@ returns-2 c = simp (lt-leb _ _ (c .if1 .taken), c .before .enum-told .given .1, 
 
 returns-3 : tie.Need-returns-3
 unfolding sceneFault
-returns-3 c = simp (c .enum-told4 .given .1, ← c .before .before .judge-obstacles .ensures, le-leb _ _ (c .before .before .before .before .before .before .before .if1 .left), c .before .before .before .before .before .before .before .before .enum-told .given .1, ← c .before .before .before .before .before .before .before .before .before .before .judge-cart .ensures)
+returns-3 c = simp (
+  c .enum-told4 .given .1,
+  ← c .before .before .judge-obstacles .ensures,
+  le-leb _ _ (c .before .before .before .before .before .before .before .if1 .left),
+  c .before .before .before .before .before .before .before .before .enum-told .given .1,
+  ← c .before .before .before .before .before .before .before .before .before .before .judge-cart .ensures,
+)
 
 returns-4 : tie.Need-returns-4
 unfolding sceneFault
-returns-4 c = simp (lt-leb _ _ (c .if2 .taken), c .before .enum-told3 .given .1, ← c .before .before .before .judge-obstacles .ensures, le-leb _ _ (c .before .before .before .before .before .before .before .before .if1 .left), c .before .before .before .before .before .before .before .before .before .enum-told .given .1, ← c .before .before .before .before .before .before .before .before .before .before .before .judge-cart .ensures)
+returns-4 c = simp (
+  lt-leb _ _ (c .if2 .taken),
+  c .before .enum-told3 .given .1,
+  ← c .before .before .before .judge-obstacles .ensures,
+  le-leb _ _ (c .before .before .before .before .before .before .before .before .if1 .left),
+  c .before .before .before .before .before .before .before .before .before .enum-told .given .1,
+  ← c .before .before .before .before .before .before .before .before .before .before .before .judge-cart .ensures,
+)
 
 part-judge-lines-end : tie.Need-part-judge-lines-end
 part-judge-lines-end c =
-    let size : length (c .before .before .before .before .before .before .before .before .before .before .before .before .before .before .args .scene .lines) ≡ 256 = search needs in
+    let size : length
+    (c .before .before .before .before .before .before .before .before .before .before .before .before .before .before .args .scene .lines) ≡ 256 = search needs in
     omega (arith, c .before .before .if2 .left, size)
 
 returns-5 : tie.Need-returns-5
 unfolding sceneFault
-returns-5 c = simp (le-leb _ _ (c .before .before .before .before .if2 .left), c .before .before .before .before .before .enum-told3 .given .1, ← c .before .before .before .before .before .before .before .judge-obstacles .ensures, le-leb _ _ (c .before .before .before .before .before .before .before .before .before .before .before .before .if1 .left), c .before .before .before .before .before .before .before .before .before .before .before .before .before .enum-told .given .1, ← c .before .before .before .before .before .before .before .before .before .before .before .before .before .before .before .judge-cart .ensures)
-    (let s = c .before .before .before .before .before .before .before .before .before .before .before .before .before .before .before .before .args .scene in
+returns-5 c = simp (
+  le-leb _ _ (c .before .before .before .before .if2 .left),
+  c .before .before .before .before .before .enum-told3 .given .1,
+  ← c .before .before .before .before .before .before .before .judge-obstacles .ensures,
+  le-leb _ _
+      (c .before .before .before .before .before .before .before .before .before .before .before .before .if1 .left),
+  c .before .before .before .before .before .before .before .before .before .before .before .before .before .enum-told .given .1,
+  ← c .before .before .before .before .before .before .before .before .before .before .before .before .before .before .before .judge-cart .ensures,
+)
+    (let s =
+    c .before .before .before .before .before .before .before .before .before .before .before .before .before .before .before .before .args .scene in
     let e : 4 * s .neighbours - 0 ≡ 4 * s .neighbours = omega arith in
-    c .judge-lines .ensures ∙ ap (λ (k : ℕ). linesFault (linesOf (take k (s .lines)))) e ∙ ap linesFault (lines-take (s .lines) (s .neighbours)))
+    c .judge-lines .ensures ∙ ap (λ (k : ℕ). linesFault (linesOf (take k (s .lines)))) e
+    ∙ ap linesFault (lines-take (s .lines) (s .neighbours)))
 
 pub judge-scene-spec : {M : Type 1} → statement M
 judge-scene-spec =
-    tie.close (tie.spec (λ c κs. search needs) (λ c. search needs) (λ c. search needs) returns returns-2 (λ c. search needs) (λ c κs. search needs)
-    (λ c. search needs) (λ c. search needs) returns-3 returns-4 (λ c. search needs) (λ c. search needs) (λ c. search needs) part-judge-lines-end
+    tie.close (tie.spec (λ c κs. search needs) (λ c. search needs) (λ c. search needs) returns returns-2
+    (λ c. search needs) (λ c κs. search needs)
+    (λ c. search needs) (λ c. search needs) returns-3 returns-4 (λ c. search needs) (λ c. search needs)
+    (λ c. search needs) part-judge-lines-end
     (λ c κs. search needs) returns-5)

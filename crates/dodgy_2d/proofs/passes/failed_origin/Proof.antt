@@ -7,7 +7,8 @@ origin-at-requires : tie.Need-origin-at-requires
 origin-at-requires c κs = c .before .before .before .before .before .before .before .pre
 
 returns : tie.Need-returns
-returns c = simp (c .before .before .failed .given .1, c .before .before .before .before .before .answer .given .1) (c .origin-at .ensures)
+returns c = simp (c .before .before .failed .given .1, c .before .before .before .before .before .answer .given .1)
+    (c .origin-at .ensures)
 
 returns-2 : tie.Need-returns-2
 returns-2 c = simp (c .enum-told .given .1, c .before .before .before .answer .given .1)
@@ -17,4 +18,5 @@ returns-3 c = simp (c .enum-told2 .given .1)
 
 pub failed-origin-spec : {M : Type 1} → statement M
 failed-origin-spec =
-    tie.close (tie.spec (λ c. search needs) (λ c. search needs) origin-at-requires (λ c. search needs) (λ c. search needs) returns returns-2 returns-3)
+    tie.close (tie.spec (λ c. search needs) (λ c. search needs) origin-at-requires (λ c. search needs)
+    (λ c. search needs) returns returns-2 returns-3)

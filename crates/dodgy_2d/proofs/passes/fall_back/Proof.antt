@@ -8,7 +8,11 @@ use Rattle.dodgy_2d.proofs.passes.fall_back.Statement.{statement}
 use Rattle.dodgy_2d.proofs.passes.fall_back.Tie as tie
 
 add-all : tie.Need-add-all
-add-all c = omega (arith, pass-fits _ atRest (search needs) (rw (c .before .answer2 .given .1) at (c .before .before .before .before .pass .ensures .0)))
+add-all c = omega (
+  arith,
+  pass-fits _ atRest (search needs)
+      (rw (c .before .answer2 .given .1) at (c .before .before .before .before .pass .ensures .0)),
+)
 
 returns : tie.Need-returns
 returns c = (
@@ -17,15 +21,37 @@ returns c = (
 )
 
 returns-2 : tie.Need-returns-2
-returns-2 c = (simp (c .before .phase .given .1, c .before .before .before .before .answer2 .given .1, ← c .before .before .before .before .before .before .before .pass .ensures .0), c .before .before .before .before .before .before .before .pass .ensures .1)
+returns-2 c = (
+  simp (
+    c .before .phase .given .1,
+    c .before .before .before .before .answer2 .given .1,
+    ← c .before .before .before .before .before .before .before .pass .ensures .0,
+  ),
+  c .before .before .before .before .before .before .before .pass .ensures .1,
+)
 
 returns-3 : tie.Need-returns-3
-returns-3 c = (simp (c .before .phase2 .given .1, c .before .before .before .before .answer2 .given .1, ← c .before .before .before .before .before .before .before .pass .ensures .0), c .before .before .before .before .before .before .before .pass .ensures .1)
+returns-3 c = (
+  simp (
+    c .before .phase2 .given .1,
+    c .before .before .before .before .answer2 .given .1,
+    ← c .before .before .before .before .before .before .before .pass .ensures .0,
+  ),
+  c .before .before .before .before .before .before .before .pass .ensures .1,
+)
 
 returns-4 : tie.Need-returns-4
-returns-4 c = (simp (c .before .phase3 .given .1, c .before .before .before .before .answer2 .given .1, ← c .before .before .before .before .before .before .before .pass .ensures .0), c .before .before .before .before .before .before .before .pass .ensures .1)
+returns-4 c = (
+  simp (
+    c .before .phase3 .given .1,
+    c .before .before .before .before .answer2 .given .1,
+    ← c .before .before .before .before .before .before .before .pass .ensures .0,
+  ),
+  c .before .before .before .before .before .before .before .pass .ensures .1,
+)
 
 pub fall-back-spec : {M : Type 1} → statement M
 fall-back-spec =
-    tie.close (tie.spec (λ c κs. search needs) (λ c. search needs) (λ c. search needs) add-all (λ c. search needs) (λ c. search needs)
+    tie.close (tie.spec (λ c κs. search needs) (λ c. search needs) (λ c. search needs) add-all (λ c. search needs)
+    (λ c. search needs)
     (λ c. search needs) returns returns-2 returns-3 returns-4)

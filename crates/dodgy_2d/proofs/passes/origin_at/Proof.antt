@@ -22,12 +22,14 @@ cast-place c = omega (arith, c .if2 .taken, c .before .before .pre .1)
 returns-2 : tie.Need-returns-2
 returns-2 c =
     let a = c .before .before .args in
-    sym (neighbour-of (now (a .walls)) (a .rigid) (a .neighbours) (c .before .before .pre .0) (a .index) (a .index - a .rigid) (omega (arith, c .before .if1 .left)) (c .if2 .taken))
+    sym (neighbour-of (now (a .walls)) (a .rigid) (a .neighbours) (c .before .before .pre .0) (a .index)
+    (a .index - a .rigid) (omega (arith, c .before .if1 .left)) (c .if2 .taken))
 
 returns-3 : tie.Need-returns-3
 returns-3 c =
     let a = c .before .before .args in
-    sym (none-of (now (a .walls)) (a .rigid) (a .neighbours) (c .before .before .pre .0) (a .index) (omega (arith, c .if2 .left, c .before .if1 .left)))
+    sym (none-of (now (a .walls)) (a .rigid) (a .neighbours) (c .before .before .pre .0) (a .index)
+    (omega (arith, c .if2 .left, c .before .if1 .left)))
 
 pub origin-at-spec : {M : Type 1} → statement M
 origin-at-spec =
