@@ -1,4 +1,5 @@
 -- The laws of `index_building`.
+pub mod Agreement
 pub mod LengthLaws
 pub mod EntryLaws
 pub mod PutLaws
