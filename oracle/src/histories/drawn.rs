@@ -1,5 +1,5 @@
-//! Drawn histories: batches of any of the lists' lines, with origins and without, some of them taken back whole at once, questions
-//! about them, withdrawals anywhere, changes by indices and by origin, and calls that are refused.
+//! Drawn histories: batches of any of the lists' lines, with origins and without, some of them taken back whole at
+//! once, questions about them, withdrawals anywhere, changes by indices and by origin, and calls that are refused.
 
 use dodgy_plain::debug::Line;
 

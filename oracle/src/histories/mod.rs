@@ -34,7 +34,8 @@ struct Told {
     judged: u32,
     /// The first line that is not strictly met, by the index that it gets, where a question names one.
     named: Option<usize>,
-    /// Of the last withdrawal of a batch that is taken back whole: whether the session before the batch was solving and strictly met it.
+    /// Of the last withdrawal of a batch that is taken back whole: whether the session before the batch was solving and
+    /// strictly met it.
     back: Option<bool>,
     before: Standing,
     after: Standing,

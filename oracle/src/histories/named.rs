@@ -1,5 +1,5 @@
-//! Histories that are made by hand: bench cases with a line taken back, a gate that opens and closes, sessions that are emptied and fed
-//! again, full ones, and every index of the lists that the session's cuts have too.
+//! Histories that are made by hand: bench cases with a line taken back, a gate that opens and closes, sessions that are
+//! emptied and fed again, full ones, and every index of the lists that the session's cuts have too.
 
 use glam::Vec2;
 
@@ -9,10 +9,6 @@ use super::History;
 use crate::cut_vectors;
 use crate::list_vectors::call::Call as List;
 use crate::list_vectors::judge::MOST_LINES;
-
-/// A list that takes more probes than these is long in the solving: of its indices one in so many is tried, the first and the last among them.
-const MOST_PROBES: u32 = 65_536;
-const STEP: usize = 5;
 
 const A: [f32; 4] = [0.0, 1.0, 1.0, 0.0];
 const B: [f32; 4] = [0.0, -1.0, -1.0, 0.0];
@@ -74,8 +70,9 @@ fn tried(rigid: u32, lines: &[[f32; 4]]) -> Result<History, String> {
     Ok(history)
 }
 
-/// A floor where a gate's line comes and goes in bursts: added, removed, added, twice in one burst, refused between; the line of a wall and
-/// that of a cart stand beside it. After each call the session must be as if the gate had only ever been as it is now.
+/// A floor where a gate's line comes and goes in bursts: added, removed, added, twice in one burst, refused between;
+/// the line of a wall and that of a cart stand beside it. After each call the session must be as if the gate had only
+/// ever been as it is now.
 fn gate(rigid: u32) -> Result<History, String> {
     let (wall, cart) = ([0.0, -1.5, 1.0, 0.0], [1.25, 0.0, 0.0, 1.0]);
     let (closed, half) = ([0.0, 0.5, -1.0, 0.0], [0.0, 1.0, -1.0, 0.0]);
@@ -123,8 +120,8 @@ fn full() -> Result<History, String> {
     Ok(history)
 }
 
-/// The gate of above in one call each: a burst of changes of which some are refused, by indices and by the gate's wall. After each the session
-/// must be the fresh one over what stands; a refused one leaves it as it was.
+/// The gate of above in one call each: a burst of changes of which some are refused, by indices and by the gate's wall.
+/// After each the session must be the fresh one over what stands; a refused one leaves it as it was.
 fn changed_gate(rigid: u32) -> Result<History, String> {
     let (wall, cart) = ([0.0, -1.5, 1.0, 0.0], [1.25, 0.0, 0.0, 1.0]);
     let (closed, half) = ([0.0, 0.5, -1.0, 0.0], [0.0, 1.0, -1.0, 0.0]);
@@ -166,7 +163,8 @@ fn changed_full() -> Result<History, String> {
     Ok(history)
 }
 
-/// Lines at a determinant of 0 with the point (0, 1), one f32 to either side of it, and a NaN's: asked about, fed, and asked again.
+/// Lines at a determinant of 0 with the point (0, 1), one f32 to either side of it, and a NaN's: asked about, fed, and
+/// asked again.
 fn beside_zero() -> Result<History, String> {
     let line = |y: f32| [0.0, y, 1.0, 0.0];
     let (below, above) = (1.0_f32.next_down(), 1.0_f32.next_up());
@@ -233,16 +231,13 @@ fn full_of_met() -> Result<History, String> {
     Ok(history)
 }
 
-/// A list of the cuts, fed at once: each of its lines is taken back, of one that is long in the solving some, and the index behind them is refused.
+/// A list of the cuts, fed at once: each of its lines is taken back, and the index behind them is refused.
 fn every_index(list: &List) -> Result<History, String> {
     let mut history = History::start(standing_of(list))?;
     history.call(Call::Batch(list.numbers.clone(), None))?;
-    let probes = history.told.last().map_or(0, |told| told.solved.counts.probes);
-    let step = if probes > MOST_PROBES { STEP } else { 1 };
-    for index in (0..list.line_count()).step_by(step) {
+    for index in 0..=list.line_count() {
         history.call(Call::Tried(index))?;
     }
-    history.call(Call::Tried(list.line_count()))?;
     Ok(history)
 }
 

@@ -98,7 +98,8 @@ impl Standing {
         (0..self.lines.len()).filter(has).collect()
     }
 
-    /// Indices of what stands: 15 at the first that is not above the one before or not below the count. The rigid count is one less for each that is below it.
+    /// Indices of what stands: 15 at the first that is not above the one before or not below the count. The rigid count
+    /// is one less for each that is below it.
     fn change(&mut self, indices: &[usize], numbers: &[f32], origins: &[u32]) -> u32 {
         let mut low = 0;
         for index in indices {
@@ -124,7 +125,8 @@ impl Standing {
         told
     }
 
-    /// "the rigid count is one less if the index was below it. .. Later lines move down one"; "15 if the index is not below the line count"
+    /// "the rigid count is one less if the index was below it. .. Later lines move down one"; "15 if the index is not
+    /// below the line count"
     fn withdraw(&mut self, index: usize) -> u32 {
         if index >= self.lines.len() {
             return 15;
