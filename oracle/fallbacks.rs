@@ -1,8 +1,7 @@
-//! Runs `./fallbacks` on files, and holds its lines, its exit status and the files that it leaves to the index written from
-//! document 02 alone (oracle/indexes.rs) and to the library's functions, which `fallback_cases` runs on the same logs. Then it stops
-//! a build and an append before each of their calls that are named in `CALLS`, and lets each read, write, open, sync and rename fail
-//! in turn, by strace where that is at hand and the processor is x86-64.
-//! Standard library only.
+//! Runs `./fallbacks` on files, and holds its lines, its exit status and the files that it leaves to the index written
+//! from document 02 alone (oracle/indexes.rs) and to the library's functions, which `fallback_cases` runs on the same
+//! logs. Then it stops a build and an append before each of their calls that are named in `CALLS`, and lets each read,
+//! write, open, sync and rename fail in turn, by strace where that is at hand. Standard library only.
 //! usage: fallbacks ROOT ROOM
 
 #[path = "indexes.rs"]
@@ -248,22 +247,41 @@ fn library(root: &Path, script: &Script) {
     assert!(output.stdout == script.output, "the library answers otherwise");
 }
 
-/// The program under strace, by which its calls are counted, or something is done at one of them.
+/// The program under strace, by which its calls are counted, or something is done at one of them. Elsewhere than on
+/// x86-64 the kit's emulator runs it (tools/build notes how), and makes its calls: then those that the emulator makes
+/// to begin with count too.
 fn traced(room: &Room, words: &[&str], what: &str, to: &Path) -> Output {
+    let emulator = fs::read_to_string(room.root.join("target/run/emulator")).unwrap_or_default();
     Command::new("strace")
         .args(["-qq", "-o", &text(to), "-e", what])
+        .args(emulator.split_whitespace())
         .arg(room.root.join("target/bin/fallbacks"))
         .args(words)
         .output()
         .expect("strace starts")
 }
 
-/// How often it makes such a call.
-fn calls(room: &Room, words: &[&str], call: &str) -> usize {
+/// The names by which a processor's kernel may know such a call, as strace takes them.
+fn names(call: &str) -> String {
+    match call {
+        "rename" => "?rename,?renameat,?renameat2".to_string(),
+        "unlink" => "?unlink,?unlinkat".to_string(),
+        other => other.to_string(),
+    }
+}
+
+/// How often such a call is made before the program first names one of its files, by the loader and the emulator, and how
+/// often in all.
+fn calls(room: &Room, words: &[&str], call: &str) -> (usize, usize) {
     let trace = room.record.with_extension("trace");
-    let output = traced(room, words, &format!("trace={call}"), &trace);
+    let all: Vec<String> = CALLS.iter().map(|call| names(call)).collect();
+    let output = traced(room, words, &format!("trace={}", all.join(",")), &trace);
     assert!(output.stdout.starts_with(b"index of"), "{words:?}: not done under strace");
-    fs::read_to_string(trace).expect("a trace").lines().filter(|line| line.starts_with(call)).count()
+    let trace = fs::read_to_string(trace).expect("a trace");
+    let folder = text(room.log.parent().expect("a folder"));
+    let count = |line: &&str| line.starts_with(call);
+    let before = trace.lines().take_while(|line| !line.contains(&folder)).filter(count).count();
+    (before, trace.lines().filter(count).count())
 }
 
 const CALLS: [&str; 9] = ["openat", "read", "lseek", "write", "fsync", "rename", "unlink", "ftruncate", "exit_group"];
@@ -281,9 +299,9 @@ fn killed(room: &mut Room, draw: &mut Draw) -> usize {
         let appends = words[0] == "append";
         for call in CALLS {
             room.hold(if appends { &old } else { &new }, &before);
-            for n in 1..=calls(room, words, call) {
+            for n in 1..=calls(room, words, call).1 {
                 room.hold(if appends { &old } else { &new }, &before);
-                let output = traced(room, words, &format!("inject={call}:signal=KILL:when={n}"), Path::new("/dev/null"));
+                let output = traced(room, words, &format!("inject={}:signal=KILL:when={n}", names(call)), Path::new("/dev/null"));
                 assert!(!output.status.success(), "{words:?}, {call} {n}: not killed");
                 kills += 1;
                 let (now, held) = room.files();
@@ -303,8 +321,8 @@ fn killed(room: &mut Room, draw: &mut Draw) -> usize {
     kills
 }
 
-/// A build and an append of which one call fails: both files are the old ones, or, where only the telling failed, the new ones; and
-/// no new file is left.
+/// A build and an append of which one call fails: both files are the old ones, or, where only the telling failed, the
+/// new ones; and no new file is left.
 fn failed(room: &mut Room, draw: &mut Draw) -> usize {
     let mut failures = 0;
     let all = records(128, draw);
@@ -316,13 +334,13 @@ fn failed(room: &mut Room, draw: &mut Draw) -> usize {
         let first = if words[0] == "append" { &old } else { &new };
         for (call, error) in [("write", "ENOSPC"), ("fsync", "EIO"), ("rename", "EACCES"), ("read", "EIO"), ("openat", "EACCES")] {
             room.hold(first, &before);
-            for n in 1..=calls(room, words, call) {
+            let (loading, all) = calls(room, words, call);
+            for n in loading + 1..=all {
                 room.hold(first, &before);
-                let output = traced(room, words, &format!("inject={call}:error={error}:when={n}"), Path::new("/dev/null"));
+                let output = traced(room, words, &format!("inject={}:error={error}:when={n}", names(call)), Path::new("/dev/null"));
                 failures += 1;
                 let (files, done) = (room.files(), (new.clone(), after.clone()));
                 assert!(files == done || files == (first.clone(), before.clone()), "{words:?}, {call} {n} fails: the files are neither");
-                // The loader goes on without some of its files.
                 assert!(files == done || !output.stderr.is_empty(), "{words:?}, {call} {n} fails: nothing is told");
                 assert!(!room.new_file().exists(), "{words:?}, {call} {n} fails: a new file is left");
             }
@@ -346,11 +364,6 @@ fn main() {
     library(&room.root, &script);
     refused(&mut room, &mut draw);
     println!("./fallbacks: {} runs, lines, status and files as 02's words and the library give them", room.runs);
-    // Elsewhere an emulator runs the program, and its calls are not the program's.
-    if !cfg!(target_arch = "x86_64") {
-        println!("./fallbacks: runs that are killed, or of which a call fails, left out: the processor is not x86-64");
-        return;
-    }
     if Command::new("strace").arg("-V").output().is_err() {
         println!("./fallbacks: runs that are killed, or of which a call fails, left out: no strace");
         return;
