@@ -52,10 +52,11 @@ returns-2 c =
     let a = s .args in
     let few = rw (d .brought .given .1) at (r .read .ensures) in
     let n = c .before .before .before .before in (
-      answers-follow (a .before) (now (a .input)) (now (a .ours)) (now (a .theirs)) (r .read .last .0) _ (s .pre) few _
-          _ _ (n .compare-next .ensures),
-      answers-ready (a .before) (now (a .input)) (now (a .ours)) (now (a .theirs)) (r .read .last .0) _ (s .pre) few _ _
-          _ (n .compare-next .ensures) (r .read .kept .0) (n .compare-next .kept .0) (n .compare-next .kept .1 .0),
+      answers-follow (a .before) (now (a .input)) (now (a .ours)) (now (a .theirs)) (r .read .last .0) _ (s .pre) few
+          _ _ _ (n .compare-next .ensures),
+      answers-ready (a .before) (now (a .input)) (now (a .ours)) (now (a .theirs))
+          (r .read .last .0) _ (s .pre) few _ _ _ (n .compare-next .ensures) (r .read .kept .0)
+          (n .compare-next .kept .0) (n .compare-next .kept .1 .0),
     )
 
 pub answers-turn-spec : {M : Type 1} → statement M

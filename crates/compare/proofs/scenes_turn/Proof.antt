@@ -71,9 +71,10 @@ returns-2 c =
     let n = c .before .before .before .before in (
       scenes-follow (a .before) (now (a .input)) (now (a .ours)) (now (a .theirs)) (r .read .last .0) _ (s .pre .0)
           (s .pre .1) (r .read .kept .0) few _ _ _ (d .turn .ensures) _ _ _ (n .compare-next .ensures),
-      scenes-ready (a .before) (now (a .input)) (now (a .ours)) (now (a .theirs)) (r .read .last .0) _ (s .pre .0)
-          (s .pre .1) (r .read .kept .0) few _ _ _ (d .turn .ensures) (d .turn .kept .1 .0) _ _ _
-          (n .compare-next .ensures) (d .turn .kept .0) (n .compare-next .kept .0) (n .compare-next .kept .1 .0),
+      scenes-ready
+          (a .before) (now (a .input)) (now (a .ours)) (now (a .theirs)) (r .read .last .0) _ (s .pre .0) (s .pre .1)
+          (r .read .kept .0) few _ _ _ (d .turn .ensures) (d .turn .kept .1 .0) _ _ _ (n .compare-next .ensures)
+          (d .turn .kept .0) (n .compare-next .kept .0) (n .compare-next .kept .1 .0),
     )
 
 pub scenes-turn-spec : {M : Type 1} → statement M

@@ -21,46 +21,64 @@ loop-holds c = let a = c .before .before .args in from-start (now (a .ours)) (no
 
 loop-less : tie.Need-loop-less Inv-loop μ-loop
 loop-less c =
-    let l = c .before .before .before .before .before .loop in
-    let a = c .before .before .before .before .before .before .before .before .args in
-    let read = rw (c .before .before .turn .given .1) at (c .before .before .before .before .part-turn .ensures) in
+    let at-part-turn = c .before .before .before .before in
+    let at-turn = at-part-turn .before in
+    let start = at-turn .before .before .before in
+    let l = at-turn .loop in
+    let a = start .args in
+    let read = rw (c .before .before .turn .given .1) at (at-part-turn .part-turn .ensures) in
     let far = part-reach (now (a .ours)) (now (a .theirs)) (l .at) (l .by) (l .next) read in
     omega (arith, far .0, far .1)
 
 loop-again : tie.Need-loop-again Inv-loop μ-loop
 loop-again c =
-    let l = c .before .before .before .before .before .loop in
-    let a = c .before .before .before .before .before .before .before .before .args in
-    let read = rw (c .before .before .turn .given .1) at (c .before .before .before .before .part-turn .ensures) in
+    let at-part-turn = c .before .before .before .before in
+    let at-turn = at-part-turn .before in
+    let start = at-turn .before .before .before in
+    let l = at-turn .loop in
+    let a = start .args in
+    let read = rw (c .before .before .turn .given .1) at (at-part-turn .part-turn .ensures) in
     rw (c .next-place .ensures) (l .inv ∙ goes-on (now (a .ours)) (now (a .theirs)) (l .at) (l .by) (l .next) read)
 
 returns : tie.Need-returns Inv-loop μ-loop
 returns c =
-    let l = c .before .before .before .before .loop in
-    let a = c .before .before .before .before .before .before .before .args in
+    let at-part-turn = c .before .before .before in
+    let at-turn = at-part-turn .before in
+    let start = at-turn .before .before .before in
+    let l = at-turn .loop in
+    let a = start .args in
     c .stopped .ensures ∙ sym (l .inv ∙ stops (now (a .ours)) (now (a .theirs)) (l .at) (l .by) (l .next)
-    (c .before .before .before .part-turn .ensures) (ap isOnward (c .before .enum-told .given .1)))
+    (at-part-turn .part-turn .ensures) (ap isOnward (c .before .enum-told .given .1)))
 
 returns-2 : tie.Need-returns-2 Inv-loop μ-loop
 returns-2 c =
-    let l = c .before .before .before .before .loop in
-    let a = c .before .before .before .before .before .before .before .args in
+    let at-part-turn = c .before .before .before in
+    let at-turn = at-part-turn .before in
+    let start = at-turn .before .before .before in
+    let l = at-turn .loop in
+    let a = start .args in
     c .stopped2 .ensures ∙ sym (l .inv ∙ stops (now (a .ours)) (now (a .theirs)) (l .at) (l .by) (l .next)
-    (c .before .before .before .part-turn .ensures) (ap isOnward (c .before .enum-told2 .given .1)))
+    (at-part-turn .part-turn .ensures) (ap isOnward (c .before .enum-told2 .given .1)))
 
 returns-3 : tie.Need-returns-3 Inv-loop μ-loop
 returns-3 c =
-    let l = c .before .before .before .before .loop in
-    let a = c .before .before .before .before .before .before .before .args in
+    let at-part-turn = c .before .before .before in
+    let at-turn = at-part-turn .before in
+    let start = at-turn .before .before .before in
+    let l = at-turn .loop in
+    let a = start .args in
     c .stopped3 .ensures ∙ sym (l .inv ∙ stops (now (a .ours)) (now (a .theirs)) (l .at) (l .by) (l .next)
-    (c .before .before .before .part-turn .ensures) (ap isOnward (c .before .enum-told3 .given .1)))
+    (at-part-turn .part-turn .ensures) (ap isOnward (c .before .enum-told3 .given .1)))
 
 returns-4 : tie.Need-returns-4 Inv-loop μ-loop
 returns-4 c =
-    let l = c .before .before .before .before .loop in
-    let a = c .before .before .before .before .before .before .before .args in
+    let at-part-turn = c .before .before .before in
+    let at-turn = at-part-turn .before in
+    let start = at-turn .before .before .before in
+    let l = at-turn .loop in
+    let a = start .args in
     c .stopped4 .ensures ∙ sym (l .inv ∙ stops (now (a .ours)) (now (a .theirs)) (l .at) (l .by) (l .next)
-    (c .before .before .before .part-turn .ensures) (ap isOnward (c .before .enum-told4 .given .1)))
+    (at-part-turn .part-turn .ensures) (ap isOnward (c .before .enum-told4 .given .1)))
 
 pub advance-spec : {M : Type 1} → statement M
 advance-spec =

@@ -15,10 +15,11 @@ returns c =
 
 returns-2 : tie.Need-returns-2
 returns-2 c =
-    let a = c .before .before .before .before .before .before .before .args in
-    c .told .ensures ∙ ap (toldIn _) (c .before .whole-turn .ensures)
-    ∙ going-told (now (a .ours)) (now (a .theirs)) (a .place) (c .before .before .before .before .advance .ensures)
-    (c .before .before .enum-told .given .1)
+    let at-advance = c .before .before .before .before in
+    let start = at-advance .before .before .before in
+    let a = start .args in
+    c .told .ensures ∙ ap (toldIn _) (c .before .whole-turn .ensures) ∙ going-told (now (a .ours)) (now (a .theirs))
+    (a .place) (at-advance .advance .ensures) (c .before .before .enum-told .given .1)
 
 pub finish-spec : {M : Type 1} → statement M
 finish-spec =

@@ -29,44 +29,44 @@ returns-3 c = simp (
 
 returns-4 : tie.Need-returns-4
 unfolding matchedOutcomes
-returns-4 c = simp (
-  ne-eqb _ _ (c .if4 .taken),
-  not-false (c .before .before .before .before .same-number2 .result)
-      (c .before .before .before .if3 .left),
-  ← c .before .before .before .before .same-number2 .ensures,
-  not-false (c .before .before .before .before .before .before .same-number .result)
-      (c .before .before .before .before .before .if2 .left),
-  ← c .before .before .before .before .before .before .same-number .ensures,
-  eq-eqb _ _ (c .before .before .before .before .before .before .before .if1 .left),
-)
+returns-4 c =
+    let at-same-number = c .before .before .before .before in
+    simp (
+      ne-eqb _ _ (c .if4 .taken),
+      not-false (at-same-number .same-number2 .result) (c .before .before .before .if3 .left),
+      ← at-same-number .same-number2 .ensures,
+      not-false (at-same-number .before .before .same-number .result) (at-same-number .before .if2 .left),
+      ← at-same-number .before .before .same-number .ensures,
+      eq-eqb _ _ (at-same-number .before .before .before .if1 .left),
+    )
 
 returns-5 : tie.Need-returns-5
 unfolding matchedOutcomes
-returns-5 c = simp (
-  ne-eqb _ _ (c .if5 .taken),
-  eq-eqb _ _ (c .before .before .before .if4 .left),
-  not-false (c .before .before .before .before .before .before .before .same-number2 .result)
-      (c .before .before .before .before .before .before .if3 .left),
-  ← c .before .before .before .before .before .before .before .same-number2 .ensures,
-  not-false (c .before .before .before .before .before .before .before .before .before .same-number .result)
-      (c .before .before .before .before .before .before .before .before .if2 .left),
-  ← c .before .before .before .before .before .before .before .before .before .same-number .ensures,
-  eq-eqb _ _ (c .before .before .before .before .before .before .before .before .before .before .if1 .left),
-)
+returns-5 c =
+    let at-if = c .before .before .before .before .before .before in
+    simp (
+      ne-eqb _ _ (c .if5 .taken),
+      eq-eqb _ _ (c .before .before .before .if4 .left),
+      not-false (at-if .before .same-number2 .result) (at-if .if3 .left),
+      ← at-if .before .same-number2 .ensures,
+      not-false (at-if .before .before .before .same-number .result) (at-if .before .before .if2 .left),
+      ← at-if .before .before .before .same-number .ensures,
+      eq-eqb _ _ (at-if .before .before .before .before .if1 .left),
+    )
 
 returns-6 : tie.Need-returns-6
 unfolding matchedOutcomes
-returns-6 c = simp (
-  eq-eqb _ _ (c .if5 .left),
-  eq-eqb _ _ (c .before .before .before .if4 .left),
-  not-false (c .before .before .before .before .before .before .before .same-number2 .result)
-      (c .before .before .before .before .before .before .if3 .left),
-  ← c .before .before .before .before .before .before .before .same-number2 .ensures,
-  not-false (c .before .before .before .before .before .before .before .before .before .same-number .result)
-      (c .before .before .before .before .before .before .before .before .if2 .left),
-  ← c .before .before .before .before .before .before .before .before .before .same-number .ensures,
-  eq-eqb _ _ (c .before .before .before .before .before .before .before .before .before .before .if1 .left),
-)
+returns-6 c =
+    let at-if = c .before .before .before .before .before .before in
+    simp (
+      eq-eqb _ _ (c .if5 .left),
+      eq-eqb _ _ (c .before .before .before .if4 .left),
+      not-false (at-if .before .same-number2 .result) (at-if .if3 .left),
+      ← at-if .before .same-number2 .ensures,
+      not-false (at-if .before .before .before .same-number .result) (at-if .before .before .if2 .left),
+      ← at-if .before .before .before .same-number .ensures,
+      eq-eqb _ _ (at-if .before .before .before .before .if1 .left),
+    )
 
 pub matched-outcomes-spec : {M : Type 1} → statement M
 matched-outcomes-spec =

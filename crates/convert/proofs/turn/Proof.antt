@@ -37,10 +37,11 @@ returns-2 c =
     let s = r .before .before .before .before in
     let a = s .args in
     let few = rw (b .brought .given .1) at (r .read .ensures) in (
-      brought-some (follows (a .to) (now (a .input)) (now (a .output)) _ _ (r .read .last .0) (a .before) _ _ (s .pre)
-          (d .turn .ensures) (r .read .kept .0) few),
-      stays-ready (a .to) (now (a .input)) (now (a .output)) _ _ (r .read .last .0) (a .before) _ _ (s .pre)
-          (d .turn .ensures) (omega (arith, d .turn .kept .0)) (omega (arith, d .turn .kept .1)),
+      brought-some (follows (a .to) (now (a .input)) (now (a .output)) _ _ (r .read .last .0) (a .before) _ _
+          (s .pre) (d .turn .ensures) (r .read .kept .0) few),
+      stays-ready (a .to) (now (a .input)) (now (a .output)) _
+          _ (r .read .last .0) (a .before) _ _ (s .pre) (d .turn .ensures) (omega (arith, d .turn .kept .0))
+          (omega (arith, d .turn .kept .1)),
     )
 
 returns-3 : tie.Need-returns-3
@@ -51,10 +52,11 @@ returns-3 c =
     let s = r .before .before .before .before in
     let a = s .args in
     let few = rw (b .brought .given .1) at (r .read .ensures) in (
-      brought-some (follows (a .to) (now (a .input)) (now (a .output)) _ _ (r .read .last .0) (a .before) _ _ (s .pre)
-          (d .turn .ensures) (r .read .kept .0) few),
-      stays-ready (a .to) (now (a .input)) (now (a .output)) _ _ (r .read .last .0) (a .before) _ _ (s .pre)
-          (d .turn .ensures) (omega (arith, d .turn .kept .0)) (omega (arith, d .turn .kept .1)),
+      brought-some (follows (a .to) (now (a .input)) (now (a .output)) _ _ (r .read .last .0) (a .before) _ _
+          (s .pre) (d .turn .ensures) (r .read .kept .0) few),
+      stays-ready (a .to) (now (a .input)) (now (a .output)) _
+          _ (r .read .last .0) (a .before) _ _ (s .pre) (d .turn .ensures) (omega (arith, d .turn .kept .0))
+          (omega (arith, d .turn .kept .1)),
     )
 
 pub turn-spec : {M : Type 1} → statement M

@@ -30,22 +30,25 @@ part-write-all-start : tie.Need-part-write-all-start
 part-write-all-start c = search needs
 
 part-write-all-end : tie.Need-part-write-all-end
-part-write-all-end c = omega (
-  arith,
-  c .before .before .before .put-word2 .kept .0,
-  simp length-set at (c .before .before .before .before .before .before .before .put-word .kept .0),
-  c .before .before .before .before .before .before .before .before .before .if1 .left,
-)
+part-write-all-end c =
+    let at-put-word = c .before .before .before in
+    let at-put-word-2 = at-put-word .before .before .before .before in
+    let at-if = at-put-word-2 .before .before in
+    omega (
+      arith,
+      at-put-word .put-word2 .kept .0,
+      simp length-set at (at-put-word-2 .put-word .kept .0),
+      at-if .if1 .left,
+    )
 
 write-all-requires : tie.Need-write-all-requires
 write-all-requires c κs = search needs
 
 same-length : tie.Need-same-length
-same-length c = omega (
-  arith,
-  c .before .before .before .before .before .put-word2 .kept .0,
-  simp length-set at (c .before .before .before .before .before .before .before .before .before .put-word .kept .0),
-)
+same-length c =
+    let at-put-word = c .before .before .before .before .before in
+    let at-put-word-2 = at-put-word .before .before .before .before in
+    omega (arith, at-put-word .put-word2 .kept .0, simp length-set at (at-put-word-2 .put-word .kept .0))
 
 returns-2 : tie.Need-returns-2
 returns-2 c = search needs

@@ -17,8 +17,9 @@ returns c =
     let a = s .args in (
       follows (now (a .input)) (now (a .output)) _ _ (r .read .last .0) (a .before) _ (r .read .result) (s .pre)
           (d .turn .ensures) (r .read .kept .0) (r .read .ensures),
-      stays-ready (now (a .input)) (now (a .output)) _ _ (r .read .last .0) (a .before) _ (r .read .result) (s .pre)
-          (d .turn .ensures) (omega (arith, d .turn .kept .0)) (omega (arith, d .turn .kept .1)),
+      stays-ready (now (a .input)) (now (a .output)) _ _
+          (r .read .last .0) (a .before) _ (r .read .result) (s .pre) (d .turn .ensures)
+          (omega (arith, d .turn .kept .0)) (omega (arith, d .turn .kept .1)),
     )
 
 returns-2 : tie.Need-returns-2
@@ -27,11 +28,12 @@ returns-2 c =
     let r = d .before .before .before .before .before in
     let s = r .before .before .before .before in
     let a = s .args in (
-      follows-closed (now (a .input)) (now (a .output)) _ _ (r .read .last .0) (a .before) _ (r .read .result) (s .pre)
-          (follows (now (a .input)) (now (a .output)) _ _ (r .read .last .0) (a .before) _ (r .read .result) (s .pre)
-          (d .turn .ensures) (r .read .kept .0) (r .read .ensures)),
-      stays-ready (now (a .input)) (now (a .output)) _ _ (r .read .last .0) (a .before) _ (r .read .result) (s .pre)
-          (d .turn .ensures) (omega (arith, d .turn .kept .0)) (omega (arith, d .turn .kept .1)),
+      follows-closed (now (a .input)) (now (a .output)) _ _ (r .read .last .0) (a .before) _ (r .read .result)
+          (s .pre) (follows (now (a .input)) (now (a .output)) _ _ (r .read .last .0) (a .before) _ (r .read .result)
+          (s .pre) (d .turn .ensures) (r .read .kept .0) (r .read .ensures)),
+      stays-ready (now (a .input))
+          (now (a .output)) _ _ (r .read .last .0) (a .before) _ (r .read .result) (s .pre) (d .turn .ensures)
+          (omega (arith, d .turn .kept .0)) (omega (arith, d .turn .kept .1)),
     )
 
 pub turn-spec : {M : Type 1} → statement M

@@ -23,8 +23,10 @@ loop-holds c = (omega arith, search needs, refl)
 
 loop-again : tie.Need-loop-again Inv-loop μ-loop
 loop-again c =
-    let l = c .before .before .before .before .before .before .loop in
-    let a = c .before .before .before .before .before .before .before .before .args in
+    let at-turn = c .before .before .before .before .before .before in
+    let start = at-turn .before .before in
+    let l = at-turn .loop in
+    let a = start .args in
     let long = lines-long (l .numbers) in
     let size : length (a .t1) ≡ 256 = search needs in (
       omega arith,

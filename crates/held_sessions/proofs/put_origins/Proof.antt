@@ -23,14 +23,16 @@ loop-holds c = (omega arith, search needs, refl)
 
 loop-again : tie.Need-loop-again Inv-loop μ-loop
 loop-again c =
-    let l = c .before .before .before .before .before .before .loop in
-    let a = c .before .before .before .before .before .before .before .before .args in
+    let at-turn = c .before .before .before .before .before .before in
+    let start = at-turn .before .before in
+    let l = at-turn .loop in
+    let a = start .args in
     let long = origins-long (l .numbers) in
     let size : length (a .t1) ≡ 256 = search needs in (
       omega arith,
       c .before .before .put-origin .kept .0 ∙ l .inv .1,
-      rw (c .before .before .put-origin .ensures) (filled-next (originsOf (l .numbers)) (a .t1) (l .n) unknown
-          (omega arith) (omega arith) (l .inv .2) refl),
+      rw (c .before .before .put-origin .ensures)
+          (filled-next (originsOf (l .numbers)) (a .t1) (l .n) unknown (omega arith) (omega arith) (l .inv .2) refl),
     )
 
 returns : tie.Need-returns Inv-loop μ-loop

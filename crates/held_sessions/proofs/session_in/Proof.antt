@@ -7,13 +7,14 @@ use Rattle.held_sessions.proofs.session_in.Tie as tie
 returns : tie.Need-returns
 unfolding sessionIn
 returns c =
+    let at-phase-in = c .before .before .before .before .before in
     let wish = c .before .before .before .before .before .before .before .before .before .before .before .before in
     let origins = wish .before .before .before .before .before in
     rw (
       origins .before .before .lines-in .ensures,
       origins .origins-in .ensures,
       wish .new .ensures,
-      c .before .before .before .before .before .phase-in .ensures,
+      at-phase-in .phase-in .ensures,
       c .before .failed-in .ensures,
     )
 

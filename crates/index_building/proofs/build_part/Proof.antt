@@ -44,13 +44,14 @@ returns-3 c =
 
 returns-4 : tie.Need-returns-4
 returns-4 c =
+    let at-if = c .before .before .before .before in
+    let at-entry-bytes = at-if .before in
+    let at-progress = at-entry-bytes .before .before in
     let walked = c .before .before .before .before .before .before .before .before .before in
     let told = walked .before in
     part-done _ _ _ (sym (ap faultOf (told .enum-told .given .1)) ∙ told .before .before .judge-extent .ensures) _ _
-    (rw
-    (c .before .before .before .before .before .before .before .progress2 .given .1) at (walked .walk-part .ensures))
-    _ (c .before .before .before .before .before .entry-bytes .ensures) (c .before .before .before .before .if1 .left) _
-    (c .before .before .fill .ensures)
+    (rw (at-progress .progress2 .given .1) at (walked .walk-part .ensures)) _
+    (at-entry-bytes .entry-bytes .ensures) (at-if .if1 .left) _ (c .before .before .fill .ensures)
 
 pub build-part-spec : {M : Type 1} → statement M
 build-part-spec =

@@ -31,35 +31,53 @@ loop-holds c = (omega arith, omega arith, rw sub-zero, rw (sub-zero, zero-add), 
 
 returns-2 : tie.Need-returns-2 Inv-loop μ-loop
 returns-2 c =
-    let a = c .before .before .before .before .before .before .before .before .before .before .args in
-    let l = c .before .before .before .before .before .loop in
-    let step = rw (c .before .judged .given .1) at (c .before .before .before .judge-obstacle .ensures) in
-    told-fault (now (a .kinds)) (now (a .counts)) (now (a .vertices)) (a .obstacles) _
-    (c .before .before .before .before .before .before .if1 .left) (l .inv .2
-    ∙ lent-stop (now (a .kinds)) (now (a .counts)) (now (a .vertices)) (a .obstacles) (l .i) (l .total) _
-    (omega arith) step)
+    let at-judge-obstacle = c .before .before .before in
+    let at-turn = at-judge-obstacle .before .before in
+    let at-if = at-turn .before in
+    let start = at-if .before .before .before .before in
+    let a = start .args in
+    let l = at-turn .loop in
+    let step = rw (c .before .judged .given .1) at (at-judge-obstacle .judge-obstacle .ensures) in
+    told-fault (now (a .kinds)) (now (a .counts)) (now (a .vertices)) (a .obstacles) _ (at-if .if1 .left)
+    (l .inv .2 ∙ lent-stop (now (a .kinds)) (now (a .counts)) (now (a .vertices)) (a .obstacles) (l .i) (l .total)
+    _ (omega arith) step)
 
 add-total : tie.Need-add-total Inv-loop μ-loop
 add-total c =
-    let a = c .before .before .before .before .before .before .before .before .before .before .before .args in
-    let l = c .before .before .before .before .before .before .loop in
-    let step = rw (c .before .before .enum-told .given .1) at (c .before .before .before .before .judge-obstacle .ensures) in
+    let at-judge-obstacle = c .before .before .before .before in
+    let at-turn = at-judge-obstacle .before .before in
+    let start = at-turn .before .before .before .before .before in
+    let a = start .args in
+    let l = at-turn .loop in
+    let step = rw (c .before .before .enum-told .given .1) at (at-judge-obstacle .judge-obstacle .ensures) in
     let many = c .wide .ensures .0 ∙ c .before .byte-at .ensures in
-    let room = rw (front-of (now (a .counts)) (l .i)) at (own-room (l .total) _ (drop (l .i) (now (a .counts))) _ (sym step)) in
+    let room = rw (front-of (now (a .counts)) (l .i))
+    at (own-room (l .total) _ (drop (l .i) (now (a .counts))) _ (sym step)) in
     omega (arith, room .1, many, l .inv .1)
 
 loop-again : tie.Need-loop-again Inv-loop μ-loop
 loop-again c =
-    let a = c .before .before .before .before .before .before .before .before .before .before .before .args in
-    let l = c .before .before .before .before .before .before .loop in
-    let step = rw (c .before .before .enum-told .given .1) at (c .before .before .before .before .judge-obstacle .ensures) in
+    let at-judge-obstacle = c .before .before .before .before in
+    let at-turn = at-judge-obstacle .before .before in
+    let start = at-turn .before .before .before .before .before in
+    let a = start .args in
+    let l = at-turn .loop in
+    let step = rw (c .before .before .enum-told .given .1) at (at-judge-obstacle .judge-obstacle .ensures) in
     let many = c .wide .ensures .0 ∙ c .before .byte-at .ensures in
-    let room = rw (front-of (now (a .counts)) (l .i)) at (own-room (l .total) _ (drop (l .i) (now (a .counts))) _ (sym step)) in
-    let on = lent-on (now (a .kinds)) (now (a .counts)) (now (a .vertices)) (a .obstacles) (l .i) (l .total) (omega arith) step in
-    let more = total-on (now (a .kinds)) (now (a .counts)) (now (a .vertices)) (a .obstacles) (l .i) (l .total) (omega arith) in
-    let there = rw (front-of (now (a .counts)) (l .i)) at (own-there (l .total) _ (drop (l .i) (now (a .counts)))
-    (now (a .vertices)) (l .inv .4) (sym step)) in
-    (omega arith, omega (arith, room .1, many), rw many (l .inv .2 ∙ on), rw many (omega (arith, l .inv .3, more)), rw many there)
+    let room = rw (front-of (now (a .counts)) (l .i))
+    at (own-room (l .total) _ (drop (l .i) (now (a .counts))) _ (sym step)) in
+    let on = lent-on (now (a .kinds)) (now (a .counts)) (now (a .vertices)) (a .obstacles) (l .i) (l .total)
+    (omega arith) step in
+    let more = total-on (now (a .kinds)) (now (a .counts)) (now (a .vertices)) (a .obstacles) (l .i) (l .total)
+    (omega arith) in
+    let there = rw (front-of (now (a .counts)) (l .i))
+    at (own-there (l .total) _ (drop (l .i) (now (a .counts))) (now (a .vertices)) (l .inv .4) (sym step)) in (
+      omega arith,
+      omega (arith, room .1, many),
+      rw many (l .inv .2 ∙ on),
+      rw many (omega (arith, l .inv .3, more)),
+      rw many there,
+    )
 
 returns-3 : tie.Need-returns-3 Inv-loop μ-loop
 returns-3 c =

@@ -36,34 +36,43 @@ returns-2 c =
 returns-3 : tie.Need-returns-3
 unfolding listCall judgedList
 returns-3 c =
+    let at-first = c .before .before .before in
+    let at-judge-lines = at-first .before in
+    let at-judge-wish = at-judge-lines .before in
+    let at-if = at-judge-wish .before in
+    let at-if-2 = at-if .before in
     let start = c .before .before .before .before .before .before .before .before .before in
     let xs = now (start .args .numbers) in
     simp (
-      eq-eqb _ _ (c .before .before .before .before .before .before .before .if1 .left),
-      few xs (c .before .before .before .before .before .before .if2 .left),
-      ← c .before .before .before .before .before .judge-wish .ensures,
-      ← c .before .before .before .before .judge-lines .ensures,
-      ← c .before .before .before .first-of .ensures,
+      eq-eqb _ _ (at-if-2 .if1 .left),
+      few xs (at-if .if2 .left),
+      ← at-judge-wish .judge-wish .ensures,
+      ← at-judge-lines .judge-lines .ensures,
+      ← at-first .first-of .ensures,
       c .before .judged .given .1,
     )
 
 returns-4 : tie.Need-returns-4
 unfolding listCall judgedList
 returns-4 c =
+    let at-first = c .before .before .before in
+    let at-judge-lines = at-first .before in
+    let at-judge-wish = at-judge-lines .before in
+    let at-if = at-judge-wish .before in
+    let at-if-2 = at-if .before in
     let start = c .before .before .before .before .before .before .before .before .before in
     let xs = now (start .args .numbers) in
-    let whole = c .solve-from-start .ensures
-    ∙ ap (λ (l : List Line). wholeList (start .args .rigid) (start .args .wish) (start .args .limit) l)
+    let whole = c .solve-from-start .ensures ∙ ap
+    (λ (l : List Line). wholeList (start .args .rigid) (start .args .wish) (start .args .limit) l)
     (lines-take-all xs) in
     simp (
-      eq-eqb _ _ (c .before .before .before .before .before .before .before .if1 .left),
-      few xs (c .before .before .before .before .before .before .if2 .left),
-      ← c .before .before .before .before .before .judge-wish .ensures,
-      ← c .before .before .before .before .judge-lines .ensures,
-      ← c .before .before .before .first-of .ensures,
+      eq-eqb _ _ (at-if-2 .if1 .left),
+      few xs (at-if .if2 .left),
+      ← at-judge-wish .judge-wish .ensures,
+      ← at-judge-lines .judge-lines .ensures,
+      ← at-first .first-of .ensures,
       c .before .enum-told .given .1,
-    )
-    whole
+    ) whole
 
 pub solve-linear-program-spec : {M : Type 1} → statement M
 solve-linear-program-spec =

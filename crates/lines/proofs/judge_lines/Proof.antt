@@ -23,24 +23,25 @@ loop-holds c = (omega arith, ap linesFault (sym (lines-take-all (now (c .before 
 
 returns : tie.Need-returns Inv-loop μ-loop
 returns c =
-    let b = now (c .before .before .before .before .before .before .before .args .numbers) in
-    let l = c .before .before .before .before .before .loop in
-    let step = rw (
-      c .enum-told2 .given .1,
-      c .before .before .before .line-at .ensures,
-    ) at (c .before .before .judge-line .ensures) in
-    rw (c .enum-told2 .given .1) (sym (l .inv .1
-    ∙ judged-stop (linesOf b) (length b / 4) (l .i) (lines-fit b (length b / 4) (omega arith)) offLine _
-    (omega arith) step))
+    let at-line-at = c .before .before .before in
+    let at-turn = at-line-at .before .before in
+    let start = at-turn .before .before in
+    let b = now (start .args .numbers) in
+    let l = at-turn .loop in
+    let step = rw (c .enum-told2 .given .1, at-line-at .line-at .ensures)
+    at (c .before .before .judge-line .ensures) in
+    rw (c .enum-told2 .given .1) (sym (l .inv .1 ∙ judged-stop (linesOf b) (length b / 4) (l .i)
+    (lines-fit b (length b / 4) (omega arith)) offLine _ (omega arith) step))
 
 loop-again : tie.Need-loop-again Inv-loop μ-loop
 loop-again c =
-    let b = now (c .before .before .before .before .before .before .before .args .numbers) in
-    let l = c .before .before .before .before .before .loop in
-    let step = rw (
-      c .enum-told .given .1,
-      c .before .before .before .line-at .ensures,
-    ) at (c .before .before .judge-line .ensures) in (
+    let at-line-at = c .before .before .before in
+    let at-turn = at-line-at .before .before in
+    let start = at-turn .before .before in
+    let b = now (start .args .numbers) in
+    let l = at-turn .loop in
+    let step = rw (c .enum-told .given .1, at-line-at .line-at .ensures) at (c .before .before .judge-line .ensures)
+    in (
       omega arith,
       l .inv .1 ∙ judged-on (linesOf b) (length b / 4) (l .i) (lines-fit b (length b / 4) (omega arith))
           offLine (omega arith) step,

@@ -22,34 +22,39 @@ returns c = simp (
 returns-2 : tie.Need-returns-2
 unfolding obstacleCall
 returns-2 c =
+    let at-judge-obstacle = c .before .before .before .before in
     simp (
       ← c .refused2 .ensures,
       c .before .before .judged .given .1,
-      ← c .before .before .before .before .judge-obstacle .ensures,
-      c .before .before .before .before .before .enum-told .given .1,
-      ← c .before .before .before .before .before .before .before .judge-agent .ensures,
+      ← at-judge-obstacle .judge-obstacle .ensures,
+      at-judge-obstacle .before .enum-told .given .1,
+      ← at-judge-obstacle .before .before .before .judge-agent .ensures,
     )
 
 lines-for-edges-requires : tie.Need-lines-for-edges-requires
 lines-for-edges-requires c κs =
-    let a = c .before .before .before .before .before .before .before .args in
+    let start = c .before .before .before .before .before .before .before in
+    let a = start .args in
     let passed = rw (c .enum-told2 .given .1) at (c .before .before .judge-obstacle .ensures) in
     omega (arith, just-lent (headOf (a .kind) (a .count)) (now (a .vertices)) (sym passed))
 
 returns-3 : tie.Need-returns-3
 unfolding obstacleCall
 returns-3 c =
-    let a = c .before .before .before .before .before .before .before .before .args in
-    let passed = rw (c .before .enum-told2 .given .1) at (c .before .before .before .judge-obstacle .ensures) in
-    let all : length (now (a .vertices)) / 2 ≡ a .count =
-    omega (arith, just-lent (headOf (a .kind) (a .count)) (now (a .vertices)) (sym passed)) in
-    c .lines-for-edges .ensures
-    ∙ simp (
+    let at-judge-obstacle = c .before .before .before in
+    let at-told = at-judge-obstacle .before in
+    let at-judge-agent = at-told .before .before in
+    let start = at-judge-agent .before .before in
+    let a = start .args in
+    let passed = rw (c .before .enum-told2 .given .1) at (at-judge-obstacle .judge-obstacle .ensures) in
+    let all : length (now (a .vertices)) / 2 ≡ a .count = omega
+    (arith, just-lent (headOf (a .kind) (a .count)) (now (a .vertices)) (sym passed)) in
+    c .lines-for-edges .ensures ∙ simp (
       all,
       c .before .enum-told2 .given .1,
-      ← c .before .before .before .judge-obstacle .ensures,
-      c .before .before .before .before .enum-told .given .1,
-      ← c .before .before .before .before .before .before .judge-agent .ensures,
+      ← at-judge-obstacle .judge-obstacle .ensures,
+      at-told .enum-told .given .1,
+      ← at-judge-agent .judge-agent .ensures,
     )
 
 pub get-lines-for-agent-to-obstacle-spec : {M : Type 1} → statement M

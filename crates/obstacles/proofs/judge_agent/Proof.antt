@@ -7,16 +7,17 @@ use Rattle.obstacles.proofs.judge_agent.Tie as tie
 returns : tie.Need-returns
 unfolding agentFault
 returns c =
+    let at-is-inside = c .before .before .before .before in
     simp (
       ← c .first-of3 .ensures,
       ← c .before .first-of2 .ensures,
       ← c .before .before .first-of .ensures,
       ← c .before .before .before .fault-unless2 .ensures,
-      ← c .before .before .before .before .is-inside2 .ensures,
-      ← c .before .before .before .before .before .fault-unless .ensures,
-      ← c .before .before .before .before .before .before .is-inside .ensures,
-      ← c .before .before .before .before .before .before .before .judge-vector2 .ensures,
-      ← c .before .before .before .before .before .before .before .before .judge-vector .ensures,
+      ← at-is-inside .is-inside2 .ensures,
+      ← at-is-inside .before .fault-unless .ensures,
+      ← at-is-inside .before .before .is-inside .ensures,
+      ← at-is-inside .before .before .before .judge-vector2 .ensures,
+      ← at-is-inside .before .before .before .before .judge-vector .ensures,
     )
 
 pub judge-agent-spec : {M : Type 1} → statement M

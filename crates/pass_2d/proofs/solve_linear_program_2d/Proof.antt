@@ -36,16 +36,17 @@ pass-from-requires c κs =
 
 returns-3 : tie.Need-returns-3
 returns-3 c =
+    let at-judge-point = c .before .before .before .before in
+    let at-start-value = at-judge-point .before in
+    let at-if = at-start-value .before in
     let s = c .before .before .before .before .before .before .before in
     let a = s .before .before .args in
     let all = linesOf (now (a .lines)) in
-    let short = rw (s .count-given .ensures) at (c .before .before .before .before .before .before .if1 .left) in
-    let first = rw (
-      c .before .before .start .given .1,
-      c .before .before .before .before .before .start-value .ensures,
-    ) at (c .before .before .before .before .judge-point .ensures) in
-    rw (count-taken (a .count) all (s .count-given .ensures)) at (c .pass-from .ensures)
-    ∙ started _ _ (take (a .count) all) _ _ first ∙ sym (few-called _ _ (take (a .count) all) short)
+    let short = rw (s .count-given .ensures) at (at-if .if1 .left) in
+    let first = rw (c .before .before .start .given .1, at-start-value .start-value .ensures)
+    at (at-judge-point .judge-point .ensures) in
+    rw (count-taken (a .count) all (s .count-given .ensures)) at (c .pass-from .ensures) ∙ started _ _
+    (take (a .count) all) _ _ first ∙ sym (few-called _ _ (take (a .count) all) short)
 
 pub solve-linear-program-2d-spec : {M : Type 1} → statement M
 solve-linear-program-2d-spec =

@@ -13,10 +13,12 @@ returns-2 c = refused-solved _ _ (c .before .before .before .before .if1 .left) 
 
 returns-3 : tie.Need-returns-3
 returns-3 c =
+    let at-compute-avoiding = c .before .before .before .before in
+    let at-told = at-compute-avoiding .before .before in
     let start = c .before .before .before .before .before .before .before .before in
-    let fine = c .before .before .before .before .before .before .enum-told .given .1 in
-    outcome-solved _ _ (start .before .if1 .left) _ (start .read-scene .ensures) fine
-    _ (c .before .before .before .before .compute-avoiding-velocity .ensures) _ (c .before .before .write-outcome .ensures)
+    let fine = at-told .enum-told .given .1 in
+    outcome-solved _ _ (start .before .if1 .left) _ (start .read-scene .ensures) fine _
+    (at-compute-avoiding .compute-avoiding-velocity .ensures) _ (c .before .before .write-outcome .ensures)
 
 pub answer-scene-spec : {M : Type 1} → statement M
 answer-scene-spec =

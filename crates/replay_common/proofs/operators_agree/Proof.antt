@@ -7,19 +7,21 @@ use Rattle.replay_common.proofs.operators_agree.Tie as tie
 returns : tie.Need-returns
 unfolding operatorsAgree
 returns c =
+    let at-is-vector = c .before .before .before .before in
+    let at-is-vector-2 = at-is-vector .before .before .before .before in
     simp (
       ← c .is-flag .ensures,
       ← c .before .eq .ensures,
       ← c .before .before .is-vector5 .ensures,
       ← c .before .before .before .div .ensures,
-      ← c .before .before .before .before .is-vector4 .ensures,
-      ← c .before .before .before .before .before .mul .ensures,
-      ← c .before .before .before .before .before .before .is-vector3 .ensures,
-      ← c .before .before .before .before .before .before .before .neg .ensures,
-      ← c .before .before .before .before .before .before .before .before .is-vector2 .ensures,
-      ← c .before .before .before .before .before .before .before .before .before .sub .ensures,
-      ← c .before .before .before .before .before .before .before .before .before .before .is-vector .ensures,
-      ← c .before .before .before .before .before .before .before .before .before .before .before .add .ensures,
+      ← at-is-vector .is-vector4 .ensures,
+      ← at-is-vector .before .mul .ensures,
+      ← at-is-vector .before .before .is-vector3 .ensures,
+      ← at-is-vector .before .before .before .neg .ensures,
+      ← at-is-vector-2 .is-vector2 .ensures,
+      ← at-is-vector-2 .before .sub .ensures,
+      ← at-is-vector-2 .before .before .is-vector .ensures,
+      ← at-is-vector-2 .before .before .before .add .ensures,
     )
 
 pub operators-agree-spec : {M : Type 1} → statement M

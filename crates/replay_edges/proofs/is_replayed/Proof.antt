@@ -25,25 +25,25 @@ returns-2 c =
 returns-3 : tie.Need-returns-3
 unfolding isReplayed
 returns-3 c =
+    let at-number-at = c .before .before .before .before in
+    let at-first-numbers = at-number-at .before .before .before .before in
+    let at-word-at = at-first-numbers .before .before .before .before in
     simp (
       ← c .before .word-at3 .ensures,
       ← c .before .before .before .number-at2 .ensures,
-      ← c .before .before .before .before .number-at .ensures,
-      ← c .before .before .before .before .before .long-at .ensures,
-      ← c .before .before .before .before .before .before .before .before .first-numbers .ensures
-          (omega (
-            arith,
-            c .before .before .before .before .before .before .before .before .before .before .before .if2 .left,
-          )),
-      ← c .before .before .before .before .before .before .before .before .before .vector-at2 .ensures,
-      ← c .before .before .before .before .before .before .before .before .before .before .vector-at .ensures,
-      ← c .before .before .before .before .before .before .before .before .before .before .before .before .word-at2 .ensures,
-      le-leb _ _ (c .before .before .before .before .before .before .before .before .before .before .before .if2 .left),
-      ← c .before .before .before .before .before .before .before .before .before .before .before .before .before .before .word-at .ensures,
-      le-leb _ _
-          (c .before .before .before .before .before .before .before .before .before .before .before .before .before .if1 .left),
+      ← at-number-at .number-at .ensures,
+      ← at-number-at .before .long-at .ensures,
+      ← at-first-numbers .first-numbers .ensures
+          (omega (arith, at-first-numbers .before .before .before .if2 .left)),
+      ← at-first-numbers .before .vector-at2 .ensures,
+      ← at-first-numbers .before .before .vector-at .ensures,
+      ← at-word-at .word-at2 .ensures,
+      le-leb _ _ (at-first-numbers .before .before .before .if2 .left),
+      ← at-word-at .before .before .word-at .ensures,
+      le-leb _ _ (at-word-at .before .if1 .left),
     )
-    (c .is-answer .ensures ∙ ap (isAnswer _ _ _) (simp sub-zero at (c .before .before .get-lines-for-agent-to-obstacle .ensures)))
+    (c .is-answer .ensures ∙ ap (isAnswer _ _ _)
+    (simp sub-zero at (c .before .before .get-lines-for-agent-to-obstacle .ensures)))
 
 pub is-replayed-spec : {M : Type 1} → statement M
 is-replayed-spec =

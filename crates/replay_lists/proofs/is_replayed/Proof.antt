@@ -14,14 +14,14 @@ returns c = simp (← c .before .word-at .ensures, lt-leb _ _ (c .if1 .taken))
 returns-2 : tie.Need-returns-2
 unfolding isReplayed
 returns-2 c =
+    let at-first-numbers = c .before .before .before .before in
     simp (
-      ← c .before .before .before .before .first-numbers .ensures
-          (c .before .before .before .before .before .before .before .before .if1 .left),
-      ← c .before .before .before .before .before .vector-at .ensures,
-      ← c .before .before .before .before .before .before .number-at .ensures,
-      ← c .before .before .before .before .before .before .before .word-at2 .ensures,
-      le-leb _ _ (c .before .before .before .before .before .before .before .before .if1 .left),
-      ← c .before .before .before .before .before .before .before .before .before .word-at .ensures,
+      ← at-first-numbers .first-numbers .ensures (at-first-numbers .before .before .before .before .if1 .left),
+      ← at-first-numbers .before .vector-at .ensures,
+      ← at-first-numbers .before .before .number-at .ensures,
+      ← at-first-numbers .before .before .before .word-at2 .ensures,
+      le-leb _ _ (at-first-numbers .before .before .before .before .if1 .left),
+      ← at-first-numbers .before .before .before .before .before .word-at .ensures,
     )
     (c .is-answer .ensures ∙ ap (isAnswer _ _) (simp sub-zero at (c .before .solve-linear-program .ensures)))
 

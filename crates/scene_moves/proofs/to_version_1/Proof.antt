@@ -30,59 +30,73 @@ sub-length c =
 
 is-zero-requires : tie.Need-is-zero-requires
 is-zero-requires c κs =
-    let r = c .before .before .before .before .read-scene-of-version .result in
-    let known = reads Two (now (c .before .before .before .before .before .before .before .args .source)) r
-    (c .before .before .before .before .read-scene-of-version .ensures) (c .before .before .enum-told .given .1) in
+    let at-read-scene = c .before .before .before .before in
+    let start = at-read-scene .before .before .before in
+    let r = at-read-scene .read-scene-of-version .result in
+    let known = reads Two (now (start .args .source)) r (at-read-scene .read-scene-of-version .ensures)
+    (c .before .before .enum-told .given .1) in
     let fits : r .scene .neighbours ≤ length (r .numbers) = omega (arith, known .few, known .long) in
     fits
 
 returns-2 : tie.Need-returns-2
 returns-2 c =
-    let known =
-    reads Two
-    (now
-    (c .before .before .before .before .before .before .before .before .before .before .before .before .before .before .args .source)) _ (c .before .before .before .before .before .before .before .before .before .before .before .read-scene-of-version .ensures) (c .before .before .before .before .before .before .before .before .before .enum-told .given .1) in
+    let at-first = c .before .before .before in
+    let at-fault-unless = at-first .before in
+    let at-fault-unless-2 = at-fault-unless .before in
+    let at-is-zero = at-fault-unless-2 .before in
+    let at-told = at-is-zero .before .before .before in
+    let at-read-scene = at-told .before .before in
+    let start = at-read-scene .before .before .before in
+    let known = reads Two (now (start .args .source)) _ (at-read-scene .read-scene-of-version .ensures)
+    (at-told .enum-told .given .1) in
     told-refused Two One _ _ _ known _ (omega (arith, known .room)) _
     (rw (
       c .before .first .given .1,
-      c .before .before .before .before .before .fault-unless .ensures,
-      c .before .before .before .before .fault-unless2 .ensures,
-      c .before .before .before .before .before .before .is-zero .ensures,
+      at-fault-unless-2 .fault-unless .ensures,
+      at-fault-unless .fault-unless2 .ensures,
+      at-is-zero .is-zero .ensures,
       known .numbers,
-    ) at (c .before .before .before .first-of .ensures))
+    )
+    at (at-first .first-of .ensures))
 
 mul-start : tie.Need-mul-start
 mul-start c =
-    let known =
-    reads Two
-    (now
-    (c .before .before .before .before .before .before .before .before .before .before .before .before .before .args .source)) _ (c .before .before .before .before .before .before .before .before .before .before .read-scene-of-version .ensures) (c .before .before .before .before .before .before .before .before .enum-told .given .1) in
+    let at-told = c .before .before .before .before .before .before .before .before in
+    let at-read-scene = at-told .before .before in
+    let start = at-read-scene .before .before .before in
+    let known = reads Two (now (start .args .source)) _ (at-read-scene .read-scene-of-version .ensures)
+    (at-told .enum-told .given .1) in
     omega (arith, known .few)
 
 sub-start : tie.Need-sub-start
 sub-start c =
-    let known =
-    reads Two
-    (now
-    (c .before .before .before .before .before .before .before .before .before .before .before .before .before .args .source)) _ (c .before .before .before .before .before .before .before .before .before .before .read-scene-of-version .ensures) (c .before .before .before .before .before .before .before .before .enum-told .given .1) in
+    let at-told = c .before .before .before .before .before .before .before .before in
+    let at-read-scene = at-told .before .before in
+    let start = at-read-scene .before .before .before in
+    let known = reads Two (now (start .args .source)) _ (at-read-scene .read-scene-of-version .ensures)
+    (at-told .enum-told .given .1) in
     omega (arith, known .room)
 
 put-start-requires : tie.Need-put-start-requires
 put-start-requires c κs =
-    let a =
-    c .before .before .before .before .before .before .before .before .before .before .before .before .before .before .args in
-    let r =
-    c .before .before .before .before .before .before .before .before .before .before .before .read-scene-of-version .result in
-    let known = reads Two (now (a .source)) r
-    (c .before .before .before .before .before .before .before .before .before .before .before .read-scene-of-version .ensures) (c .before .before .before .before .before .before .before .before .before .enum-told .given .1) in
-    let fits : length (now (a .source)) - 4 * r .scene .neighbours ≤ length (now (a .buffer)) =
-    both-pass (c .before .before .before .before .before .before .is-zero .result) _ _
-    (rw (
+    let at-first = c .before .before .before in
+    let at-fault-unless = at-first .before in
+    let at-fault-unless-2 = at-fault-unless .before in
+    let at-is-zero = at-fault-unless-2 .before in
+    let at-told = at-is-zero .before .before .before in
+    let at-read-scene = at-told .before .before in
+    let start = at-read-scene .before .before .before in
+    let a = start .args in
+    let r = at-read-scene .read-scene-of-version .result in
+    let known = reads Two (now (a .source)) r (at-read-scene .read-scene-of-version .ensures)
+    (at-told .enum-told .given .1) in
+    let fits : length (now (a .source)) - 4 * r .scene .neighbours ≤ length (now (a .buffer)) = both-pass
+    (at-is-zero .is-zero .result) _ _ (rw (
       c .before .enum-told2 .given .1,
-      c .before .before .before .before .before .fault-unless .ensures,
-      c .before .before .before .before .fault-unless2 .ensures,
-    ) at (c .before .before .before .first-of .ensures)) .1
-    in (
+      at-fault-unless-2 .fault-unless .ensures,
+      at-fault-unless .fault-unless2 .ensures,
+    )
+    at (at-first .first-of .ensures)) .1 in (
       omega (arith, known .room),
       omega (arith, known .room),
       omega (arith, known .room, fits),
@@ -92,45 +106,59 @@ put-start-requires c κs =
 
 put-unnumbered-requires : tie.Need-put-unnumbered-requires
 put-unnumbered-requires c κs =
-    let a =
-    c .before .before .before .before .before .before .before .before .before .before .before .before .before .before .before .before .before .before .args in
-    let r =
-    c .before .before .before .before .before .before .before .before .before .before .before .before .before .before .before .read-scene-of-version .result in
-    let known = reads Two (now (a .source)) r
-    (c .before .before .before .before .before .before .before .before .before .before .before .before .before .before .before .read-scene-of-version .ensures) (c .before .before .before .before .before .before .before .before .before .before .before .before .before .enum-told .given .1) in
-    let fits : length (now (a .source)) - 4 * r .scene .neighbours ≤ length (now (a .buffer)) =
-    both-pass (c .before .before .before .before .before .before .before .before .before .before .is-zero .result) _
-    _ (rw (
-      c .before .before .before .before .before .enum-told2 .given .1,
-      c .before .before .before .before .before .before .before .before .before .fault-unless .ensures,
-      c .before .before .before .before .before .before .before .before .fault-unless2 .ensures,
-    ) at (c .before .before .before .before .before .before .before .first-of .ensures)) .1 in
-    (omega (arith, known .room), omega (arith, known .room, c .before .before .before .put-start .kept .0, fits))
+    let at-put-start = c .before .before .before in
+    let at-told = at-put-start .before .before in
+    let at-first = at-told .before .before in
+    let at-fault-unless = at-first .before in
+    let at-fault-unless-2 = at-fault-unless .before in
+    let at-is-zero = at-fault-unless-2 .before in
+    let at-told-2 = at-is-zero .before .before .before in
+    let at-read-scene = at-told-2 .before .before in
+    let start = at-read-scene .before .before .before in
+    let a = start .args in
+    let r = at-read-scene .read-scene-of-version .result in
+    let known = reads Two (now (a .source)) r (at-read-scene .read-scene-of-version .ensures)
+    (at-told-2 .enum-told .given .1) in
+    let fits : length (now (a .source)) - 4 * r .scene .neighbours ≤ length (now (a .buffer)) = both-pass
+    (at-is-zero .is-zero .result) _ _ (rw (
+      at-told .enum-told2 .given .1,
+      at-fault-unless-2 .fault-unless .ensures,
+      at-fault-unless .fault-unless2 .ensures,
+    )
+    at (at-first .first-of .ensures)) .1 in
+    (omega (arith, known .room), omega (arith, known .room, at-put-start .put-start .kept .0, fits))
 
 same-length : tie.Need-same-length
 same-length c = c .before .before .put-unnumbered .kept .0 ∙ c .before .before .before .before .before .before .put-start .kept .0
 
 returns-3 : tie.Need-returns-3
 returns-3 c =
-    let a =
-    c .before .before .before .before .before .before .before .before .before .before .before .before .before .before .before .before .before .before .before .before .before .args in
-    let r =
-    c .before .before .before .before .before .before .before .before .before .before .before .before .before .before .before .before .before .before .read-scene-of-version .result in
-    let known = reads Two (now (a .source)) r
-    (c .before .before .before .before .before .before .before .before .before .before .before .before .before .before .before .before .before .before .read-scene-of-version .ensures) (c .before .before .before .before .before .before .before .before .before .before .before .before .before .before .before .before .enum-told .given .1) in
-    let size : length (now (a .source)) - 4 * r .scene .neighbours
-    ≡ movedLength Two One (r .scene .neighbours) (now (a .source)) = omega (arith, known .room) in
-    let passed =
-    both-pass
-    (c .before .before .before .before .before .before .before .before .before .before .before .before .before .is-zero .result) _ _ (rw (c .before .before .before .before .before .before .before .before .enum-told2 .given .1, c .before .before .before .before .before .before .before .before .before .before .before .before .fault-unless .ensures, c .before .before .before .before .before .before .before .before .before .before .before .fault-unless2 .ensures) at (c .before .before .before .before .before .before .before .before .before .before .first-of .ensures)) in
-    let kept : keeps One (known .parts) ≡ true =
-    rw (← known .numbers)
-    (sym
-    (c .before .before .before .before .before .before .before .before .before .before .before .before .before .is-zero .ensures) ∙ passed .0) in
+    let at-put-start = c .before .before .before .before .before .before in
+    let at-told = at-put-start .before .before in
+    let at-first = at-told .before .before in
+    let at-fault-unless = at-first .before in
+    let at-fault-unless-2 = at-fault-unless .before in
+    let at-is-zero = at-fault-unless-2 .before in
+    let at-told-2 = at-is-zero .before .before .before in
+    let at-read-scene = at-told-2 .before .before in
+    let start = at-read-scene .before .before .before in
+    let a = start .args in
+    let r = at-read-scene .read-scene-of-version .result in
+    let known = reads Two (now (a .source)) r (at-read-scene .read-scene-of-version .ensures)
+    (at-told-2 .enum-told .given .1) in
+    let size : length (now (a .source)) - 4 * r .scene .neighbours ≡ movedLength Two One (r .scene .neighbours)
+    (now (a .source)) = omega (arith, known .room) in
+    let passed = both-pass (at-is-zero .is-zero .result) _ _
+    (rw (
+      at-told .enum-told2 .given .1,
+      at-fault-unless-2 .fault-unless .ensures,
+      at-fault-unless .fault-unless2 .ensures,
+    ) at (at-first .first-of .ensures)) in
+    let kept : keeps One (known .parts) ≡ true = rw (← known .numbers)
+    (sym (at-is-zero .is-zero .ensures) ∙ passed .0) in
     told-moved Two One (now (a .source)) (now (a .buffer)) r known kept _ size (passed .1) _
     (moved-put Two One (r .scene .neighbours) (now (a .source)) (known .room) (now (a .buffer)) _ _
-    (rw size at (c .before .before .before .before .before .before .put-start .ensures))
-    (c .before .before .put-unnumbered .ensures))
+    (rw size at (at-put-start .put-start .ensures)) (c .before .before .put-unnumbered .ensures))
 
 pub to-version-1-spec : {M : Type 1} → statement M
 to-version-1-spec =

@@ -47,8 +47,10 @@ sub-start c =
 
 put-start-requires : tie.Need-put-start-requires
 put-start-requires c κs =
-    let known = reads One (now (c .before .before .before .before .before .before .before .args .source)) _
-    (c .before .before .before .before .read-scene-of-version .ensures) (c .before .before .enum-told .given .1) in (
+    let at-read-scene = c .before .before .before .before in
+    let start = at-read-scene .before .before .before in
+    let known = reads One (now (start .args .source)) _ (at-read-scene .read-scene-of-version .ensures)
+    (c .before .before .enum-told .given .1) in (
       omega (arith, known .room),
       omega (arith, known .room),
       omega (arith, known .room, c .before .if1 .left),
@@ -58,40 +60,34 @@ put-start-requires c κs =
 
 put-numbered-requires : tie.Need-put-numbered-requires
 put-numbered-requires c κs =
-    let known =
-    reads One
-    (now (c .before .before .before .before .before .before .before .before .before .before .before .args .source))
-    _ (c .before .before .before .before .before .before .before .before .read-scene-of-version .ensures)
-    (c .before .before .before .before .before .before .enum-told .given .1) in (
-      omega (arith, known .room),
-      omega (
-        arith,
-        known .room,
-        c .before .before .before .put-start .kept .0,
-        c .before .before .before .before .before .if1 .left,
-      ),
-    )
+    let at-put-start = c .before .before .before in
+    let at-if = at-put-start .before .before in
+    let at-told = at-if .before in
+    let at-read-scene = at-told .before .before in
+    let start = at-read-scene .before .before .before in
+    let known = reads One (now (start .args .source)) _ (at-read-scene .read-scene-of-version .ensures)
+    (at-told .enum-told .given .1) in
+    (omega (arith, known .room), omega (arith, known .room, at-put-start .put-start .kept .0, at-if .if1 .left))
 
 same-length : tie.Need-same-length
 same-length c = c .before .before .put-numbered .kept .0 ∙ c .before .before .before .before .before .before .put-start .kept .0
 
 returns-3 : tie.Need-returns-3
 returns-3 c =
-    let a =
-    c .before .before .before .before .before .before .before .before .before .before .before .before .before .before .args in
-    let r =
-    c .before .before .before .before .before .before .before .before .before .before .before .read-scene-of-version .result in
-    let known =
-    reads One
-    (now
-    (c .before .before .before .before .before .before .before .before .before .before .before .before .before .before .args .source)) _ (c .before .before .before .before .before .before .before .before .before .before .before .read-scene-of-version .ensures) (c .before .before .before .before .before .before .before .before .before .enum-told .given .1) in
-    let size : length (now (a .source)) + 4 * r .scene .neighbours
-    ≡ movedLength One Two (r .scene .neighbours) (now (a .source)) = omega (arith, known .room) in
-    told-moved One Two (now (a .source)) (now (a .buffer)) r known refl _ size
-    (c .before .before .before .before .before .before .before .before .if1 .left) _
+    let at-put-start = c .before .before .before .before .before .before in
+    let at-if = at-put-start .before .before in
+    let at-told = at-if .before in
+    let at-read-scene = at-told .before .before in
+    let start = at-read-scene .before .before .before in
+    let a = start .args in
+    let r = at-read-scene .read-scene-of-version .result in
+    let known = reads One (now (start .args .source)) _ (at-read-scene .read-scene-of-version .ensures)
+    (at-told .enum-told .given .1) in
+    let size : length (now (a .source)) + 4 * r .scene .neighbours ≡ movedLength One Two (r .scene .neighbours)
+    (now (a .source)) = omega (arith, known .room) in
+    told-moved One Two (now (a .source)) (now (a .buffer)) r known refl _ size (at-if .if1 .left) _
     (moved-put One Two (r .scene .neighbours) (now (a .source)) (known .room) (now (a .buffer)) _ _
-    (rw size at (c .before .before .before .before .before .before .put-start .ensures))
-    (c .before .before .put-numbered .ensures))
+    (rw size at (at-put-start .put-start .ensures)) (c .before .before .put-numbered .ensures))
 
 pub to-version-2-spec : {M : Type 1} → statement M
 to-version-2-spec =

@@ -29,24 +29,26 @@ returns-3 c =
 returns-4 : tie.Need-returns-4
 unfolding batchFault
 returns-4 c =
+    let at-if = c .before .before .before .before in
     simp (
-      lines-long (now (c .before .before .before .before .before .before .before .before .args .numbers)),
+      lines-long (now (at-if .before .before .before .before .args .numbers)),
       sym (c .before .fits-behind .ensures) ∙ not-true _ (c .if4 .taken),
       sym (c .before .before .before .is-fitting .ensures) ∙ not-false _ (c .before .before .if3 .left),
-      eq-eqb _ _ (c .before .before .before .before .if2 .left),
-      le-leb _ _ (c .before .before .before .before .before .if1 .left),
+      eq-eqb _ _ (at-if .if2 .left),
+      le-leb _ _ (at-if .before .if1 .left),
     )
 
 returns-5 : tie.Need-returns-5
 unfolding batchFault
 returns-5 c =
+    let at-is-fitting = c .before .before .before .before in
     simp (
       ← c .judge-lines .ensures,
-      lines-long (now (c .before .before .before .before .before .before .before .before .before .args .numbers)),
+      lines-long (now (at-is-fitting .before .before .before .before .before .args .numbers)),
       sym (c .before .before .fits-behind .ensures) ∙ not-false _ (c .before .if4 .left),
-      sym (c .before .before .before .before .is-fitting .ensures) ∙ not-false _ (c .before .before .before .if3 .left),
-      eq-eqb _ _ (c .before .before .before .before .before .if2 .left),
-      le-leb _ _ (c .before .before .before .before .before .before .if1 .left),
+      sym (at-is-fitting .is-fitting .ensures) ∙ not-false _ (c .before .before .before .if3 .left),
+      eq-eqb _ _ (at-is-fitting .before .if2 .left),
+      le-leb _ _ (at-is-fitting .before .before .if1 .left),
     )
 
 pub judge-batch-spec : {M : Type 1} → statement M

@@ -14,10 +14,11 @@ returns c =
 
 returns-2 : tie.Need-returns-2
 returns-2 c =
+    let at-told = c .before .before .before .before in
     let d = c .before .before .before .before .before .before .before in
     let s = d .before .before .before .before .before in
     whole-read (now (s .args .input)) (s .args .there) (s .args .before) (s .pre) _ (d .advance .ensures)
-    (c .before .before .before .before .enum-told .given .1) _ _ (c .before .before .keep .ensures)
+    (at-told .enum-told .given .1) _ _ (c .before .before .keep .ensures)
 
 pub tally-read-spec : {M : Type 1} → statement M
 tally-read-spec =

@@ -76,32 +76,40 @@ mul-check-edges c = omega (arith, c .before .before .before .loop .inv .1)
 
 mul-check-edges-2 : tie.Need-mul-check-edges-2 Inv-loop μ-loop
 mul-check-edges-2 c =
-    let a = c .before .before .before .before .before .before .before .args in
-    let l = c .before .before .before .loop in
+    let at-turn = c .before .before .before in
+    let start = at-turn .before .before .before .before in
+    let a = start .args in
+    let l = at-turn .loop in
     let there = next-passes (now (a .kinds)) (now (a .counts)) (now (a .vertices)) (a .obstacles) (l .i) (l .total)
     (omega arith) (l .inv .2) (l .inv .4) in
     omega (arith, there .0)
 
 mul-check-edges-3 : tie.Need-mul-check-edges-3 Inv-loop μ-loop
 mul-check-edges-3 c =
-    let a = c .before .before .before .before .before .before .before .args in
-    let l = c .before .before .before .loop in
+    let at-turn = c .before .before .before in
+    let start = at-turn .before .before .before .before in
+    let a = start .args in
+    let l = at-turn .loop in
     let there = next-passes (now (a .kinds)) (now (a .counts)) (now (a .vertices)) (a .obstacles) (l .i) (l .total)
     (omega arith) (l .inv .2) (l .inv .4) in
     omega (arith, there .0)
 
 part-check-edges-end : tie.Need-part-check-edges-end Inv-loop μ-loop
 part-check-edges-end c =
-    let a = c .before .before .before .before .before .before .before .args in
-    let l = c .before .before .before .loop in
+    let at-turn = c .before .before .before in
+    let start = at-turn .before .before .before .before in
+    let a = start .args in
+    let l = at-turn .loop in
     let there = next-passes (now (a .kinds)) (now (a .counts)) (now (a .vertices)) (a .obstacles) (l .i) (l .total)
     (omega arith) (l .inv .2) (l .inv .4) in
     omega (arith, there .1)
 
 check-edges-requires : tie.Need-check-edges-requires Inv-loop μ-loop
 check-edges-requires c κs =
-    let a = c .before .before .before .before .before .before .before .before .args in
-    let l = c .before .before .before .before .loop in
+    let at-turn = c .before .before .before .before in
+    let start = at-turn .before .before .before .before in
+    let a = start .args in
+    let l = at-turn .loop in
     let there = next-passes (now (a .kinds)) (now (a .counts)) (now (a .vertices)) (a .obstacles) (l .i) (l .total)
     (omega arith) (l .inv .2) (l .inv .4) in
     let count = getD (now (a .counts)) (l .i) 0 in
@@ -111,8 +119,10 @@ check-edges-requires c κs =
 
 loop-again : tie.Need-loop-again Inv-loop μ-loop
 loop-again c =
-    let a = c .before .before .before .before .before .before .before .before .before .args in
-    let l = c .before .before .before .before .before .loop in
+    let at-turn = c .before .before .before .before .before in
+    let start = at-turn .before .before .before .before in
+    let a = start .args in
+    let l = at-turn .loop in
     let there = next-passes (now (a .kinds)) (now (a .counts)) (now (a .vertices)) (a .obstacles) (l .i) (l .total)
     (omega arith) (l .inv .2) (l .inv .4) in
     let count = getD (now (a .counts)) (l .i) 0 in
@@ -120,8 +130,8 @@ loop-again c =
     let size = part-size (now (a .vertices)) (l .total) count (omega (arith, there .1)) in
     let made = rw cut at (c .check-edges .ensures .0) in
     let few = rw (cut, size) at (c .check-edges .ensures .1) in
-    let on = obstacles-on (a .from) (a .to) (now (a .kinds)) (now (a .counts)) (now (a .vertices)) (a .obstacles) (l .i)
-    (l .total) (l .known) (omega arith) made in
+    let on = obstacles-on (a .from) (a .to) (now (a .kinds)) (now (a .counts)) (now (a .vertices)) (a .obstacles)
+    (l .i) (l .total) (l .known) (omega arith) made in
     (omega arith, there .0, there .1, omega (arith, few, l .inv .3), there .2, l .inv .5 ∙ on)
 
 returns : tie.Need-returns Inv-loop μ-loop

@@ -35,16 +35,18 @@ returns-2 c =
 returns-3 : tie.Need-returns-3
 unfolding moveFault
 returns-3 c =
+    let at-judge-layout = c .before .before .before .before in
+    let at-told = at-judge-layout .before in
     let placed = c .before .before .before .before .before .before .before in
     let a = placed .before .before .before .before .before .before .args in
-    let read = rw (c .before .before .layout2 .given .1) at (c .before .before .before .before .judge-layout .ensures) in
+    let read = rw (c .before .before .layout2 .given .1) at (at-judge-layout .judge-layout .ensures) in
     let told = layout-fault (now (a .kinds)) (now (a .counts)) (now (a .vertices)) (a .obstacles) read in
     let total = layout-total (now (a .kinds)) (now (a .counts)) (now (a .vertices)) (a .obstacles) read in
     simp (
       ← placed .before .before .judge-vector .ensures,
       ← placed .before .judge-vector2 .ensures,
       ← placed .first-of .ensures,
-      c .before .before .before .before .before .enum-told .given .1,
+      at-told .enum-told .given .1,
       ← told,
       ← total,
       ← c .judge-leftovers .ensures,

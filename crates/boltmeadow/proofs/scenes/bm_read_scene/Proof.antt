@@ -7,8 +7,9 @@ use Rattle.boltmeadow.proofs.scenes.bm_read_scene.Tie as tie
 
 returns : tie.Need-returns
 unfolding sceneTold
-returns c = rw (c .before .number-of .ensures, c .cart-of .ensures)
-    (ap sceneTold (c .before .before .before .before .before .before .before .before .read-scene .ensures))
+returns c =
+    let at-read-scene = c .before .before .before .before .before .before .before .before in
+    rw (c .before .number-of .ensures, c .cart-of .ensures) (ap sceneTold (at-read-scene .read-scene .ensures))
 
 pub bm-read-scene-spec : {M : Type 1} → statement M
 bm-read-scene-spec =

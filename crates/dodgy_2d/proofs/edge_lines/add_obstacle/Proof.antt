@@ -52,16 +52,17 @@ loop-holds c =
 
 loop-again : tie.Need-loop-again Inv-loop μ-loop
 loop-again c =
+    let at-found = c .before .before .before .before .before in
     let turn = c .before .before .before .before .before .before .before in
     let l = turn .before .before .before .before .loop in
     let a = turn .before .before .before .before .before .before .before .before .before .args in
     let n = length (now (a .vertices)) / 2 in
     let vs = verticesOf (now (a .vertices)) in
     let cut : 4 * (a .count + l .own) - 4 * a .count ≡ 4 * l .own = omega arith in
-    let own-edge : l .i < edgeCount (a .kind) n =
-    omega (arith, turn .before .before .before .before .before .edge-count .ensures) in
-    let made = rw (c .before .before .before .before .before .found .given .1, cut) at (turn .get-line-alone .ensures)
-    ∙ alone-edge (a .agent) (a .kind) n vs (a .margin) (a .horizon) (now (a .vertices)) (l .i) _ refl refl own-edge in
+    let own-edge : l .i < edgeCount (a .kind) n = omega
+    (arith, turn .before .before .before .before .before .edge-count .ensures) in
+    let made = rw (at-found .found .given .1, cut) at (turn .get-line-alone .ensures) ∙ alone-edge (a .agent)
+    (a .kind) n vs (a .margin) (a .horizon) (now (a .vertices)) (l .i) _ refl refl own-edge in
     let room : 4 * (a .count + l .own) + 4 ≤ length (l .numbers) = omega (arith, l .inv .5) in
     let stored = c .before .before .put-line .ensures ∙ stored-sets (l .numbers) (a .count + l .own) _ room in
     let left : l .i + 1 - 1 ≡ l .i = omega arith in
@@ -107,12 +108,16 @@ loop-again-2 c =
     )
 
 same-length : tie.Need-same-length Inv-loop μ-loop
-same-length c = c .before .before .before .before .before .before .before .loop .inv .5
-    ∙ sym (c .before .before .before .before .before .before .before .before .before .before .before .before .pre .0)
+same-length c =
+    let at-turn = c .before .before .before .before .before .before .before in
+    let start = at-turn .before .before .before .before .before in
+    at-turn .loop .inv .5 ∙ sym (start .pre .0)
 
 same-length-2 : tie.Need-same-length-2 Inv-loop μ-loop
-same-length-2 c = c .before .before .before .before .before .before .before .loop .inv .6
-    ∙ sym (c .before .before .before .before .before .before .before .before .before .before .before .before .pre .1)
+same-length-2 c =
+    let at-turn = c .before .before .before .before .before .before .before in
+    let start = at-turn .before .before .before .before .before in
+    at-turn .loop .inv .6 ∙ sym (start .pre .1)
 
 returns : tie.Need-returns Inv-loop μ-loop
 unfolding obstacleLines

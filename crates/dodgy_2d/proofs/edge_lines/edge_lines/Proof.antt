@@ -72,22 +72,27 @@ part-add-obstacle-start c = omega arith
 
 part-add-obstacle-end : tie.Need-part-add-obstacle-end Inv-loop μ-loop
 part-add-obstacle-end c =
-    let a = c .before .before .before .before .before .before .before .args in
-    let l = c .before .before .before .loop in
+    let at-turn = c .before .before .before in
+    let start = at-turn .before .before .before .before in
+    let a = start .args in
+    let l = at-turn .loop in
     let own = own-fine (a .t2) (a .t3) (a .n) (l .i) (omega arith) (omega arith) (l .offset) (now (a .vertices))
     (omega arith) (l .inv .5) in
-    rw (c .before .wide .ensures .0)
-    (own-there (a .t2) (a .t3) (a .n) (l .i) (omega arith) (omega arith) (l .offset) (now (a .vertices)) (l .inv .3) (own .0))
+    rw (c .before .wide .ensures .0) (own-there (a .t2) (a .t3) (a .n) (l .i) (omega arith) (omega arith)
+    (l .offset) (now (a .vertices)) (l .inv .3) (own .0))
 
 add-obstacle-requires : tie.Need-add-obstacle-requires Inv-loop μ-loop
 add-obstacle-requires c κs =
+    let at-wide = c .before .before .before .before in
+    let at-turn = at-wide .before .before in
     let start = c .before .before .before .before .before .before .before .before .before .before in
     let a = start .args in
-    let l = c .before .before .before .before .before .before .loop in
-    let wide = c .before .before .before .before .wide .ensures .0 in
+    let l = at-turn .loop in
+    let wide = at-wide .wide .ensures .0 in
     let own = own-fine (a .t2) (a .t3) (a .n) (l .i) (omega arith) (omega arith) (l .offset) (now (a .vertices))
     (omega arith) (l .inv .5) in
-    let room = own-room (a .t2) (a .t3) (a .n) (l .i) (omega arith) (omega arith) (l .offset) (now (a .vertices)) (own .0) in
+    let room = own-room (a .t2) (a .t3) (a .n) (l .i) (omega arith) (omega arith) (l .offset) (now (a .vertices))
+    (own .0) in
     let there = own-there (a .t2) (a .t3) (a .n) (l .i) (omega arith) (omega arith) (l .offset) (now (a .vertices))
     (l .inv .3) (own .0) in
     let h = headOf (getD (a .t2) (l .i) 0) (getD (a .t3) (l .i) 0) in
@@ -128,9 +133,12 @@ loop-again c =
     let counts : a .n ≤ length (a .t3) = omega (arith, start .pre .0) in
     let l = call .before .before .before .before .before .before .before .loop in
     let wide = call .before .before .before .before .before .wide .ensures .0 in
-    let own = own-fine (a .t2) (a .t3) (a .n) (l .i) kinds counts (l .offset) (now (a .vertices)) (omega arith) (l .inv .5) in
-    let room = rw (← wide) at (own-room (a .t2) (a .t3) (a .n) (l .i) kinds counts (l .offset) (now (a .vertices)) (own .0)) in
-    let there = own-there (a .t2) (a .t3) (a .n) (l .i) kinds counts (l .offset) (now (a .vertices)) (l .inv .3) (own .0) in
+    let own = own-fine (a .t2) (a .t3) (a .n) (l .i) kinds counts (l .offset) (now (a .vertices)) (omega arith)
+    (l .inv .5) in
+    let room = rw (← wide) at (own-room (a .t2) (a .t3) (a .n) (l .i) kinds counts (l .offset) (now (a .vertices))
+    (own .0)) in
+    let there = own-there (a .t2) (a .t3) (a .n) (l .i) kinds counts (l .offset) (now (a .vertices)) (l .inv .3)
+    (own .0) in
     let h = headOf (getD (a .t2) (l .i) 0) (getD (a .t3) (l .i) 0) in
     let added = c .before .before .added .given .1 in
     let lines-of = part-lines (a .agent) (a .margin) (a .horizon) (now (a .vertices)) (l .offset) h there in
@@ -144,16 +152,15 @@ loop-again c =
       room .1,
       rw wide there,
       call .add-obstacle .ensures .0,
-      rw wide (own .1),
       rw wide
-          (l .inv .6 ∙ edges-on (a .agent) (a .margin) (a .horizon) (now (a .vertices)) (a .t2) (a .t3)
-          (a .n) kinds counts (l .i) (l .offset)
-          (lines (linesOf (take (4 * l .count) (l .numbers)))) _ (omega arith) step),
+          (own .1),
+      rw wide (l .inv .6 ∙ edges-on (a .agent) (a .margin) (a .horizon) (now (a .vertices)) (a .t2)
+          (a .t3) (a .n) kinds counts (l .i) (l .offset) (lines (linesOf (take (4 * l .count) (l .numbers)))) _
+          (omega arith) step),
       call .add-obstacle .ensures .1,
       rw wide
-          (l .inv .8 ∙ origins-on (a .agent) (a .margin) (a .horizon) (now (a .vertices)) (a .t2) (a .t3)
-          (a .n) kinds counts (l .i)
-          (l .offset) (wallsIn (l .count) (l .walls)) _ (omega arith) noted),
+          (l .inv .8 ∙ origins-on (a .agent) (a .margin) (a .horizon) (now (a .vertices)) (a .t2) (a .t3) (a .n) kinds
+          counts (l .i) (l .offset) (wallsIn (l .count) (l .walls)) _ (omega arith) noted),
     )
 
 same-length-4 : tie.Need-same-length-4 Inv-loop μ-loop

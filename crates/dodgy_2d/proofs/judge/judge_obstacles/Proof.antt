@@ -24,30 +24,31 @@ loop-holds c = (omega arith, omega arith, refl)
 
 returns : tie.Need-returns Inv-loop μ-loop
 returns c =
-    let a = c .before .before .before .before .before .before .before .args in
-    let l = c .before .before .before .before .before .loop in
-    let step = rw (
-      c .enum-told2 .given .1,
-      c .before .before .before .wide .ensures .0,
-    ) at (c .before .before .judge-obstacle .ensures) in
-    rw (c .enum-told2 .given .1) (sym (l .inv .2
-    ∙ obstacle-stop (a .t1) (a .t2) (a .n) (l .i) (omega arith) (omega arith) (l .total) (now (a .vertices)) _
-    (omega arith) step))
+    let at-wide = c .before .before .before in
+    let at-turn = at-wide .before .before in
+    let start = at-turn .before .before in
+    let a = start .args in
+    let l = at-turn .loop in
+    let step = rw (c .enum-told2 .given .1, at-wide .wide .ensures .0)
+    at (c .before .before .judge-obstacle .ensures) in
+    rw (c .enum-told2 .given .1) (sym (l .inv .2 ∙ obstacle-stop (a .t1) (a .t2) (a .n) (l .i) (omega arith)
+    (omega arith) (l .total) (now (a .vertices)) _ (omega arith) step))
 
 loop-again : tie.Need-loop-again Inv-loop μ-loop
 loop-again c =
-    let a = c .before .before .before .before .before .before .before .before .args in
-    let l = c .before .before .before .before .before .before .loop in
-    let step = rw (
-      c .before .enum-told .given .1,
-      c .before .before .before .before .wide .ensures .0,
-    ) at (c .before .before .before .judge-obstacle .ensures) in (
+    let at-judge-obstacle = c .before .before .before in
+    let at-wide = at-judge-obstacle .before in
+    let at-turn = at-wide .before .before in
+    let start = at-turn .before .before in
+    let a = start .args in
+    let l = at-turn .loop in
+    let step = rw (c .before .enum-told .given .1, at-wide .wide .ensures .0)
+    at (at-judge-obstacle .judge-obstacle .ensures) in (
       omega arith,
-      rw (c .before .before .before .before .wide .ensures .0)
+      rw (at-wide .wide .ensures .0)
           (own-room (a .t1) (a .t2) (a .n) (l .i) (omega arith) (omega arith) (l .total) (now (a .vertices)) step .1),
-      rw (c .before .before .before .before .wide .ensures .0) (l .inv .2
-          ∙ obstacle-on (a .t1) (a .t2) (a .n) (l .i) (omega arith) (omega arith) (l .total) (now (a .vertices))
-          (omega arith) step),
+      rw (at-wide .wide .ensures .0) (l .inv .2 ∙ obstacle-on (a .t1) (a .t2) (a .n) (l .i) (omega arith)
+          (omega arith) (l .total) (now (a .vertices)) (omega arith) step),
     )
 
 returns-2 : tie.Need-returns-2 Inv-loop μ-loop

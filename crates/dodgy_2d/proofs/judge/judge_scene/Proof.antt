@@ -22,24 +22,28 @@ returns-2 c = simp (lt-leb _ _ (c .if1 .taken), c .before .enum-told .given .1, 
 
 returns-3 : tie.Need-returns-3
 unfolding sceneFault
-returns-3 c = simp (
-  c .enum-told4 .given .1,
-  ← c .before .before .judge-obstacles .ensures,
-  le-leb _ _ (c .before .before .before .before .before .before .before .if1 .left),
-  c .before .before .before .before .before .before .before .before .enum-told .given .1,
-  ← c .before .before .before .before .before .before .before .before .before .before .judge-cart .ensures,
-)
+returns-3 c =
+    let at-if = c .before .before .before .before .before .before .before in
+    simp (
+      c .enum-told4 .given .1,
+      ← c .before .before .judge-obstacles .ensures,
+      le-leb _ _ (at-if .if1 .left),
+      at-if .before .enum-told .given .1,
+      ← at-if .before .before .before .judge-cart .ensures,
+    )
 
 returns-4 : tie.Need-returns-4
 unfolding sceneFault
-returns-4 c = simp (
-  lt-leb _ _ (c .if2 .taken),
-  c .before .enum-told3 .given .1,
-  ← c .before .before .before .judge-obstacles .ensures,
-  le-leb _ _ (c .before .before .before .before .before .before .before .before .if1 .left),
-  c .before .before .before .before .before .before .before .before .before .enum-told .given .1,
-  ← c .before .before .before .before .before .before .before .before .before .before .before .judge-cart .ensures,
-)
+returns-4 c =
+    let at-if = c .before .before .before .before .before .before .before .before in
+    simp (
+      lt-leb _ _ (c .if2 .taken),
+      c .before .enum-told3 .given .1,
+      ← c .before .before .before .judge-obstacles .ensures,
+      le-leb _ _ (at-if .if1 .left),
+      at-if .before .enum-told .given .1,
+      ← at-if .before .before .before .judge-cart .ensures,
+    )
 
 part-judge-lines-end : tie.Need-part-judge-lines-end
 part-judge-lines-end c =
@@ -49,20 +53,21 @@ part-judge-lines-end c =
 
 returns-5 : tie.Need-returns-5
 unfolding sceneFault
-returns-5 c = simp (
-  le-leb _ _ (c .before .before .before .before .if2 .left),
-  c .before .before .before .before .before .enum-told3 .given .1,
-  ← c .before .before .before .before .before .before .before .judge-obstacles .ensures,
-  le-leb _ _
-      (c .before .before .before .before .before .before .before .before .before .before .before .before .if1 .left),
-  c .before .before .before .before .before .before .before .before .before .before .before .before .before .enum-told .given .1,
-  ← c .before .before .before .before .before .before .before .before .before .before .before .before .before .before .before .judge-cart .ensures,
-)
-    (let s =
-    c .before .before .before .before .before .before .before .before .before .before .before .before .before .before .before .before .args .scene in
-    let e : 4 * s .neighbours - 0 ≡ 4 * s .neighbours = omega arith in
-    c .judge-lines .ensures ∙ ap (λ (k : ℕ). linesFault (linesOf (take k (s .lines)))) e
-    ∙ ap linesFault (lines-take (s .lines) (s .neighbours)))
+returns-5 c =
+    let at-if = c .before .before .before .before in
+    let at-if-2 = at-if .before .before .before .before .before .before .before .before in
+    simp (
+      le-leb _ _ (at-if .if2 .left),
+      at-if .before .enum-told3 .given .1,
+      ← at-if .before .before .before .judge-obstacles .ensures,
+      le-leb _ _ (at-if-2 .if1 .left),
+      at-if-2 .before .enum-told .given .1,
+      ← at-if-2 .before .before .before .judge-cart .ensures,
+    )
+    (let s = at-if-2 .before .before .before .before .args .scene in let e : 4 * s .neighbours - 0 ≡ 4 *
+    s .neighbours = omega arith in c .judge-lines .ensures ∙ ap
+    (λ (k : ℕ). linesFault (linesOf (take k (s .lines)))) e ∙ ap linesFault
+    (lines-take (s .lines) (s .neighbours)))
 
 pub judge-scene-spec : {M : Type 1} → statement M
 judge-scene-spec =

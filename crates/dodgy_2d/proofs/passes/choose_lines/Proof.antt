@@ -24,36 +24,35 @@ returns c =
 
 mul-copy : tie.Need-mul-copy
 mul-copy c =
+    let at-made = c .before .before .before in
     let made = c .before .before .before .before .before .before .before .before .before in
-    omega (arith, rw (c .before .before .before .made .given .1) at (made .edge-lines .ensures .1))
+    omega (arith, rw (at-made .made .given .1) at (made .edge-lines .ensures .1))
 
 mul-copy-2 : tie.Need-mul-copy-2
 mul-copy-2 c =
-    let start =
-    c .before .before .before .before .before .before .before .before .before .before .before .before .before .before .before .before .before .before .before .before in
+    let start = c .before .before .before .before .before .before .before .before .before .before .before .before .before .before .before .before .before .before .before .before in
     omega (arith, parts (start .args .scene) (start .pre .0) .neighbours)
 
 copy-requires : tie.Need-copy-requires
 copy-requires c κs =
+    let at-made = c .before .before .before .before in
     let made = c .before .before .before .before .before .before .before .before .before .before in
     let start = made .before .before .before .before .before .before .before .before .before .before in
     let near = parts (start .args .scene) (start .pre .0) .neighbours in
-    let few = rw (c .before .before .before .before .made .given .1) at (made .edge-lines .ensures .1) in
+    let few = rw (at-made .made .given .1) at (made .edge-lines .ensures .1) in
     (omega (arith, near), omega (arith, near, few, made .edge-lines .ensures .0))
 
 returns-2 : tie.Need-returns-2
 returns-2 c =
+    let at-made = c .before .before .before .before .before .before .before in
     let made = c .before .before .before .before .before .before .before .before .before .before .before .before .before in
     let start = made .before .before .before .before .before .before .before .before .before .before in
     let s = start .args .scene in
-    let size : length (s .lines) ≡ 256 =
-    length-unmapped _ (s .lines) 256 (start .good .0 .1 .1 .1 .1 .1 .1 .1 .1 .1 .1 .1 .1 .0 .1 .0 .1) in
-    rw (c .before .before .copy .ensures)
-    (all-chosen s (start .args .velocity) _ _ _ (made .edge-lines .ensures .0) (made .edge-lines .ensures .4)
-    (made .edge-lines .ensures .2)
-    (made .edge-lines .ensures .3) (c .before .before .before .before .before .before .before .made .given .1)
-    (made .edge-lines .ensures .1)
-    (parts s (start .pre .0) .neighbours) size)
+    let size : length (s .lines) ≡ 256 = length-unmapped _ (s .lines) 256
+    (start .good .0 .1 .1 .1 .1 .1 .1 .1 .1 .1 .1 .1 .1 .0 .1 .0 .1) in
+    rw (c .before .before .copy .ensures) (all-chosen s (start .args .velocity) _ _ _ (made .edge-lines .ensures .0)
+    (made .edge-lines .ensures .4) (made .edge-lines .ensures .2) (made .edge-lines .ensures .3)
+    (at-made .made .given .1) (made .edge-lines .ensures .1) (parts s (start .pre .0) .neighbours) size)
 
 pub choose-lines-spec : {M : Type 1} → statement M
 choose-lines-spec =

@@ -4,7 +4,9 @@ use Rattle.dodgy_2d.proofs.passes.failed_origin.Statement.{statement}
 use Rattle.dodgy_2d.proofs.passes.failed_origin.Tie as tie
 
 origin-at-requires : tie.Need-origin-at-requires
-origin-at-requires c κs = c .before .before .before .before .before .before .before .pre
+origin-at-requires c κs =
+    let start = c .before .before .before .before .before .before .before in
+    start .pre
 
 returns : tie.Need-returns
 returns c = simp (c .before .before .failed .given .1, c .before .before .before .before .before .answer .given .1)

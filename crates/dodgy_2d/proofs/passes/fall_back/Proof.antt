@@ -21,34 +21,28 @@ returns c = (
 )
 
 returns-2 : tie.Need-returns-2
-returns-2 c = (
-  simp (
-    c .before .phase .given .1,
-    c .before .before .before .before .answer2 .given .1,
-    ← c .before .before .before .before .before .before .before .pass .ensures .0,
-  ),
-  c .before .before .before .before .before .before .before .pass .ensures .1,
-)
+returns-2 c =
+    let at-answer = c .before .before .before .before in
+    let at-pass = at-answer .before .before .before in (
+      simp (c .before .phase .given .1, at-answer .answer2 .given .1, ← at-pass .pass .ensures .0),
+      at-pass .pass .ensures .1,
+    )
 
 returns-3 : tie.Need-returns-3
-returns-3 c = (
-  simp (
-    c .before .phase2 .given .1,
-    c .before .before .before .before .answer2 .given .1,
-    ← c .before .before .before .before .before .before .before .pass .ensures .0,
-  ),
-  c .before .before .before .before .before .before .before .pass .ensures .1,
-)
+returns-3 c =
+    let at-answer = c .before .before .before .before in
+    let at-pass = at-answer .before .before .before in (
+      simp (c .before .phase2 .given .1, at-answer .answer2 .given .1, ← at-pass .pass .ensures .0),
+      at-pass .pass .ensures .1,
+    )
 
 returns-4 : tie.Need-returns-4
-returns-4 c = (
-  simp (
-    c .before .phase3 .given .1,
-    c .before .before .before .before .answer2 .given .1,
-    ← c .before .before .before .before .before .before .before .pass .ensures .0,
-  ),
-  c .before .before .before .before .before .before .before .pass .ensures .1,
-)
+returns-4 c =
+    let at-answer = c .before .before .before .before in
+    let at-pass = at-answer .before .before .before in (
+      simp (c .before .phase3 .given .1, at-answer .answer2 .given .1, ← at-pass .pass .ensures .0),
+      at-pass .pass .ensures .1,
+    )
 
 pub fall-back-spec : {M : Type 1} → statement M
 fall-back-spec =

@@ -34,17 +34,21 @@ mul-solve-linear-program c =
 
 part-solve-linear-program-end : tie.Need-part-solve-linear-program-end
 part-solve-linear-program-end c =
+    let at-chosen = c .before .before .before in
     let chosen = c .before .before .before .before .before .before .before in
     let start = chosen .before .before .before in
-    let few = rw (c .before .before .before .chosen2 .given .1) at (chosen .choose-lines .ensures .few) in
+    let few = rw (at-chosen .chosen2 .given .1) at (chosen .choose-lines .ensures .few) in
     omega (arith, parts (start .args .scene) (start .pre) .neighbours, few, chosen .choose-lines .ensures .room .0)
 
 failed-origin-requires : tie.Need-failed-origin-requires
 failed-origin-requires c κs =
+    let at-chosen = c .before .before .before .before .before .before in
     let chosen = c .before .before .before .before .before .before .before .before .before .before in
     let start = chosen .before .before .before in
-    let few = rw (c .before .before .before .before .before .before .chosen2 .given .1) at (chosen .choose-lines .ensures .few) in
-    (omega (arith, few, chosen .choose-lines .ensures .room .1), parts (start .args .scene) (start .pre) .neighbours)
+    let few = rw (at-chosen .chosen2 .given .1) at (chosen .choose-lines .ensures .few) in (
+      omega (arith, few, chosen .choose-lines .ensures .room .1),
+      parts (start .args .scene) (start .pre) .neighbours,
+    )
 
 returns : tie.Need-returns
 unfolding passAt
@@ -57,17 +61,18 @@ returns c =
 
 returns-2 : tie.Need-returns-2
 returns-2 c =
-    let same = c .before .before .before .before .before .before .before .chosen2 .given .1 in
+    let at-chosen = c .before .before .before .before .before .before .before in
+    let same = at-chosen .chosen2 .given .1 in
     let made = c .before .before .before .before .before .before .before .before .before .before .before in
     let chosen = made .choose-lines .ensures in
     let start = made .before .before .before in
     let s = start .args .scene in
     let v = start .args .velocity in
-    let rigid = c .before .before .before .before .before .before .before .chosen2 .given .0 .0 in
+    let rigid = at-chosen .chosen2 .given .0 .0 in
     let part : 4 * (rigid + s .neighbours) - 0 ≡ 4 * (rigid + s .neighbours) = omega arith in
-    let whole : listOutcomeOf (c .before .before .solve-linear-program .result) ≡ passAt s v =
-    c .before .before .solve-linear-program .ensures
-    ∙ rw part (pass-solved s v _ rigid (start .pre) (rw same at (chosen .few)) (chosen .room .0)
+    let whole : listOutcomeOf (c .before .before .solve-linear-program .result) ≡ passAt s v
+    = c .before .before .solve-linear-program .ensures ∙ rw part
+    (pass-solved s v _ rigid (start .pre) (rw same at (chosen .few)) (chosen .room .0)
     (rw same at (chosen .rigid)) (rw same at (chosen .all))) in
     (whole, c .failed-origin .ensures ∙ pass-origin s v _ _ (walls-told (chosen .noted) same) whole)
 

@@ -7,11 +7,12 @@ use Rattle.dodgy_2d.proofs.passes.solve.Tie as tie
 
 fall-back-requires : tie.Need-fall-back-requires
 fall-back-requires c κs =
+    let at-answer = c .before .before .before in
+    let at-pass = at-answer .before .before .before in
     let start = c .before .before .before .before .before .before .before in (
       start .pre,
       pass-fits (start .args .scene) (start .args .scene .agent .velocity) (start .pre)
-          (rw
-          (c .before .before .before .answer2 .given .1) at (c .before .before .before .before .before .before .pass .ensures .0)),
+          (rw (at-answer .answer2 .given .1) at (at-pass .pass .ensures .0)),
     )
 
 returns : tie.Need-returns
@@ -22,27 +23,23 @@ returns c =
 
 returns-2 : tie.Need-returns-2
 returns-2 c =
-    let told = rw (
-      c .before .before .before .before .answer2 .given .1,
-      c .before .phase .given .1,
-    ) at (c .before .before .before .before .before .before .before .pass .ensures .0) in
-    (rw (← told), rw (← told) (c .before .before .before .before .before .before .before .pass .ensures .1))
+    let at-answer = c .before .before .before .before in
+    let at-pass = at-answer .before .before .before in
+    let told = rw (at-answer .answer2 .given .1, c .before .phase .given .1) at (at-pass .pass .ensures .0) in
+    (rw (← told), rw (← told) (at-pass .pass .ensures .1))
 
 returns-3 : tie.Need-returns-3
 returns-3 c =
-    let told = rw (
-      c .before .before .before .before .answer2 .given .1,
-      c .before .phase2 .given .1,
-    ) at (c .before .before .before .before .before .before .before .pass .ensures .0) in
-    (rw (← told), rw (← told) (c .before .before .before .before .before .before .before .pass .ensures .1))
+    let at-answer = c .before .before .before .before in
+    let at-pass = at-answer .before .before .before in
+    let told = rw (at-answer .answer2 .given .1, c .before .phase2 .given .1) at (at-pass .pass .ensures .0) in
+    (rw (← told), rw (← told) (at-pass .pass .ensures .1))
 
 returns-4 : tie.Need-returns-4
 returns-4 c =
-    let told = rw (
-      c .before .before .before .before .answer2 .given .1,
-      c .before .enum-told .given .1,
-    ) at (c .before .before .before .before .before .before .before .pass .ensures .0)
-    in
+    let at-answer = c .before .before .before .before in
+    let at-pass = at-answer .before .before .before in
+    let told = rw (at-answer .answer2 .given .1, c .before .enum-told .given .1) at (at-pass .pass .ensures .0) in
     (rw (← told) (c .fall-back .ensures .0), rw (← told) (c .fall-back .ensures .1))
 
 pub solve-spec : {M : Type 1} → statement M

@@ -6,16 +6,18 @@ use Rattle.edges.proofs.collision.edge_shape.Tie as tie
 
 returns : tie.Need-returns
 unfolding shapeOf
-returns c = simp (
-  ← c .length-squared3 .ensures,
-  ← c .before .length-squared2 .ensures,
-  ← c .before .before .normalize .ensures,
-  ← c .before .before .before .distance-squared .ensures,
-  ← c .before .before .before .before .mul .ensures,
-  ← c .before .before .before .before .before .length-squared .ensures,
-  ← c .before .before .before .before .before .before .dot .ensures,
-  ← c .before .before .before .before .before .before .before .neg .ensures,
-)
+returns c =
+    let at-mul = c .before .before .before .before in
+    simp (
+      ← c .length-squared3 .ensures,
+      ← c .before .length-squared2 .ensures,
+      ← c .before .before .normalize .ensures,
+      ← c .before .before .before .distance-squared .ensures,
+      ← at-mul .mul .ensures,
+      ← at-mul .before .length-squared .ensures,
+      ← at-mul .before .before .dot .ensures,
+      ← at-mul .before .before .before .neg .ensures,
+    )
 
 pub edge-shape-spec : {M : Type 1} → statement M
 edge-shape-spec =

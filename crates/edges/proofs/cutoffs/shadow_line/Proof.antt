@@ -11,26 +11,30 @@ returns c = simp (c .if1 .taken)
 
 returns-2 : tie.Need-returns-2
 unfolding shadowLine besideShadow if_then_else_
-returns-2 c = simp (
-  ← c .new .ensures,
-  ← c .before .add .ensures,
-  c .before .before .enum-told .given .1,
-  ← c .before .before .before .before .mul .ensures,
-  ← c .before .before .before .before .before .perp .ensures,
-  c .before .before .before .before .before .before .before .if1 .left,
-)
+returns-2 c =
+    let at-mul = c .before .before .before .before in
+    simp (
+      ← c .new .ensures,
+      ← c .before .add .ensures,
+      c .before .before .enum-told .given .1,
+      ← at-mul .mul .ensures,
+      ← at-mul .before .perp .ensures,
+      at-mul .before .before .before .if1 .left,
+    )
 
 returns-3 : tie.Need-returns-3
 unfolding shadowLine besideShadow if_then_else_
-returns-3 c = simp (
-  ← c .new2 .ensures,
-  ← c .before .neg .ensures,
-  ← c .before .before .sub .ensures,
-  c .before .before .before .enum-told2 .given .1,
-  ← c .before .before .before .before .before .mul .ensures,
-  ← c .before .before .before .before .before .before .perp .ensures,
-  c .before .before .before .before .before .before .before .before .if1 .left,
-)
+returns-3 c =
+    let at-mul = c .before .before .before .before .before in
+    simp (
+      ← c .new2 .ensures,
+      ← c .before .neg .ensures,
+      ← c .before .before .sub .ensures,
+      c .before .before .before .enum-told2 .given .1,
+      ← at-mul .mul .ensures,
+      ← at-mul .before .perp .ensures,
+      at-mul .before .before .before .if1 .left,
+    )
 
 pub shadow-line-spec : {M : Type 1} → statement M
 shadow-line-spec =

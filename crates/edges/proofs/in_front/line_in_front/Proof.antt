@@ -21,30 +21,34 @@ returns-2 c = simp (
 
 returns-3 : tie.Need-returns-3
 unfolding lineInFront if_then_else_
-returns-3 c = simp (
-  ← c .new .ensures,
-  ← c .before .neg .ensures,
-  c .before .before .if3 .taken,
-  ← c .before .before .before .reaches3 .ensures,
-  ← c .before .before .before .before .in-unit .ensures,
-  c .before .before .before .before .before .if2 .left,
-  ← c .before .before .before .before .before .before .reaches2 .ensures,
-  c .before .before .before .before .before .before .before .before .if1 .left,
-  ← c .before .before .before .before .before .before .before .before .before .reaches .ensures,
-)
+returns-3 c =
+    let at-in-unit = c .before .before .before .before in
+    simp (
+      ← c .new .ensures,
+      ← c .before .neg .ensures,
+      c .before .before .if3 .taken,
+      ← c .before .before .before .reaches3 .ensures,
+      ← at-in-unit .in-unit .ensures,
+      at-in-unit .before .if2 .left,
+      ← at-in-unit .before .before .reaches2 .ensures,
+      at-in-unit .before .before .before .before .if1 .left,
+      ← at-in-unit .before .before .before .before .before .reaches .ensures,
+    )
 
 returns-4 : tie.Need-returns-4
 unfolding lineInFront if_then_else_
-returns-4 c = simp (
-  ← c .line-past .ensures,
-  c .before .if3 .left,
-  ← c .before .before .reaches3 .ensures,
-  ← c .before .before .before .in-unit .ensures,
-  c .before .before .before .before .if2 .left,
-  ← c .before .before .before .before .before .reaches2 .ensures,
-  c .before .before .before .before .before .before .before .if1 .left,
-  ← c .before .before .before .before .before .before .before .before .reaches .ensures,
-)
+returns-4 c =
+    let at-if = c .before .before .before .before in
+    simp (
+      ← c .line-past .ensures,
+      c .before .if3 .left,
+      ← c .before .before .reaches3 .ensures,
+      ← c .before .before .before .in-unit .ensures,
+      at-if .if2 .left,
+      ← at-if .before .reaches2 .ensures,
+      at-if .before .before .before .if1 .left,
+      ← at-if .before .before .before .before .reaches .ensures,
+    )
 
 pub line-in-front-spec : {M : Type 1} → statement M
 line-in-front-spec =

@@ -77,17 +77,19 @@ fault-unless-requires c κs = search needs
 
 returns-6 : tie.Need-returns-6
 unfolding headFault
-returns-6 c = simp (
-  c .fault-unless .ensures,
-  ← c .before .word-at2 .ensures,
-  le-leb 4 _ (c .before .before .before .before .before .before .before .before .if1 .left),
-  ← c .before .before .before .before .before .before .before .word-at .ensures,
-  eq-eqb _ _ (c .before .before .before .before .before .before .if2 .left),
-  le-leb 5 _ (c .before .before .before .before .before .if3 .left),
-  ← c .before .before .before .before .version-of .ensures,
-  eq-eqb _ _ (c .before .before .before .if4 .left),
-  le-leb 13 _ (c .before .before .if5 .left),
-)
+returns-6 c =
+    let at-version-of = c .before .before .before .before in
+    simp (
+      c .fault-unless .ensures,
+      ← c .before .word-at2 .ensures,
+      le-leb 4 _ (at-version-of .before .before .before .before .if1 .left),
+      ← at-version-of .before .before .before .word-at .ensures,
+      eq-eqb _ _ (at-version-of .before .before .if2 .left),
+      le-leb 5 _ (at-version-of .before .if3 .left),
+      ← at-version-of .version-of .ensures,
+      eq-eqb _ _ (c .before .before .before .if4 .left),
+      le-leb 13 _ (c .before .before .if5 .left),
+    )
 
 pub judge-head-spec : {M : Type 1} → statement M
 judge-head-spec =

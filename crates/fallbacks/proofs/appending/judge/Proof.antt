@@ -6,10 +6,8 @@ use Rattle.fallbacks.proofs.appending.judge.Tie as tie
 
 same-length : tie.Need-same-length
 same-length c =
-    let side =
-    c .before .before .before .before .before .before .before .before .before .before .before .before .before .before .before .before in
-    let head =
-    side .before .before .before .before .before .before .before .before .before .before .before .before .before .before in
+    let side = c .before .before .before .before .before .before .before .before .before .before .before .before .before .before .before .before in
+    let head = side .before .before .before .before .before .before .before .before .before .before .before .before .before .before in
     omega (arith, head .read-at .kept .1 .1 .1 .0)
 
 pub judge-spec : {M : Type 1} → statement M

@@ -9,7 +9,9 @@ use Rattle.fallbacks.proofs.building.turn.Statement.{statement}
 use Rattle.fallbacks.proofs.building.turn.Tie as tie
 
 returns : tie.Need-returns
-returns c = (unread refl, c .before .before .before .before .before .before .before .before .pre .0)
+returns c =
+    let start = c .before .before .before .before .before .before .before .before in
+    (unread refl, start .pre .0)
 
 returns-2 : tie.Need-returns-2
 returns-2 c =

@@ -6,8 +6,7 @@ use Rattle.fallbacks.proofs.questions.ask.Tie as tie
 
 same-length : tie.Need-same-length
 same-length c =
-    let second =
-    c .before .before .before .before .before .before .before .before .before .before .before .before .before .before .before .before .before .before in
+    let second = c .before .before .before .before .before .before .before .before .before .before .before .before .before .before .before .before .before .before in
     let head = second .before .before .before .before .before .before .before .before .before .before .before .before in
     omega (arith, head .read-at .kept .1 .1 .1 .0)
 

@@ -16,12 +16,13 @@ returns-2 c =
 
 cast-put-start-2 : tie.Need-cast-put-start-2
 cast-put-start-2 c =
+    let at-if = c .before .before .before .before .before in
     let start = c .before .before .before .before .before .before .before .before .before in
     let a = start .args in
     omega (
       arith,
       few-records (a .most) (now (a .log)) (now (a .buffer)) (a .extent) (reached-end _ _ (start .pre .1)),
-      c .before .before .before .before .before .if1 .left,
+      at-if .if1 .left,
       start .pre .0,
     )
 
@@ -44,14 +45,14 @@ fill-requires c κs =
 
 returns-3 : tie.Need-returns-3
 returns-3 c =
+    let at-start-2 = c .before .before .before .before in
     let put = c .before .before .before .before .before .before .before in
     let room = put .before .before .before .before in
     let start = room .before .before .before .before .before .before in
     build-done _ _ _ _ (reached-end _ _ (start .pre .1)) (room .before .before .if1 .left)
     (omega (arith, room .if2 .left, room .before .entry-at .ensures)) _
-    (omega (arith, room .before .entry-at .ensures))
-    _ _ (put .put-start .ensures)
-    (rw (c .before .before .before .before .at-start .ensures) at (c .before .before .fill .ensures))
+    (omega (arith, room .before .entry-at .ensures)) _ _ (put .put-start .ensures)
+    (rw (at-start-2 .at-start .ensures) at (c .before .before .fill .ensures))
 
 pub store-whole-spec : {M : Type 1} → statement M
 store-whole-spec =

@@ -29,20 +29,22 @@ put-word-requires-3 : tie.Need-put-word-requires-3
 put-word-requires-3 c κs = search needs
 
 same-length : tie.Need-same-length
-same-length c = omega (
-  arith,
-  c .before .before .put-word3 .kept .0,
-  simp length-set at (c .before .before .before .before .before .before .put-word2 .kept .0),
-  c .before .before .before .before .before .before .before .before .before .before .put-word .kept .0,
-)
+same-length c =
+    let at-put-word = c .before .before .before .before .before .before in
+    let at-put-word-2 = at-put-word .before .before .before .before in
+    omega (
+      arith,
+      c .before .before .put-word3 .kept .0,
+      simp length-set at (at-put-word .put-word2 .kept .0),
+      at-put-word-2 .put-word .kept .0,
+    )
 
 returns : tie.Need-returns
 unfolding head wordBytes
-returns c = rw (
-  c .before .before .put-word3 .ensures,
-  c .before .before .before .before .before .before .put-word2 .ensures,
-  c .before .before .before .before .before .before .before .before .before .before .put-word .ensures,
-)
+returns c =
+    let at-put-word = c .before .before .before .before .before .before in
+    let at-put-word-2 = at-put-word .before .before .before .before in
+    rw (c .before .before .put-word3 .ensures, at-put-word .put-word2 .ensures, at-put-word-2 .put-word .ensures)
 
 pub put-head-spec : {M : Type 1} → statement M
 put-head-spec =

@@ -6,16 +6,18 @@ use Rattle.linear_programming.proofs.judge.judge_wish.Tie as tie
 
 returns : tie.Need-returns
 unfolding wishFault
-returns c = simp (
-  ← c .first-of2 .ensures,
-  ← c .before .first-of .ensures,
-  ← c .before .before .fault-unless3 .ensures,
-  ← c .before .before .before .is-inside .ensures,
-  ← c .before .before .before .before .fault-unless2 .ensures,
-  ← c .before .before .before .before .before .is-within2 .ensures,
-  ← c .before .before .before .before .before .before .fault-unless .ensures,
-  ← c .before .before .before .before .before .before .before .is-within .ensures,
-)
+returns c =
+    let at-fault-unless = c .before .before .before .before in
+    simp (
+      ← c .first-of2 .ensures,
+      ← c .before .first-of .ensures,
+      ← c .before .before .fault-unless3 .ensures,
+      ← c .before .before .before .is-inside .ensures,
+      ← at-fault-unless .fault-unless2 .ensures,
+      ← at-fault-unless .before .is-within2 .ensures,
+      ← at-fault-unless .before .before .fault-unless .ensures,
+      ← at-fault-unless .before .before .before .is-within .ensures,
+    )
 
 pub judge-wish-spec : {M : Type 1} → statement M
 judge-wish-spec =

@@ -31,12 +31,13 @@ returns-2 c = simp (c .before .pass .given .1)
 returns-3 : tie.Need-returns-3
 unfolding afterPass if_then_else_
 returns-3 c =
+    let at-pass = c .before .before .before .before in
     let start = c .before .before .before .before .before .before .before in
-    let parts = c .before .before .before .before .pass2 .given .0 in
+    let parts = at-pass .pass2 .given .0 in
     let short = taken-most (start .args .count) (linesOf (now (start .args .lines))) (start .pre .0) in
     let relaxed = relaxed-behind _ _ _ short _ _ _ (failedLine (failureOf (parts .0))) (parts .1 .1 .0) _
     (c .before .solve-linear-program-3d .ensures) in
-    simp (le-ltb _ _ (c .before .before .if1 .left), c .before .before .before .before .pass2 .given .1)
+    simp (le-ltb _ _ (c .before .before .if1 .left), at-pass .pass2 .given .1)
     (c .relaxed-answer .ensures ∙ relaxed)
 
 returns-4 : tie.Need-returns-4

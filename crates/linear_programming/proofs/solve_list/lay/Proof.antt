@@ -21,14 +21,15 @@ loop-holds c = (search needs, search needs, refl)
 
 loop-again : tie.Need-loop-again Inv-loop μ-loop
 loop-again c =
-    let l = c .before .before .before .before .before .before .loop in (
+    let at-turn = c .before .before .before .before .before .before in
+    let start = at-turn .before .before in
+    let l = at-turn .loop in (
       omega arith,
       c .before .before .put-line .kept .0 ∙ l .inv .1,
       rw (
         c .before .before .put-line .ensures,
         stored-next (l .numbers) (l .n) _ (omega arith),
-        take-next (c .before .before .before .before .before .before .before .before .args .t1) (l .n)
-            (omega arith) offLine,
+        take-next (start .args .t1) (l .n) (omega arith) offLine,
         l .inv .2,
       ),
     )

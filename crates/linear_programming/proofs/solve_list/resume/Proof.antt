@@ -28,20 +28,21 @@ relaxed-answer-requires c κs =
 returns : tie.Need-returns
 unfolding resumed
 returns c =
+    let at-phase = c .before .before .before .before in
     let start = c .before .before .before .before .before .before .before in
     let short = taken-most (start .args .count) (linesOf (now (start .args .lines))) (start .pre) in
     let pass = c .before .resume-linear-program-2d .ensures ∙ few-resumed _ _ _ short _ _ in
-    simp (← c .after-pass .ensures, ← pass, ← c .before .before .new .ensures, c .before .before .before .before .phase .given .1)
+    simp (← c .after-pass .ensures, ← pass, ← c .before .before .new .ensures, at-phase .phase .given .1)
 
 returns-2 : tie.Need-returns-2
 unfolding resumed
 returns-2 c =
+    let at-phase = c .before .before .before .before in
     let start = c .before .before .before .before .before .before .before in
     let short = taken-most (start .args .count) (linesOf (now (start .args .lines))) (start .pre) in
     let relaxed = relaxed-behind _ _ _ short _ _ _ (failedOf (start .args .failed)) 0 _
     (c .before .solve-linear-program-3d .ensures) in
-    simp (← c .before .before .new2 .ensures, c .before .before .before .before .phase2 .given .1)
-    (c .relaxed-answer .ensures ∙ relaxed)
+    simp (← c .before .before .new2 .ensures, at-phase .phase2 .given .1) (c .relaxed-answer .ensures ∙ relaxed)
 
 returns-3 : tie.Need-returns-3
 unfolding resumed

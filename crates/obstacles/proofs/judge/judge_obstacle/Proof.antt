@@ -22,20 +22,24 @@ returns-2 c = simp (
 
 mul-fault-unless : tie.Need-mul-fault-unless
 mul-fault-unless c =
-    let passed =
-    rw (c .before .before .before .before .enum-told .given .1) at (c .before .before .before .before .before .before .judge-head .ensures) in
-    let room = head-room 0 (c .before .before .before .before .before .before .before .before .args .head) (sym passed) in
+    let at-told = c .before .before .before .before in
+    let at-judge-head = at-told .before .before in
+    let start = at-judge-head .before .before in
+    let passed = rw (at-told .enum-told .given .1) at (at-judge-head .judge-head .ensures) in
+    let room = head-room 0 (start .args .head) (sym passed) in
     omega (arith, room .0)
 
 returns-3 : tie.Need-returns-3
 unfolding obstacleFault
-returns-3 c = simp (
-  ← c .fault-unless .ensures,
-  c .before .before .enum-told3 .given .1,
-  ← c .before .before .before .before .judge-outline .ensures,
-  c .before .before .before .before .before .enum-told .given .1,
-  ← c .before .before .before .before .before .before .before .judge-head .ensures,
-)
+returns-3 c =
+    let at-judge-outline = c .before .before .before .before in
+    simp (
+      ← c .fault-unless .ensures,
+      c .before .before .enum-told3 .given .1,
+      ← at-judge-outline .judge-outline .ensures,
+      at-judge-outline .before .enum-told .given .1,
+      ← at-judge-outline .before .before .before .judge-head .ensures,
+    )
 
 pub judge-obstacle-spec : {M : Type 1} → statement M
 judge-obstacle-spec =

@@ -62,15 +62,15 @@ loop-less c = omega arith
 
 loop-again : tie.Need-loop-again Inv-loop μ-loop
 loop-again c =
-    let a =
-    c .before .before .before .before .before .before .before .before .before .before .before .before .before .before .before .args in
-    let l = c .before .before .before .before .before .before .before .before .before .before .before .loop in
+    let at-admitted = c .before .before .before .before .before in
+    let at-admitted-line = at-admitted .before .before in
+    let at-turn = at-admitted-line .before .before .before .before in
+    let start = at-turn .before .before .before .before in
+    let a = start .args in
+    let l = at-turn .loop in
     let n = length (now (a .vertices)) / 2 in
     let few : l .count < 64 = omega arith in
-    let made = rw (
-      c .before .before .before .before .before .admitted .given .1,
-      sub-zero,
-    ) at (c .before .before .before .before .before .before .before .admitted-line .ensures) in
+    let made = rw (at-admitted .admitted .given .1, sub-zero) at (at-admitted-line .admitted-line .ensures) in
     let room : 4 * l .count + 4 ≤ length (l .lines) = omega (arith, l .inv .4 .size) in
     let stored = c .before .before .put-line .ensures ∙ stored-sets (l .lines) (l .count) _ room in (
       omega arith,
@@ -88,8 +88,10 @@ loop-less-2 c = omega arith
 
 loop-again-2 : tie.Need-loop-again-2 Inv-loop μ-loop
 loop-again-2 c =
-    let a = c .before .before .before .before .before .before .before .before .before .before .args in
-    let l = c .before .before .before .before .before .before .loop in
+    let at-turn = c .before .before .before .before .before .before in
+    let start = at-turn .before .before .before .before in
+    let a = start .args in
+    let l = at-turn .loop in
     let n = length (now (a .vertices)) / 2 in
     let made = rw (c .enum-told .given .1, sub-zero) at (c .before .before .admitted-line .ensures) in (
       omega arith,
@@ -97,25 +99,29 @@ loop-again-2 c =
       l .inv .2,
       l .inv .3,
       l .inv .4,
-      add-nothing (a .agent) (a .kind) n (verticesOf (now (a .vertices))) (a .margin) (a .horizon) (l .i) _
-          (l .inv .5) made,
+      add-nothing (a .agent) (a .kind) n
+          (verticesOf (now (a .vertices))) (a .margin) (a .horizon) (l .i) _ (l .inv .5) made,
     )
 
 same-length : tie.Need-same-length Inv-loop μ-loop
-same-length c = c .before .before .before .before .before .before .before .loop .inv .4 .size
-    ∙ sym
-    (blank-long _ (c .before .before .before .before .before .before .before .before .before .before .before .pre .1))
+same-length c =
+    let at-turn = c .before .before .before .before .before .before .before in
+    let start = at-turn .before .before .before .before in
+    at-turn .loop .inv .4 .size ∙ sym (blank-long _ (start .pre .1))
 
 returns : tie.Need-returns Inv-loop μ-loop
 unfolding obstacleLines
 returns c =
-    let a = c .before .before .before .before .before .before .before .before .before .before .before .args in
-    let l = c .before .before .before .before .before .before .before .loop in
+    let at-admitted-line = c .before .before .before in
+    let at-turn = at-admitted-line .before .before .before .before in
+    let at-edge-count = at-turn .before in
+    let start = at-edge-count .before .before .before in
+    let a = start .args in
+    let l = at-turn .loop in
     let n = length (now (a .vertices)) / 2 in
-    let made = rw (c .before .admitted2 .given .1, sub-zero) at (c .before .before .before .admitted-line .ensures) in
+    let made = rw (c .before .admitted2 .given .1, sub-zero) at (at-admitted-line .admitted-line .ensures) in
     rw (add-refused (a .agent) (a .kind) n (verticesOf (now (a .vertices))) (a .margin) (a .horizon) (l .i)
-    (edgeCount (a .kind) n) _ _ (l .inv .5) made
-    (omega (arith, c .before .before .before .before .before .before .before .before .edge-count .ensures)))
+    (edgeCount (a .kind) n) _ _ (l .inv .5) made (omega (arith, at-edge-count .edge-count .ensures)))
 
 same-length-2 : tie.Need-same-length-2 Inv-loop μ-loop
 same-length-2 c = c .before .loop .inv .4 .size ∙ sym (blank-long _ (c .before .before .before .before .before .pre .1))

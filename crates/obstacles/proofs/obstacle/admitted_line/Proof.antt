@@ -14,23 +14,27 @@ returns c = simp (
 
 returns-2 : tie.Need-returns-2
 unfolding admitted
-returns-2 c = simp (
-  c .enum-told3 .given .1,
-  ← c .before .before .judge-line .ensures,
-  c .before .before .before .before .made .given .1,
-  ← c .before .before .before .before .before .before .get-line-for-agent-to-edge .ensures,
-  ← c .before .before .before .before .before .before .before .edge-at .ensures,
-)
+returns-2 c =
+    let at-made = c .before .before .before .before in
+    simp (
+      c .enum-told3 .given .1,
+      ← c .before .before .judge-line .ensures,
+      at-made .made .given .1,
+      ← at-made .before .before .get-line-for-agent-to-edge .ensures,
+      ← at-made .before .before .before .edge-at .ensures,
+    )
 
 returns-3 : tie.Need-returns-3
 unfolding admitted
-returns-3 c = simp (
-  c .enum-told2 .given .1,
-  ← c .before .before .judge-line .ensures,
-  c .before .before .before .before .made .given .1,
-  ← c .before .before .before .before .before .before .get-line-for-agent-to-edge .ensures,
-  ← c .before .before .before .before .before .before .before .edge-at .ensures,
-)
+returns-3 c =
+    let at-made = c .before .before .before .before in
+    simp (
+      c .enum-told2 .given .1,
+      ← c .before .before .judge-line .ensures,
+      at-made .made .given .1,
+      ← at-made .before .before .get-line-for-agent-to-edge .ensures,
+      ← at-made .before .before .before .edge-at .ensures,
+    )
 
 pub admitted-line-spec : {M : Type 1} → statement M
 admitted-line-spec =

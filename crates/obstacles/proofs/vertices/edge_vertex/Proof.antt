@@ -10,16 +10,18 @@ returns c = simp (c .if1 .taken, ← c .before .is-end .ensures, ← c .before .
 
 returns-2 : tie.Need-returns-2
 unfolding edgeVertexAt
-returns-2 c = simp (
-  ← c .is-convex .ensures,
-  ← c .before .vertex-at3 .ensures,
-  ← c .before .before .next-index .ensures .0,
-  ← c .before .before .before .vertex-at2 .ensures,
-  ← c .before .before .before .before .previous-index .ensures .0,
-  c .before .before .before .before .before .if1 .left,
-  ← c .before .before .before .before .before .before .is-end .ensures,
-  ← c .before .before .before .before .before .before .before .vertex-at .ensures,
-)
+returns-2 c =
+    let at-previous-index = c .before .before .before .before in
+    simp (
+      ← c .is-convex .ensures,
+      ← c .before .vertex-at3 .ensures,
+      ← c .before .before .next-index .ensures .0,
+      ← c .before .before .before .vertex-at2 .ensures,
+      ← at-previous-index .previous-index .ensures .0,
+      at-previous-index .before .if1 .left,
+      ← at-previous-index .before .before .is-end .ensures,
+      ← at-previous-index .before .before .before .vertex-at .ensures,
+    )
 
 pub edge-vertex-spec : {M : Type 1} → statement M
 edge-vertex-spec =

@@ -17,15 +17,17 @@ returns c = simp (
 
 returns-2 : tie.Need-returns-2
 unfolding choose if_then_else_
-returns-2 c = simp (
-  ← c .point-on3 .ensures,
-  ← c .before .clamp .ensures,
-  ← c .before .before .dot2 .ensures,
-  ← c .before .before .before .sub .ensures,
-  ← c .before .before .before .before .new2 .ensures,
-  c .before .before .before .before .before .if2 .taken,
-  c .before .before .before .before .before .before .before .optimal-value2 .given .1,
-)
+returns-2 c =
+    let at-new = c .before .before .before .before in
+    simp (
+      ← c .point-on3 .ensures,
+      ← c .before .clamp .ensures,
+      ← c .before .before .dot2 .ensures,
+      ← c .before .before .before .sub .ensures,
+      ← at-new .new2 .ensures,
+      at-new .before .if2 .taken,
+      at-new .before .before .before .optimal-value2 .given .1,
+    )
 
 returns-3 : tie.Need-returns-3
 unfolding choose if_then_else_

@@ -28,29 +28,32 @@ loop-holds c = (omega arith, refl, refl)
 
 returns : tie.Need-returns Inv-loop μ-loop
 returns c =
-    let a = c .before .before .before .before .before .before .before .args in
-    let l = c .before .before .before .before .before .loop in
-    let step = rw (
-      c .enum-told .given .1,
-      c .before .before .before .line-at .ensures,
-    ) at (c .before .before .narrow-by .ensures) in
-    rw (c .enum-told .given .1) (sym (l .inv .2
-    ∙ fold-stop (narrow (a .line)) (linesOf (now (a .lines))) (a .count) (l .i)
-    (lines-fit (now (a .lines)) (a .count) (omega arith)) offLine (omega arith) (sym step)
+    let at-line-at = c .before .before .before in
+    let at-turn = at-line-at .before .before in
+    let start = at-turn .before .before in
+    let a = start .args in
+    let l = at-turn .loop in
+    let step = rw (c .enum-told .given .1, at-line-at .line-at .ensures) at (c .before .before .narrow-by .ensures)
+    in
+    rw (c .enum-told .given .1) (sym (l .inv .2 ∙ fold-stop (narrow (a .line)) (linesOf (now (a .lines))) (a .count)
+    (l .i) (lines-fit (now (a .lines)) (a .count) (omega arith)) offLine (omega arith) (sym step)
     (empty-stays (a .line) _ _)))
 
 loop-again : tie.Need-loop-again Inv-loop μ-loop
 loop-again c =
-    let a = c .before .before .before .before .before .before .before .before .args in
-    let l = c .before .before .before .before .before .before .loop in
-    let step = rw (
-      c .before .interval .given .1,
-      c .before .before .before .before .line-at .ensures,
-    ) at (c .before .before .before .narrow-by .ensures) in (
+    let at-narrow-by = c .before .before .before in
+    let at-line-at = at-narrow-by .before in
+    let at-turn = at-line-at .before .before in
+    let start = at-turn .before .before in
+    let a = start .args in
+    let l = at-turn .loop in
+    let step = rw (c .before .interval .given .1, at-line-at .line-at .ensures)
+    at (at-narrow-by .narrow-by .ensures) in (
       omega arith,
       omega (arith, looked-on _ _ _ _ _ _ _ _ step),
-      l .inv .2 ∙ fold-on (narrow (a .line)) (linesOf (now (a .lines))) (a .count) (l .i)
-          (lines-fit (now (a .lines)) (a .count) (omega arith)) offLine (omega arith) (sym step),
+      l .inv .2 ∙ fold-on (narrow (a .line))
+          (linesOf (now (a .lines))) (a .count) (l .i) (lines-fit (now (a .lines)) (a .count) (omega arith)) offLine
+          (omega arith) (sym step),
     )
 
 returns-2 : tie.Need-returns-2 Inv-loop μ-loop

@@ -42,13 +42,18 @@ returns c =
 
 loop-again : tie.Need-loop-again Inv-loop μ-loop
 loop-again c =
-    let a = c .before .before .before .before .before .before .before .args in
-    let l = c .before .before .before .before .before .loop in
-    let step = rw (c .before .pass .given .1) at (c .before .before .before .pass-line .ensures) in
-    let short = length-take-le (l .i) (linesOf (now (a .lines))) (lines-fit (now (a .lines)) (l .i) (omega arith)) in (
+    let at-pass-line = c .before .before .before in
+    let at-turn = at-pass-line .before .before in
+    let start = at-turn .before .before in
+    let a = start .args in
+    let l = at-turn .loop in
+    let step = rw (c .before .pass .given .1) at (at-pass-line .pass-line .ensures) in
+    let short = length-take-le (l .i) (linesOf (now (a .lines))) (lines-fit (now (a .lines)) (l .i) (omega arith))
+    in (
       omega (arith, short, line-most _ _ _ _ _ _ _ _ step),
-      l .inv .1 ∙ walk-on (passLine (objectiveOf (a .optimal-value)) (a .radius)) (linesOf (now (a .lines))) (a .count)
-          (l .i) (lines-fit (now (a .lines)) (a .count) (omega arith)) offLine (omega arith) (sym step),
+      l .inv .1 ∙ walk-on
+          (passLine (objectiveOf (a .optimal-value)) (a .radius)) (linesOf (now (a .lines))) (a .count) (l .i)
+          (lines-fit (now (a .lines)) (a .count) (omega arith)) offLine (omega arith) (sym step),
     )
 
 returns-2 : tie.Need-returns-2 Inv-loop μ-loop

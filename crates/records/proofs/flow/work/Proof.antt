@@ -33,16 +33,16 @@ returns c =
 
 loop-less : tie.Need-loop-less Inv-loop μ-loop
 loop-less c =
+    let at-step = c .before .before .before .before .before in
     let l = c .before .before .before .before .before .before .before in
-    let t = advance _ _ _ _ _ (l .loop .inv) _ _
-    (rw (c .before .next .given .1) at (c .before .before .before .before .before .step .ensures)) in
+    let t = advance _ _ _ _ _ (l .loop .inv) _ _ (rw (c .before .next .given .1) at (at-step .step .ensures)) in
     omega (arith, t .moves, t .inside)
 
 loop-again : tie.Need-loop-again Inv-loop μ-loop
 loop-again c =
+    let at-step = c .before .before .before .before .before in
     let l = c .before .before .before .before .before .before .before in
-    goes-on _ _ _ _ _ (l .loop .inv) _ _
-    (rw (c .before .next .given .1) at (c .before .before .before .before .before .step .ensures))
+    goes-on _ _ _ _ _ (l .loop .inv) _ _ (rw (c .before .next .given .1) at (at-step .step .ensures))
 
 pub work-spec : {M : Type 1} → statement M
 work-spec =

@@ -8,13 +8,19 @@ use Rattle.records.proofs.outcome.write_outcome.Tie as tie
 
 returns : tie.Need-returns
 returns c =
-    let known = c .before .before .before .before .before .before .before .known-told .given in
+    let at-failed-place = c .before .before .before .before in
+    let at-pattern = at-failed-place .before in
+    let at-pattern-2 = at-pattern .before in
+    let at-known-told = at-pattern-2 .before in
+    let at-outcome = at-known-told .before in
+    let known = at-known-told .known-told .given in
     rw (
-      c .before .before .before .before .before .before .before .before .outcome .given .1,
-      ← (c .before .before .before .before .before .before .pattern .ensures ∙ sym (pattern-bits _ (known .1 .0 .1))),
-      ← (c .before .before .before .before .before .pattern2 .ensures ∙ sym (pattern-bits _ (known .1 .1 .0 .1))),
-      ← c .before .before .before .before .failed-place .ensures,
-    ) (ap (λ (w : Written). w .contents) (c .before .before .write-answer .ensures))
+      at-outcome .outcome .given .1,
+      ← (at-pattern-2 .pattern .ensures ∙ sym (pattern-bits _ (known .1 .0 .1))),
+      ← (at-pattern .pattern2 .ensures ∙ sym (pattern-bits _ (known .1 .1 .0 .1))),
+      ← at-failed-place .failed-place .ensures,
+    )
+    (ap (λ (w : Written). w .contents) (c .before .before .write-answer .ensures))
 
 pub write-outcome-spec : {M : Type 1} → statement M
 write-outcome-spec =

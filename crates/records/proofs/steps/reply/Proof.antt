@@ -5,16 +5,19 @@ use Rattle.records.proofs.steps.reply.Statement.{statement}
 use Rattle.records.proofs.steps.reply.Tie as tie
 
 returns : tie.Need-returns
-returns c = replied _ _ _ (c .before .before .before .before .before .before .before .before .pre)
-    (rw (c .enum-told .given .1) at (c .before .before .before .before .answer-record .ensures))
+returns c =
+    let at-answer-record = c .before .before .before .before in
+    let start = at-answer-record .before .before .before .before in
+    replied _ _ _ (start .pre) (rw (c .enum-told .given .1) at (at-answer-record .answer-record .ensures))
 
 returns-2 : tie.Need-returns-2
 returns-2 c =
-    replied-refusal _ _ _
-    (c .before .before .before .before .before .before .before .before .before .before .before .before .before .pre) _ _
-    _
-    (rw
-    (c .before .before .before .before .before .judged .given .1) at (c .before .before .before .before .before .before .before .before .before .answer-record .ensures)) (c .before .before .write-refusal .ensures)
+    let at-judged = c .before .before .before .before .before in
+    let at-answer-record = at-judged .before .before .before .before in
+    let start = at-answer-record .before .before .before .before in
+    replied-refusal _ _ _ (start .pre) _ _ _
+    (rw (at-judged .judged .given .1) at (at-answer-record .answer-record .ensures))
+    (c .before .before .write-refusal .ensures)
 
 pub reply-spec : {M : Type 1} → statement M
 reply-spec =

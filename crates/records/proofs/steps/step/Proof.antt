@@ -50,12 +50,12 @@ part-reply-end c =
 
 add-t31 : tie.Need-add-t31
 add-t31 c =
+    let at-part = c .before .before .before .before .before .before in
     let t = c .before .before .before .before .before .before .before .before in
     let start = t .before .before .before .before .before in
     let a = start .args in
-    let short =
-    reply-length (take (a .place .used + c .before .before .before .before .before .before .part3 .given .0 .0 -
-    a .place .used) (drop (a .place .used) (now (a .input)))) in
+    let short = reply-length (take (a .place .used + at-part .part3 .given .0 .0 - a .place .used)
+    (drop (a .place .used) (now (a .input)))) in
     let long = ap (λ (x : Put). x .count) (c .before .before .reply .ensures) in
     omega (arith, start .pre, t .before .before .if1 .left)
 
@@ -77,21 +77,22 @@ returns-3 c =
 
 returns-4 : tie.Need-returns-4
 returns-4 c =
+    let at-part = c .before .before .before .before .before in
     let t = c .before .before .before .before .before .before .before in
     let start = t .before .before .before .before .before in
     let a = start .args in
-    overlong-step (now (a .input)) (now (a .output)) (a .place) (t .before .before .if1 .left) _ (t .next-part .ensures)
-    _ (c .before .before .before .before .before .part2 .given .1) _ _ (start .pre .1)
+    overlong-step (now (a .input)) (now (a .output)) (a .place) (t .before .before .if1 .left) _
+    (t .next-part .ensures) _ (at-part .part2 .given .1) _ _ (start .pre .1)
     (c .before .before .write-refusal .ensures)
 
 returns-5 : tie.Need-returns-5
 returns-5 c =
+    let at-part = c .before .before .before .before .before .before in
     let t = c .before .before .before .before .before .before .before .before in
     let start = t .before .before .before .before .before in
     let a = start .args in
-    whole-step (now (a .input)) (now (a .output)) (a .place) (t .before .before .if1 .left) _ (t .next-part .ensures) _
-    (c .before .before .before .before .before .before .part3 .given .1) _ _ (start .pre .1)
-    (c .before .before .reply .ensures)
+    whole-step (now (a .input)) (now (a .output)) (a .place) (t .before .before .if1 .left) _
+    (t .next-part .ensures) _ (at-part .part3 .given .1) _ _ (start .pre .1) (c .before .before .reply .ensures)
 
 pub step-spec : {M : Type 1} → statement M
 step-spec =

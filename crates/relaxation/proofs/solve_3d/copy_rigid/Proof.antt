@@ -23,16 +23,19 @@ loop-holds c = (search needs, search needs, refl)
 
 loop-again : tie.Need-loop-again Inv-loop μ-loop
 loop-again c =
-    let b = now (c .before .before .before .before .before .before .before .before .before .args .lines) in
-    let l = c .before .before .before .before .before .before .loop in
+    let at-line-at = c .before .before .before in
+    let at-turn = at-line-at .before .before .before in
+    let start = at-turn .before .before .before in
+    let b = now (start .args .lines) in
+    let l = at-turn .loop in
     let h : l .n < length (linesOf b) = omega (arith, lines-fit b (l .n + 1) (omega arith)) in (
       omega arith,
       c .before .before .put-line .kept .0 ∙ l .inv .1,
       rw (
         c .before .before .put-line .ensures,
-        stored-next (l .tight) (l .n) (c .before .before .before .line-at .result) (omega arith),
+        stored-next (l .tight) (l .n) (at-line-at .line-at .result) (omega arith),
         take-next (linesOf b) (l .n) h offLine,
-        c .before .before .before .line-at .ensures,
+        at-line-at .line-at .ensures,
         l .inv .2,
       ),
     )

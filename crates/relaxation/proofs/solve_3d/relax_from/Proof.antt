@@ -43,12 +43,17 @@ returns c =
 
 loop-again : tie.Need-loop-again Inv-loop μ-loop
 loop-again c =
-    let a = c .before .before .before .before .before .before .before .args in
-    let l = c .before .before .before .before .before .loop in
-    let step = rw (c .before .relaxed .given .1) at (c .before .before .before .relax-line .ensures) in
-    let short = length-take-le (l .i) (linesOf (now (a .lines))) (lines-fit (now (a .lines)) (l .i) (omega arith)) in (
+    let at-relax-line = c .before .before .before in
+    let at-turn = at-relax-line .before .before in
+    let start = at-turn .before .before in
+    let a = start .args in
+    let l = at-turn .loop in
+    let step = rw (c .before .relaxed .given .1) at (at-relax-line .relax-line .ensures) in
+    let short = length-take-le (l .i) (linesOf (now (a .lines))) (lines-fit (now (a .lines)) (l .i) (omega arith))
+    in (
       omega (arith, relax-most _ _ _ _ (omega (arith, short)) _ _ _ _ _ _ step),
-      l .inv .1 ∙ walk-on (relaxLine (a .rigid) (a .radius)) (linesOf (now (a .lines))) (a .count) (l .i)
+      l .inv .1 ∙ walk-on
+          (relaxLine (a .rigid) (a .radius)) (linesOf (now (a .lines))) (a .count) (l .i)
           (lines-fit (now (a .lines)) (a .count) (omega arith)) offLine (omega arith) (sym step),
     )
 

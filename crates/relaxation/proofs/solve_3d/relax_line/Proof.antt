@@ -29,20 +29,25 @@ after-inner-requires c κs =
 returns-2 : tie.Need-returns-2
 unfolding relaxLine if_then_else_
 returns-2 c =
-    let a = c .before .before .before .before .before .before .before .before .before .before .before .args in
-    let short = length-take-le (a .index) (linesOf (now (a .lines))) (lines-fit (now (a .lines)) (a .index) (omega arith)) in
-    let list = c .before .before .before .before .tighten-into .ensures .2
-    ∙ lesser-rigid _ _ _ short (c .before .before .before .before .before .before .lesser .ensures) in
+    let at-tighten-into = c .before .before .before .before in
+    let at-lesser = at-tighten-into .before .before in
+    let at-if = at-lesser .before in
+    let at-depth-in = at-if .before in
+    let at-line-at = at-depth-in .before in
+    let start = at-line-at .before .before in
+    let a = start .args in
+    let short = length-take-le (a .index) (linesOf (now (a .lines)))
+    (lines-fit (now (a .lines)) (a .index) (omega arith)) in
+    let list = at-tighten-into .tighten-into .ensures .2 ∙ lesser-rigid _ _ _ short (at-lesser .lesser .ensures) in
     simp (
-      ← examined (a .rigid) (take (a .index) (linesOf (now (a .lines)))) short
-          (c .before .before .before .before .before .before .lesser .ensures),
+      ← examined (a .rigid) (take (a .index) (linesOf (now (a .lines)))) short (at-lesser .lesser .ensures),
       ← c .after-inner .ensures,
       ← c .before .solve-tightened .ensures,
       ← c .before .before .perp .ensures,
       ← list,
-      c .before .before .before .before .before .before .before .if1 .left,
-      ← c .before .before .before .before .before .before .before .before .depth-in .ensures,
-      ← c .before .before .before .before .before .before .before .before .before .line-at .ensures,
+      at-if .if1 .left,
+      ← at-depth-in .depth-in .ensures,
+      ← at-line-at .line-at .ensures,
     )
 
 pub relax-line-spec : {M : Type 1} → statement M

@@ -38,53 +38,52 @@ loop-holds c =
 
 loop-again : tie.Need-loop-again Inv-loop μ-loop
 loop-again c =
-    let a =
-    c .before .before .before .before .before .before .before .before .before .before .before .before .before .before .before .before .before .args in
-    let l = c .before .before .before .before .before .before .before .before .before .before .loop in
+    let at-line = c .before .before .before .before .before in
+    let at-tighten = at-line .before .before in
+    let at-line-at = at-tighten .before in
+    let at-turn = at-line-at .before .before in
+    let start = at-turn .before .before .before .before .before .before .before in
+    let a = start .args in
+    let l = at-turn .loop in
     let b = now (a .lines) in
-    let few =
-    c .before .before .before .before .before .before .before .before .before .before .before .before .before .before .before .before .before .pre .1 in
-    let all =
-    c .before .before .before .before .before .before .before .before .before .before .before .before .before .before .before .before .before .pre .2 in
-    let made = rw (
-      c .before .before .before .before .before .line .given .1,
-      c .before .before .before .before .before .before .before .before .line-at .ensures,
-    ) at (c .before .before .before .before .before .before .before .tighten .ensures) in (
+    let few = start .pre .1 in
+    let all = start .pre .2 in
+    let made = rw (at-line .line .given .1, at-line-at .line-at .ensures) at (at-tighten .tighten .ensures) in (
       omega arith,
       omega arith,
       c .before .before .put-line .kept .0 ∙ l .inv .2,
-      l .inv .3
-          ∙ fold-on (tightenNext (a .constraint)) (linesOf b) (a .index) (l .i)
-          (lines-fit b (a .index) (omega arith)) offLine (omega arith)
-          (next-kept _ _ _ _ made ∙ rw (c .before .before .put-line .ensures, stored-next (l .tight) (l .n) _ (omega arith))),
+      l .inv .3 ∙ fold-on
+          (tightenNext (a .constraint)) (linesOf b) (a .index) (l .i) (lines-fit b (a .index) (omega arith)) offLine
+          (omega arith) (next-kept _ _ _ _ made ∙
+          rw (c .before .before .put-line .ensures, stored-next (l .tight) (l .n) _ (omega arith))),
     )
 
 loop-again-2 : tie.Need-loop-again-2 Inv-loop μ-loop
 loop-again-2 c =
-    let a = c .before .before .before .before .before .before .before .before .before .before .before .before .args in
-    let l = c .before .before .before .before .before .loop in
+    let at-line-at = c .before .before .before in
+    let at-turn = at-line-at .before .before in
+    let start = at-turn .before .before .before .before .before .before .before in
+    let a = start .args in
+    let l = at-turn .loop in
     let b = now (a .lines) in
-    let made = rw (
-      c .enum-told .given .1,
-      c .before .before .before .line-at .ensures,
-    ) at (c .before .before .tighten .ensures) in (
+    let made = rw (c .enum-told .given .1, at-line-at .line-at .ensures) at (c .before .before .tighten .ensures) in (
       omega arith,
       omega arith,
       l .inv .2,
-      l .inv .3 ∙ fold-on (tightenNext (a .constraint)) (linesOf b) (a .index) (l .i)
-          (lines-fit b (a .index) (omega arith)) offLine (omega arith) (next-skipped _ _ _ made),
+      l .inv .3 ∙ fold-on (tightenNext (a .constraint)) (linesOf b) (a .index)
+          (l .i) (lines-fit b (a .index) (omega arith)) offLine (omega arith) (next-skipped _ _ _ made),
     )
 
 returns : tie.Need-returns Inv-loop μ-loop
 returns c =
-    let a = c .before .before .before .before .before .before .before .before .args in
+    let start = c .before .before .before .before .before .before .before .before in
+    let a = start .args in
     let l = c .before .loop in
     let b = now (a .lines) in (
       omega arith,
       l .inv .2,
-      sym (l .inv .3
-          ∙ fold-done (tightenNext (a .constraint)) (linesOf b) (a .index) (l .i) (lines-fit b (a .index) (omega arith))
-          (omega arith)),
+      sym (l .inv .3 ∙ fold-done (tightenNext (a .constraint)) (linesOf b) (a .index) (l .i)
+          (lines-fit b (a .index) (omega arith)) (omega arith)),
     )
 
 pub tighten-into-spec : {M : Type 1} → statement M

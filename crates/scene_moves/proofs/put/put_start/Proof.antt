@@ -12,8 +12,9 @@ use Rattle.scene_moves.proofs.put.put_start.Tie as tie
 
 put-bytes-requires : tie.Need-put-bytes-requires
 put-bytes-requires c κs =
+    let at-put-pair = c .before .before .before in
     let s = c .before .before .before .before .before .before .before in
-    (omega (arith, s .pre), simp length-set (omega (arith, c .before .before .before .put-pair .kept .0, s .pre)))
+    (omega (arith, s .pre), simp length-set (omega (arith, at-put-pair .put-pair .kept .0, s .pre)))
 
 same-length : tie.Need-same-length
 same-length c = c .before .before .put-bytes .kept .0
@@ -21,10 +22,12 @@ same-length c = c .before .before .put-bytes .kept .0
 
 returns : tie.Need-returns
 returns c =
-    let a = c .before .before .before .before .before .before .before .before .before .before .args in
+    let at-put-pair = c .before .before .before .before .before .before in
+    let start-2 = at-put-pair .before .before .before .before in
+    let a = start-2 .args in
     start-put (now (a .buffer)) _ _ _ (now (a .source)) (a .size) (a .version) (a .start)
-    (c .before .before .before .before .before .before .put-pair .ensures
-    ∙ ap (sets (now (a .buffer)) 0) (pair-stored _)) refl (c .before .before .put-bytes .ensures)
+    (at-put-pair .put-pair .ensures ∙ ap (sets (now (a .buffer)) 0) (pair-stored _)) refl
+    (c .before .before .put-bytes .ensures)
 
 pub put-start-spec : {M : Type 1} → statement M
 put-start-spec =

@@ -28,31 +28,29 @@ loop-holds : tie.Need-loop-holds Inv-loop μ-loop
 loop-holds c = (omega arith, refl, refl, rw sub-zero)
 
 slice-write-numbers : tie.Need-slice-write-numbers Inv-loop μ-loop
-slice-write-numbers c = omega (
-  arith,
-  c .before .before .before .before .before .before .loop .inv .2,
-  c .before .before .before .before .before .before .before .before .before .before .pre .1,
-)
+slice-write-numbers c =
+    let at-turn = c .before .before .before .before .before .before in
+    let start = at-turn .before .before .before .before in
+    omega (arith, at-turn .loop .inv .2, start .pre .1)
 
 loop-less : tie.Need-loop-less Inv-loop μ-loop
 loop-less c = omega arith
 
 loop-again : tie.Need-loop-again Inv-loop μ-loop
 loop-again c =
-    let l = c .before .before .before .before .before .before .loop in
-    let a = c .before .before .before .before .before .before .before .before .before .before .args in
-    let put = c .before .before .put-line .ensures
-    ∙ stored-sets (l .lines) (l .i) _ (omega (
-      arith,
-      l .inv .1,
-      c .before .before .before .before .before .before .before .before .before .before .pre .0,
-    )) in (
+    let at-numbered-line = c .before .before .before .before in
+    let at-loop-test = at-numbered-line .before in
+    let at-turn = at-loop-test .before in
+    let start = at-turn .before .before .before .before in
+    let l = at-turn .loop in
+    let a = start .args in
+    let put = c .before .before .put-line .ensures ∙ stored-sets (l .lines) (l .i) _
+    (omega (arith, l .inv .1, start .pre .0)) in (
       omega arith,
       omega (arith, c .before .before .put-line .kept .0, l .inv .1),
       simp length-set (l .inv .2),
-      l .inv .3 ∙ rows-next (now (a .bytes)) _ _ (l .i) _ _ _ _ (a .count)
-          (c .before .before .before .before .before .loop-test .taken)
-          (c .before .before .before .before .numbered-line-at .ensures) put,
+      l .inv .3 ∙ rows-next (now (a .bytes)) _ _ (l .i) _ _ _ _ (a .count) (at-loop-test .loop-test .taken)
+          (at-numbered-line .numbered-line-at .ensures) put,
     )
 
 same-length : tie.Need-same-length Inv-loop μ-loop

@@ -28,9 +28,10 @@ word-at-requires c κs = search needs
 
 add-t7 : tie.Need-add-t7
 add-t7 c =
+    let start = c .before .before .before .before .before .before .before in
     omega (
       arith,
-      leb-true _ (length (now (c .before .before .before .before .before .before .before .args .bytes)))
+      leb-true _ (length (now (start .args .bytes)))
           (sym (c .before .before .fits-behind .ensures) ∙ c .before .if1 .taken),
     )
 

@@ -28,58 +28,62 @@ loop-holds : tie.Need-loop-holds Inv-loop μ-loop
 loop-holds c = (omega arith, omega arith, refl, refl, refl, rw sub-zero)
 
 outline-at-requires : tie.Need-outline-at-requires Inv-loop μ-loop
-outline-at-requires c κs = omega (
-  arith,
-  head-fits _ (c .before .before .before .before .loop .total)
-      (c .before .before .before .before .loop .next) _ _ (c .before .before .before .before .loop .inv .1)
-      (c .before .before .head-at .ensures) (c .before .wide .ensures .0),
-  c .before .before .before .before .loop .inv .4,
-  c .before .before .before .before .before .before .before .before .before .pre .2,
-)
+outline-at-requires c κs =
+    let at-turn = c .before .before .before .before in
+    let start = at-turn .before .before .before .before .before in
+    omega (
+      arith,
+      head-fits _ (at-turn .loop .total) (at-turn .loop .next) _ _ (at-turn .loop .inv .1)
+          (c .before .before .head-at .ensures) (c .before .wide .ensures .0),
+      at-turn .loop .inv .4,
+      start .pre .2,
+    )
 
 slice-write-kinds : tie.Need-slice-write-kinds Inv-loop μ-loop
-slice-write-kinds c = omega (
-  arith,
-  c .before .before .before .before .before .before .before .loop .inv .2,
-  c .before .before .before .before .before .before .before .before .before .before .before .before .pre .0,
-)
+slice-write-kinds c =
+    let at-turn = c .before .before .before .before .before .before .before in
+    let start = at-turn .before .before .before .before .before in
+    omega (arith, at-turn .loop .inv .2, start .pre .0)
 
 slice-write-counts : tie.Need-slice-write-counts Inv-loop μ-loop
-slice-write-counts c = omega (
-  arith,
-  c .before .before .before .before .before .before .before .loop .inv .3,
-  c .before .before .before .before .before .before .before .before .before .before .before .before .pre .1,
-)
+slice-write-counts c =
+    let at-turn = c .before .before .before .before .before .before .before in
+    let start = at-turn .before .before .before .before .before in
+    omega (arith, at-turn .loop .inv .3, start .pre .1)
 
 add-total : tie.Need-add-total Inv-loop μ-loop
-add-total c = omega (
-  arith,
-  head-fits _ (c .before .before .before .before .before .before .before .loop .total)
-      (c .before .before .before .before .before .before .before .loop .next) _ _
-      (c .before .before .before .before .before .before .before .loop .inv .1)
-      (c .before .before .before .before .before .head-at .ensures) (c .before .before .before .before .wide .ensures .0),
-)
+add-total c =
+    let at-wide = c .before .before .before .before in
+    let at-head-at = at-wide .before in
+    let at-turn = at-head-at .before .before in
+    omega (
+      arith,
+      head-fits _ (at-turn .loop .total) (at-turn .loop .next) _ _ (at-turn .loop .inv .1)
+          (at-head-at .head-at .ensures) (at-wide .wide .ensures .0),
+    )
 
 loop-less : tie.Need-loop-less Inv-loop μ-loop
 loop-less c = omega arith
 
 loop-again : tie.Need-loop-again Inv-loop μ-loop
 loop-again c =
-    let l = c .before .before .before .before .before .before .before .loop in
-    let a = c .before .before .before .before .before .before .before .before .before .before .before .before .args in
-    let read = c .before .before .before .before .before .head-at .ensures in (
+    let at-wide = c .before .before .before .before in
+    let at-head-at = at-wide .before in
+    let at-loop-test = at-head-at .before in
+    let at-turn = at-loop-test .before in
+    let start = at-turn .before .before .before .before .before in
+    let l = at-turn .loop in
+    let a = start .args in
+    let read = at-head-at .head-at .ensures in (
       omega arith,
-      head-fits _ (c .before .before .before .before .before .before .before .loop .total)
-          (c .before .before .before .before .before .before .before .loop .next) _ _
-          (c .before .before .before .before .before .before .before .loop .inv .1)
-          (c .before .before .before .before .before .head-at .ensures)
-          (c .before .before .before .before .wide .ensures .0),
+      head-fits _ (at-turn .loop .total) (at-turn .loop .next) _ _ (at-turn .loop .inv .1)
+          (at-head-at .head-at .ensures) (at-wide .wide .ensures .0),
       simp length-set (l .inv .2),
       simp length-set (l .inv .3),
       omega (arith, c .before .before .outline-at .kept .1, l .inv .4),
-      l .inv .5 ∙ walls-next (now (a .bytes)) _ _ _ _ (l .i) (l .total) _ _ _ (a .count) _ _ _
-          (c .before .before .before .before .before .before .loop-test .taken) (head-known _ _ read)
-          (c .before .before .before .before .wide .ensures .0) (c .before .before .outline-at .ensures),
+      l .inv .5 ∙ walls-next
+          (now (a .bytes)) _ _ _ _ (l .i) (l .total) _ _ _ (a .count) _ _ _ (at-loop-test .loop-test .taken)
+          (head-known _ _ read) (at-wide .wide .ensures .0) (c .before .before .outline-at .ensures),
     )
 
 same-length : tie.Need-same-length Inv-loop μ-loop

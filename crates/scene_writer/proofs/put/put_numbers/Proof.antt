@@ -26,14 +26,15 @@ loop-holds c =
 
 loop-again : tie.Need-loop-again Inv-loop μ-loop
 loop-again c =
-    let l = c .before .before .before .before .before .before .loop in
+    let at-loop-test = c .before .before .before .before .before in
+    let at-turn = at-loop-test .before in
+    let l = at-turn .loop in
     let s = c .before .before .before .before .before .before .before .before .before in
     let a = s .args in (
       omega arith,
       c .before .before .put-number .kept .0 ∙ l .inv .1,
-      l .inv .2
-          ∙ turn-next (now (a .numbers)) (a .from) (a .n) (a .at) (l .buffer) _ (l .k)
-          (c .before .before .before .before .before .loop-test .taken) (s .pre .1)
+      l .inv .2 ∙ turn-next (now (a .numbers))
+          (a .from) (a .n) (a .at) (l .buffer) _ (l .k) (at-loop-test .loop-test .taken) (s .pre .1)
           (c .before .before .put-number .ensures),
     )
 
