@@ -71,10 +71,15 @@ pub record Left : Type 0 where
 abbrev pub left : ℕ → Block → Left
 left n b = record { told = n; holds = b }
 
+-- the number that the call tells: 0 where nothing is refused
+abbrev pub toldBy : Fault → ℕ
+toldBy fine = 0
+toldBy (fault n) = n
+
 -- the session that the call handed back; or, behind a refusal, what they held
-abbrev pub leftOn : Fault → Session → Block → Left
-leftOn fine s b = left 0 (blockOf s)
-leftOn (fault n) s b = left n b
+abbrev pub heldBy : Fault → Session → Block → Block
+heldBy fine s b = blockOf s
+heldBy (fault n) s b = b
 
 unfoldable pub leftBy : Fed → Block → Left
-leftBy r b = leftOn (faultOf (r .judged)) (r .session) b
+leftBy r b = left (toldBy (faultOf (r .judged))) (heldBy (faultOf (r .judged)) (r .session) b)

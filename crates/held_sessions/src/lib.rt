@@ -14,7 +14,8 @@ ghost use lib.ListN.{length, set};
 ghost use Rattle.lines.specs.Lines.{mostLines, linesOf, numbersOf};
 ghost use Rattle.lines.specs.Origins.{originsOf};
 ghost use Rattle.session.specs.Withdrawals.{threesOf};
-ghost use Rattle.held_sessions.specs.Blocks.{block, sessionIn, numbersIn, wordsIn, blockOf, left, leftBy};
+ghost use Rattle.admission.specs.Faults.{faultOf};
+ghost use Rattle.held_sessions.specs.Blocks.{block, sessionIn, numbersIn, wordsIn, blockOf, toldBy, heldBy, left, leftBy};
 
 fn lines_in(numbers: &[f32]) -> [Line; Line::MOST]
     requires { ⌜ length (now numbers) ≡ 4 * mostLines ⌝ }
@@ -153,6 +154,35 @@ pub fn put_session(
     *words = words_of(session.count, session.rigid, phase, failed, session.probes);
 }
 
+// The number that a call tells of what it was judged: 0 where nothing is refused.
+fn number_of(judged: Judged) -> u32
+    ensures { λ r. ⌜ r ≡ toldBy (faultOf judged) ⌝ }
+{
+    match judged {
+        Judged::Fine => 0,
+        Judged::Fault(number) => number as u32,
+    }
+}
+
+// A session laid out in four arrays, unless the call is refused.
+fn put_unless_refused(
+    judged: Judged,
+    session: Session,
+    lines: &mut [f32; 1024],
+    origins: &mut [u32; 768],
+    numbers: &mut [f32; 6],
+    words: &mut [usize; 8],
+)
+    ensures { λ _. ⌜ block (now (lines .exit)) (now (origins .exit)) (now (numbers .exit)) (now (words .exit))
+        ≡ heldBy (faultOf judged) session
+        (block (now (lines .entry)) (now (origins .entry)) (now (numbers .entry)) (now (words .entry))) ⌝ }
+{
+    let Judged::Fine = judged else {
+        return;
+    };
+    put_session(session, lines, origins, numbers, words);
+}
+
 // What a call on a session handed back, left in the four arrays: 0, and they say its session; or the number of its
 // refusal, and they are as they were.
 pub fn leave(
@@ -166,10 +196,7 @@ pub fn leave(
         ≡ leftBy fed (block (now (lines .entry)) (now (origins .entry)) (now (numbers .entry)) (now (words .entry))) ⌝ }
 {
     let judged = fed.judged;
-    if let Judged::Fault(number) = judged {
-        return number as u32;
-    }
     let session = fed.session;
-    put_session(session, lines, origins, numbers, words);
-    0
+    put_unless_refused(judged, session, lines, origins, numbers, words);
+    number_of(judged)
 }

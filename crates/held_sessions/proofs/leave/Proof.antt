@@ -6,12 +6,7 @@ use Rattle.held_sessions.proofs.leave.Tie as tie
 
 returns : tie.Need-returns
 unfolding leftBy
-returns c = simp (c .before .judged .given .1)
-
-returns-2 : tie.Need-returns-2
-unfolding leftBy
-returns-2 c = simp (c .put-session .ensures, c .before .before .before .before .before .before .enum-told .given .1)
+returns c = simp (c .number-of .ensures, c .before .put-unless-refused .ensures)
 
 pub leave-spec : {M : Type 1} → statement M
-leave-spec =
-    tie.close (tie.spec (λ c. search needs) (λ c. search needs) returns (λ c. search needs) (λ c κs. search needs) returns-2)
+leave-spec = tie.close (tie.spec (λ c κs. search needs) (λ c κs. search needs) returns)
