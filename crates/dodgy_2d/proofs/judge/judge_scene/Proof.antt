@@ -48,7 +48,8 @@ returns-4 c =
 part-judge-lines-end : tie.Need-part-judge-lines-end
 part-judge-lines-end c =
     let size : length
-    (c .before .before .before .before .before .before .before .before .before .before .before .before .before .before .args .scene .lines) ≡ 256 = search needs in
+    (c .before .before .before .before .before .before .before .before
+    .before .before .before .before .before .before .args .scene .lines) ≡ 256 = search needs in
     omega (arith, c .before .before .if2 .left, size)
 
 returns-5 : tie.Need-returns-5

@@ -30,7 +30,8 @@ mul-copy c =
 
 mul-copy-2 : tie.Need-mul-copy-2
 mul-copy-2 c =
-    let start = c .before .before .before .before .before .before .before .before .before .before .before .before .before .before .before .before .before .before .before .before in
+    let made = c .before .before .before .before .before .before .before .before .before .before in
+    let start = made .before .before .before .before .before .before .before .before .before .before in
     omega (arith, parts (start .args .scene) (start .pre .0) .neighbours)
 
 copy-requires : tie.Need-copy-requires
