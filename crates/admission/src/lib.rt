@@ -1,9 +1,11 @@
 // Judgements of what is admitted (01, "What is admitted", "Refusal numbers"): fine, or the number of the first fault.
+#![tactic(auto)]
+
 ghost use Rattle.std.specs.Prelude.{◌≡◌};
 ghost use Rattle.admission.specs.Faults.{◌⊳◌, must, within, inside, fits_behind, fault_of};
 ghost use Rattle.admission.specs.Heads.{is_kind, room_for, is_empty_open};
 
-#[derive(Drop)]
+#[derive(Clone, Copy)]
 pub enum Judged {
     Fine,
     Fault(u8),
@@ -54,7 +56,7 @@ pub fn first_of(first: Judged, second: Judged) -> Judged
 }
 
 // An obstacle's kind, and how many vertices it has.
-#[derive(Drop)]
+#[derive(Clone, Copy)]
 pub struct Head {
     pub kind: u8,
     pub count: usize,

@@ -1,4 +1,6 @@
 // Logs of answer records (02, T-02): a reader that borrows the log and hands on one record at a time.
+#![tactic(auto)]
+
 ghost use Rattle.std.specs.Prelude.{◌≡◌, drop};
 ghost use Rattle.answer_records.specs.Replies.{said_of};
 ghost use Rattle.answer_logs.specs.Logs.{replied_as, logged_at, reader_at};
@@ -8,7 +10,7 @@ use answer_records::{Answer, Reply};
 
 // What stands at a byte of a log: an outcome or a scene's refusal, each with the byte behind its record;
 // the number of a bad record's fault; or the log's end.
-#[derive(Drop)]
+#[derive(Clone, Copy)]
 pub enum Logged {
     Outcome(Answer, usize),
     Refusal(u8, usize),
@@ -17,7 +19,7 @@ pub enum Logged {
 }
 
 // A log, and the byte in it where the next record begins.
-#[derive(Drop)]
+#[derive(Clone, Copy)]
 pub struct AnswerLog<'a> {
     pub log: &'a [u8],
     pub at: usize,

@@ -1,4 +1,6 @@
 // Answer records (01, "Records (ours)"): an outcome in 18 bytes or a refusal in 4, written to lent bytes and read from them.
+#![tactic(auto)]
+
 ghost use Rattle.std.specs.Prelude.{◌≡◌, ◌<◌, length};
 ghost use Rattle.admission.specs.Faults.{fault_of};
 ghost use Rattle.answer_records.specs.Answers.{answer_bytes, refusal_bytes, laid, written_of};
@@ -7,7 +9,7 @@ ghost use Rattle.answer_records.specs.Replies.{is_length, length_of_code, answer
 use admission::Judged;
 
 // An outcome as its record has it: the point by its bits, FFFF where no line failed.
-#[derive(Drop)]
+#[derive(Clone, Copy)]
 pub struct Answer {
     pub code: u8,
     pub x: u32,
@@ -36,7 +38,7 @@ impl Answer {
 }
 
 // What a record says: an outcome, a scene's refusal by its number, or the number of the record's own fault.
-#[derive(Drop)]
+#[derive(Clone, Copy)]
 pub enum Reply {
     Outcome(Answer),
     Refusal(u8),

@@ -1,5 +1,7 @@
 // Arithmetic on f32 that Rattle's operators do not have (01, "Port order"). Each answers for every f32, a NaN and the
 // infinities too.
+#![tactic(auto)]
+
 ghost use Rattle.std.specs.Prelude.{◌≡◌};
 ghost use Rattle.arithmetic.specs.Binary32.{finite};
 ghost use Rattle.arithmetic.specs.Ends.{abs_of, min_of, max_of, clamp_of};

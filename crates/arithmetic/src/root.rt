@@ -6,7 +6,7 @@ ghost use Rattle.arithmetic.specs.Whole.{RootNearest, RootNearestOrNext, TakenAp
 ghost use Rattle.arithmetic.specs.Guesses.{RootWithin, farthest, RowTest};
 
 // A number of 24 binary digits, and how often it is doubled, counted from 2^-172.
-#[derive(Drop)]
+#[derive(Clone, Copy)]
 struct Parts {
     digits: u64,
     shift: u32,

@@ -1,6 +1,8 @@
 // Runs 01's bench cases, P1 to P12 and the limits of its last row, with three more causes of a failure, the probes of
 // two relaxed lines, a horizon out of range and a number left over, through the code: the cases that `bench_table`
 // claims of the definitions. A case that is wrong is told by its number.
+#![tactic(auto)]
+
 use admission::Judged;
 use common::Vec2;
 use edges::Agent;

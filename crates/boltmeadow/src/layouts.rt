@@ -14,7 +14,7 @@ use wall_check::WallCheck;
 // The first crossed edge, by its obstacle's place and its left vertex there, and how many edges are crossed; 0 edges
 // where the way is clear. Beside a refusal all else is 0.
 #[repr(C)]
-#[derive(Drop)]
+#[derive(Clone, Copy)]
 pub struct BmCrossing {
     pub refusal: u32,
     pub edges: usize,
@@ -24,7 +24,7 @@ pub struct BmCrossing {
 
 // An obstacle's lines, four numbers each, zeros behind them. Beside a refusal there are none.
 #[repr(C)]
-#[derive(Drop)]
+#[derive(Clone, Copy)]
 pub struct BmObstacleLines {
     pub refusal: u32,
     pub count: usize,

@@ -1,6 +1,8 @@
 // The solver in process, for C and Rust: every function of include/boltmeadow.h that is not inline there. No function
 // asks anything of its caller: whatever bytes and numbers are lent, the answer is a result or the number of a refusal,
 // which leaves what was lent as it was.
+#![tactic(auto)]
+
 mod layouts;
 mod lists;
 mod logs;

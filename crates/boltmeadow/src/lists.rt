@@ -12,7 +12,7 @@ use linear_programming::{Answer, FailedLine, Phase};
 // where none failed), its index and the earlier line that the cause names, and the probes. Beside a refusal all else is
 // 0.
 #[repr(C)]
-#[derive(Drop)]
+#[derive(Clone, Copy)]
 pub struct BmStanding {
     pub refusal: u32,
     pub phase: u32,

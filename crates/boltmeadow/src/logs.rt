@@ -18,7 +18,7 @@ use index_building::IndexWritten;
 // An answer record that was read: its code, 1 to 5 or 128 and the number that it refuses with; the bits of x and y, the
 // failed line (FFFF for none) and the probes, as they stand in the record. Beside a refusal all else is 0.
 #[repr(C)]
-#[derive(Drop)]
+#[derive(Clone, Copy)]
 pub struct BmReply {
     pub refusal: u32,
     pub code: u32,
@@ -30,7 +30,7 @@ pub struct BmReply {
 
 // The figures of a log; beside a refusal all are 0, and `place` is that of the record that is refused.
 #[repr(C)]
-#[derive(Drop)]
+#[derive(Clone, Copy)]
 pub struct BmTally {
     pub refusal: u32,
     pub place: u64,
@@ -43,7 +43,7 @@ pub struct BmTally {
 
 // How many fallbacks lie between two records; beside a refusal 0.
 #[repr(C)]
-#[derive(Drop)]
+#[derive(Clone, Copy)]
 pub struct BmFallbacks {
     pub refusal: u32,
     pub count: u64,

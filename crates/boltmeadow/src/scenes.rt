@@ -18,7 +18,7 @@ use scene_records::{Cart, SceneWritten};
 
 // A cart, its wish and its limit.
 #[repr(C)]
-#[derive(Drop)]
+#[derive(Clone, Copy)]
 pub struct BmCart {
     pub position_x: f32,
     pub position_y: f32,
@@ -33,7 +33,7 @@ pub struct BmCart {
 
 // What was written to a lent buffer: how many bytes; or the number of the refusal, and none.
 #[repr(C)]
-#[derive(Drop)]
+#[derive(Clone, Copy)]
 pub struct BmWritten {
     pub refusal: u32,
     pub length: usize,
@@ -43,7 +43,7 @@ pub struct BmWritten {
 // failed), its index, the earlier line that the cause names and the line's origin, and the probes of all passes. Beside
 // a refusal all else is 0.
 #[repr(C)]
-#[derive(Drop)]
+#[derive(Clone, Copy)]
 pub struct BmAnswer {
     pub refusal: u32,
     pub outcome: u32,
@@ -60,7 +60,7 @@ pub struct BmAnswer {
 
 // A scene that was read, with its neighbours' numbers; zeros behind the counts, and everywhere beside a refusal.
 #[repr(C)]
-#[derive(Drop)]
+#[derive(Clone, Copy)]
 pub struct BmScene {
     pub refusal: u32,
     pub cart: BmCart,

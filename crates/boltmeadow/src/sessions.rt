@@ -15,7 +15,7 @@ use session::{Session, Unmet};
 
 // How many lines a change by origin withdrew, none where it was refused.
 #[repr(C)]
-#[derive(Drop)]
+#[derive(Clone, Copy)]
 pub struct BmChanged {
     pub refusal: u32,
     pub withdrawn: usize,
@@ -24,7 +24,7 @@ pub struct BmChanged {
 // The first line of a batch that the session's point does not strictly meet: 1 and the index that it gets, or 0 where
 // there is none.
 #[repr(C)]
-#[derive(Drop)]
+#[derive(Clone, Copy)]
 pub struct BmUnmet {
     pub refusal: u32,
     pub found: u32,

@@ -1,11 +1,13 @@
 // Vectors of two f32, their determinant, and when two lines meet (the Rust's common.rs, and of glam's Vec2 what its
 // three files use). Each operation rounds once, in glam's order, with no fused multiply. Each answers for every f32, a
 // NaN and the infinities too.
+#![tactic(auto)]
+
 ghost use Rattle.std.specs.Prelude.{◌≡◌};
 ghost use Rattle.common.specs.Vectors.{vec, add_of, sub_of, neg_of, mul_of, div_of, dot_of, perp_of, length_squared_of, distance_squared_of, normalize_of, eq_of, determinant_of};
 ghost use Rattle.common.specs.Meetings.{times_of};
 
-#[derive(Drop)]
+#[derive(Clone, Copy)]
 pub struct Vec2 {
     pub x: f32,
     pub y: f32,
@@ -19,7 +21,7 @@ pub fn determinant(a: Vec2, b: Vec2) -> f32
 }
 
 // When two lines meet: the time along the first as x, along the second as y; or they are parallel.
-#[derive(Drop)]
+#[derive(Clone, Copy)]
 pub enum Times {
     At(Vec2),
     Parallel,

@@ -2,6 +2,8 @@
 // the scenes as `feed` does, and writes `all agree`, `differs at N` and how, or `refused R at N`. A file that cannot be
 // opened or read is told on standard error by its name, the one sign of it that a program can give: it has no exit
 // status.
+#![tactic(auto)]
+
 ghost use Rattle.std.specs.Prelude.{◌≡◌, true, ◌≤◌, length};
 ghost use Rattle.comparison.specs.Reads.{wants};
 ghost use Rattle.compare.specs.Turns.{brought_in, beginning, Ready, Advances, Follows};
@@ -12,7 +14,7 @@ use libc::{STDERR_FILENO, STDOUT_FILENO};
 use records::Stream;
 
 // The file whose read has failed, or none.
-#[derive(Drop)]
+#[derive(Clone, Copy)]
 enum Trouble {
     NoTrouble,
     OfScenes,
@@ -20,7 +22,7 @@ enum Trouble {
 }
 
 // How many bytes a read brings, none at the file's end; or it has failed.
-#[derive(Drop)]
+#[derive(Clone, Copy)]
 enum Brought {
     Bytes(usize),
     Failed,
@@ -29,7 +31,7 @@ enum Brought {
 // What is kept from turn to turn: where the stream of scenes stands, how many bytes of our answers and of theirs wait
 // at the start of their buffers, whether there may be more of theirs, the next place, what was found, and whether a
 // read has failed.
-#[derive(Drop)]
+#[derive(Clone, Copy)]
 struct Reading {
     stream: Stream,
     ours: usize,
@@ -41,7 +43,7 @@ struct Reading {
 }
 
 // The descriptors of the two files.
-#[derive(Drop)]
+#[derive(Clone, Copy)]
 struct Files {
     scenes: i32,
     answers: i32,

@@ -1,4 +1,6 @@
 // The comparison of two logs of answer records, ours and a partner's (02, T-09), part by part as the logs are read.
+#![tactic(auto)]
+
 ghost use Rattle.std.specs.Prelude.{◌≡◌};
 ghost use Rattle.comparison.specs.Agreeing.{is_zero, same_number, matched_outcomes, matched_refusals};
 ghost use Rattle.comparison.specs.Turns.{against_end, against_outcome, against_refusal, turn_in, turn_by, part_turn, whole_turn};
@@ -9,7 +11,7 @@ use answer_records::Answer;
 
 // The first field in which two records of one place differ, ours and theirs: the point by its bits; an outcome's number beside a
 // refusal's; or the side that has no record there.
-#[derive(Drop)]
+#[derive(Clone, Copy)]
 pub enum Difference {
     Outcome(u8, u8),
     PointX(u32, u32),
@@ -25,7 +27,7 @@ pub enum Difference {
 
 // What a comparison tells: all places agree; the first place that differs, and how; or the number of an unreadable
 // answer's fault, and its place. Places are counted from 0.
-#[derive(Drop)]
+#[derive(Clone, Copy)]
 pub enum Compared {
     Agree,
     Differs(u64, Difference),
@@ -33,14 +35,14 @@ pub enum Compared {
 }
 
 // Whether more of the logs is needed, or what is told whatever follows.
-#[derive(Drop)]
+#[derive(Clone, Copy)]
 pub enum Found {
     Going,
     Ended(Compared),
 }
 
 // How far two parts were compared: the bytes of each that are used, the next place, and what was found.
-#[derive(Drop)]
+#[derive(Clone, Copy)]
 pub struct Progress {
     pub ours: usize,
     pub theirs: usize,
@@ -49,7 +51,7 @@ pub struct Progress {
 }
 
 // Two records of one place: they agree, or this is the first field in which they do not.
-#[derive(Drop)]
+#[derive(Clone, Copy)]
 pub(crate) enum Matched {
     Same,
     Apart(Difference),
@@ -57,7 +59,7 @@ pub(crate) enum Matched {
 
 // What stands at one place: two records that agree, with the bytes behind them; an unreadable answer of theirs; two that differ;
 // both logs ended, or one of them.
-#[derive(Drop)]
+#[derive(Clone, Copy)]
 pub(crate) enum Turn {
     Onward(usize, usize),
     Unreadable(u8),

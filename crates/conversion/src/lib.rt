@@ -1,4 +1,6 @@
 // A stream of scene records moved to the other version record by record (02, T-07), in turns as the stream is read.
+#![tactic(auto)]
+
 ghost use Rattle.std.specs.Prelude.{◌≡◌};
 ghost use Rattle.conversion.specs.Turns.{lent, beginning, closed_at, has_room, turn_over};
 
@@ -9,7 +11,7 @@ mod steps;
 
 // Whether there may be more to read; or the stream has ended behind a whole record; or the record at the place is
 // refused with this number; or the buffers of a turn were too short for it.
-#[derive(Drop)]
+#[derive(Clone, Copy)]
 pub enum Stage {
     Open,
     Whole,
@@ -20,7 +22,7 @@ pub enum Stage {
 // Where a stream stands after a turn: how many bytes of moved records are at the output's start, to be written; how
 // many bytes wait at the input's start for the next read; the place of the next record, counted from 0, or of the one
 // that is refused; and the stage.
-#[derive(Drop)]
+#[derive(Clone, Copy)]
 pub struct Stream {
     pub put: usize,
     pub kept: usize,
@@ -38,7 +40,7 @@ impl Stream {
 
 // How far the work on what was read got: the bytes of it that are used, the bytes that stand at the output's start,
 // and the place of the next record.
-#[derive(Drop)]
+#[derive(Clone, Copy)]
 pub(crate) struct Place {
     pub(crate) used: usize,
     pub(crate) put: usize,
@@ -46,14 +48,14 @@ pub(crate) struct Place {
 }
 
 // The place behind a record that was moved; or there was none to move, and the stage that the stream is in then.
-#[derive(Drop)]
+#[derive(Clone, Copy)]
 pub(crate) enum Step {
     More(Place),
     Stop(Stage),
 }
 
 // Where the work stopped, and the stage that the stream is in.
-#[derive(Drop)]
+#[derive(Clone, Copy)]
 pub(crate) struct Walk {
     pub(crate) place: Place,
     pub(crate) stage: Stage,

@@ -2,6 +2,8 @@
 // standard input and writes them as version 2 to standard output, `convert 1` moves them back. The first record that
 // is refused ends it, with the line `refused R at N` on standard error. A read or a write that fails is told there
 // too, the one sign of it that a program can give: it has no exit status.
+#![tactic(auto)]
+
 ghost use Rattle.std.specs.Prelude.{◌≤◌, length};
 ghost use Rattle.conversion.specs.Turns.{Ready};
 ghost use Rattle.convert.specs.Turns.{brought_in, GoesOn};
@@ -11,14 +13,14 @@ use libc::{STDERR_FILENO, STDIN_FILENO, STDOUT_FILENO};
 use scene_records::Version;
 
 // How many bytes a read brings, none at the input's end; or it has failed.
-#[derive(Drop)]
+#[derive(Clone, Copy)]
 enum Brought {
     Bytes(usize),
     Failed,
 }
 
 // Where the stream stands after a turn, and whether a read or a write has failed.
-#[derive(Drop)]
+#[derive(Clone, Copy)]
 struct Standing {
     stream: Stream,
     failed: bool,

@@ -1,5 +1,7 @@
 // The daily tally of an answer log (02, T-02): how many answers of each outcome, how many refusals of each number, the sum
 // and the largest of the probes, and how many answers name a failed line.
+#![tactic(auto)]
+
 ghost use Rattle.std.specs.Prelude.{◌≡◌, ◌-◌, ◌^◌, ◌<◌, max, []};
 ghost use Rattle.answer_logs.specs.Logs.{most_records, records_in};
 ghost use Rattle.answer_logs.specs.Parts.{wholes_from};
@@ -11,7 +13,7 @@ use answer_logs::Logged;
 use answer_records::Answer;
 
 // The figures of a log. An outcome is counted at its code, a refusal at its number; the places that no answer has stay 0.
-#[derive(Drop)]
+#[derive(Clone, Copy)]
 pub struct DayTally {
     pub outcomes: [u64; 6],
     pub refusals: [u64; 16],
@@ -26,14 +28,14 @@ impl DayTally {
 }
 
 // Whether the walk came to the log's end, or the refusal's number and the place of the record that is refused, from 0 on.
-#[derive(Drop)]
+#[derive(Clone, Copy)]
 pub enum Walked {
     Whole,
     Refused(u8, u64),
 }
 
 // How the walk ended, and the figures; beside a refusal every figure is 0.
-#[derive(Drop)]
+#[derive(Clone, Copy)]
 pub struct Tallied {
     pub walked: Walked,
     pub tally: DayTally,
@@ -41,7 +43,7 @@ pub struct Tallied {
 
 // How far the tally of a log came: the bytes of the part that are used, the place of the next record, how the walk stands,
 // and the figures so far.
-#[derive(Drop)]
+#[derive(Clone, Copy)]
 pub struct Progress {
     pub used: usize,
     pub place: u64,
@@ -82,7 +84,7 @@ pub fn finish(rest: &[u8], place: u64, tally: DayTally) -> Tallied
 }
 
 // What was met at a byte: a record that was counted, the end of what is there, or a refusal's number.
-#[derive(Drop)]
+#[derive(Clone, Copy)]
 enum Met {
     Record,
     End,
@@ -90,7 +92,7 @@ enum Met {
 }
 
 // What was met, the byte behind it, and the tally with it.
-#[derive(Drop)]
+#[derive(Clone, Copy)]
 struct Step {
     met: Met,
     behind: usize,

@@ -1,5 +1,7 @@
 // A cart's velocity from its scene (the Rust's lib.rs, cut): the obstacles' lines, then the neighbours', solved in at
 // most two passes.
+#![tactic(auto)]
+
 ghost use Rattle.std.specs.Prelude.{◌≡◌};
 ghost use Rattle.dodgy_2d.specs.Outcomes.{scene_outcome};
 ghost use Rattle.dodgy_2d.specs.Origins.{scene_origin};
@@ -18,7 +20,7 @@ mod passes;
 
 // What a velocity is wanted for: the cart, its walls and its neighbours' lines. Vertices are two numbers each, obstacle
 // behind obstacle; lines four.
-#[derive(Drop)]
+#[derive(Clone, Copy)]
 pub struct Scene {
     pub agent: Agent,
     pub margin: f32,
@@ -57,7 +59,7 @@ impl Scene {
 }
 
 // A scene without its lists, which are lent beside it.
-#[derive(Drop)]
+#[derive(Clone, Copy)]
 pub struct BareScene {
     pub agent: Agent,
     pub margin: f32,
@@ -69,7 +71,7 @@ pub struct BareScene {
 }
 
 // How many lines the obstacles made, or the number of a refusal.
-#[derive(Drop)]
+#[derive(Clone, Copy)]
 pub(crate) enum EdgeLines {
     Count(usize),
     Refused(u8),
@@ -77,7 +79,7 @@ pub(crate) enum EdgeLines {
 
 // The outcome 1 to 5 with the velocity, the failed line of the last pass run, the probes of all passes, and the failed
 // line's origin; or the number of the scene's refusal.
-#[derive(Drop)]
+#[derive(Clone, Copy)]
 pub enum SceneAnswer {
     Outcome(u8, f32, f32, FailedLine, u32, Origin),
     Refused(u8),

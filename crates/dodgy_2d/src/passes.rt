@@ -15,7 +15,7 @@ use linear_programming::{Answer, FailedLine, Phase};
 use lines::{Line, Origin};
 
 // What a pass comes to, and the origin of its failed line.
-#[derive(Drop)]
+#[derive(Clone, Copy)]
 struct Passed {
     answer: Answer,
     origin: Origin,

@@ -1,5 +1,7 @@
 // Runs obstacles with doubled vertices, and some without (02, T-11), through every call that takes an obstacle, lent or
 // in a record: all must tell the same number, 0 where none is told.
+#![tactic(auto)]
+
 use admission::Judged;
 use verdict::Tally;
 

@@ -1,5 +1,7 @@
 // The line that one edge of an obstacle asks an agent to keep to (the Rust's obstacles.rs, `get_line_for_agent_to_edge`
 // and what it calls).
+#![tactic(auto)]
+
 ghost use Rattle.std.specs.Prelude.{◌≡◌};
 ghost use Rattle.lines.specs.Lines.{lines_of};
 ghost use Rattle.edges.specs.EdgeLines.{line_for_edge};
@@ -14,7 +16,7 @@ mod cutoffs;
 mod in_front;
 mod shadows;
 
-#[derive(Drop)]
+#[derive(Clone, Copy)]
 pub struct Agent {
     pub position: Vec2,
     pub velocity: Vec2,
@@ -28,21 +30,21 @@ impl Agent {
 }
 
 // An end of an edge, and whether the obstacle is convex there.
-#[derive(Drop)]
+#[derive(Clone, Copy)]
 pub struct EdgeVertex {
     pub point: Vec2,
     pub convex: bool,
 }
 
 // A vertex beyond the edge, where there is one.
-#[derive(Drop)]
+#[derive(Clone, Copy)]
 pub enum Outer {
     At(Vec2),
     Absent,
 }
 
 // An edge with the vertices beyond its ends.
-#[derive(Drop)]
+#[derive(Clone, Copy)]
 pub struct Edge {
     pub left_vertex: EdgeVertex,
     pub right_vertex: EdgeVertex,
@@ -56,14 +58,14 @@ impl Edge {
 }
 
 // An edge's line, where it has one.
-#[derive(Drop)]
+#[derive(Clone, Copy)]
 pub enum EdgeLine {
     Made(Line),
     Nothing,
 }
 
 // What is worked out once of an edge that the agent is in front of.
-#[derive(Drop)]
+#[derive(Clone, Copy)]
 pub(crate) struct EdgeShape {
     pub(crate) relative_left_vertex: Vec2,
     pub(crate) relative_right_vertex: Vec2,
@@ -76,21 +78,21 @@ pub(crate) struct EdgeShape {
 }
 
 // The two sides of an edge and of its shadow.
-#[derive(Drop)]
+#[derive(Clone, Copy)]
 pub(crate) enum Side {
     Left,
     Right,
 }
 
 // One side of an edge's shadow, and whether the edge beyond covers it.
-#[derive(Drop)]
+#[derive(Clone, Copy)]
 pub(crate) struct Shadow {
     pub(crate) direction: Vec2,
     pub(crate) covered: bool,
 }
 
 // The edge in velocity space, cut off at the horizon, and the times at which the velocity projects to it and to its shadows.
-#[derive(Drop)]
+#[derive(Clone, Copy)]
 pub(crate) struct Cutoff {
     pub(crate) left_cutoff: Vec2,
     pub(crate) right_cutoff: Vec2,

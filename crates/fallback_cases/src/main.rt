@@ -1,6 +1,8 @@
 // Runs cases of `index_building` and `fallback_index`: standard input holds logs, indexes and what is asked of them,
 // command behind command; standard output what each call answered, and the bytes that it left. oracle/indexes makes the
 // cases and says what must come out. A command is a byte, three numbers of four bytes, and the bytes that it brings.
+#![tactic(auto)]
+
 ghost use Rattle.std.specs.Prelude.{◌≤◌};
 
 use fallback_index::{Fallbacks, Update};
@@ -8,7 +10,7 @@ use index_building::{Extent, IndexWritten, PartBuilt};
 use libc::{STDIN_FILENO, STDOUT_FILENO};
 
 // How many bytes of log and index there are, and whether to go on.
-#[derive(Drop)]
+#[derive(Clone, Copy)]
 struct Held {
     log: usize,
     index: usize,
@@ -30,7 +32,7 @@ impl Held {
 }
 
 // How many answers were a walk's; and of the first that was not, if there is one, the question.
-#[derive(Drop)]
+#[derive(Clone, Copy)]
 struct Agreed {
     good: u64,
     all: bool,

@@ -1,5 +1,7 @@
 // Fallbacks between two ticks (02, T-10): questions that a log's index answers from two short stretches of the log, and
 // an append.
+#![tactic(auto)]
+
 ghost use Rattle.std.specs.Prelude.{◌≡◌};
 ghost use Rattle.index_building.specs.Indexes.{greatest, standing};
 ghost use Rattle.fallback_index.specs.Questions.{stretch_bytes, question_of, question_in};
@@ -13,7 +15,7 @@ use index_building::IndexWritten;
 use log_walks::Met;
 
 // How many fallbacks lie between two records, or the number of a refusal.
-#[derive(Drop)]
+#[derive(Clone, Copy)]
 pub enum Fallbacks {
     Count(u64),
     Refused(u8),
@@ -21,7 +23,7 @@ pub enum Fallbacks {
 
 // What an append changes: the log's length, the record count and the fallbacks, all with the new record; or the number
 // of a refusal.
-#[derive(Drop)]
+#[derive(Clone, Copy)]
 pub enum Update {
     Numbers(u64, u64, u64),
     Refused(u8),

@@ -2,6 +2,8 @@
 // `append LOG INDEX RECORD`. What is told is a line on standard output: an index's length, a count, or `refused R`,
 // whose meaning is told on standard error. A file that cannot be opened, read or written is told there too, by its
 // name.
+#![tactic(auto)]
+
 use fallback_index::Fallbacks;
 use index_building::{Extent, IndexWritten};
 use libc::{STDERR_FILENO, STDOUT_FILENO};
@@ -12,14 +14,14 @@ mod files;
 mod questions;
 
 // What was read: whether no read has failed, which is told, and how many bytes.
-#[derive(Drop)]
+#[derive(Clone, Copy)]
 pub(crate) struct Brought {
     good: bool,
     count: usize,
 }
 
 // Log and index: whether both can be used, their descriptors and lengths.
-#[derive(Drop)]
+#[derive(Clone, Copy)]
 pub(crate) struct Pair {
     good: bool,
     log: i32,
@@ -29,7 +31,7 @@ pub(crate) struct Pair {
 }
 
 // An entry, and the log from where it points: whether no read has failed, and how many bytes of each were read.
-#[derive(Drop)]
+#[derive(Clone, Copy)]
 pub(crate) struct Side {
     good: bool,
     entry: usize,
@@ -38,7 +40,7 @@ pub(crate) struct Side {
 
 // Whether there may be more of a log to read; or how it ended: at the log's end, with a refusal, or with a read or a
 // write that failed.
-#[derive(Drop)]
+#[derive(Clone, Copy)]
 pub(crate) enum Stage {
     Open,
     AtEnd,
@@ -48,7 +50,7 @@ pub(crate) enum Stage {
 }
 
 // What a build carries from read to read: how many bytes wait at the input's start, and how far the log is read.
-#[derive(Drop)]
+#[derive(Clone, Copy)]
 pub(crate) struct Reading {
     stage: Stage,
     kept: usize,

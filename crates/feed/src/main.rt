@@ -1,6 +1,8 @@
 // Reads scene records from standard input to its end and writes the answer to each to standard output (01, "Records
 // (ours)"). A read or a write that fails is told on standard error, the one sign of it that a program can give: it has
 // no exit status.
+#![tactic(auto)]
+
 ghost use Rattle.std.specs.Prelude.{◌≤◌, length};
 ghost use Rattle.records.specs.Turns.{Ready, Follows};
 

@@ -1,5 +1,7 @@
 // A session in a caller's memory: four arrays of plain numbers, as C can hold them. Whatever they hold, they say a
 // session; and a session is laid out in them in one way.
+#![tactic(auto)]
+
 ghost use Rattle.std.specs.Prelude.{◌≡◌, ◌*◌, ◌<◌, length};
 ghost use Rattle.lines.specs.Lines.{most_lines, lines_of, numbers_of};
 ghost use Rattle.lines.specs.Origins.{origins_of};

@@ -1,5 +1,7 @@
 // The index of a log's fallbacks (02, T-10), written: built from a log, whole or in parts, and stored over its old
 // bytes with new numbers.
+#![tactic(auto)]
+
 ghost use Rattle.std.specs.Prelude.{◌≡◌};
 ghost use Rattle.index_building.specs.Indexes.{standing, entry_place};
 ghost use Rattle.index_building.specs.Builds.{built_over, part_over, end_over};
@@ -9,7 +11,7 @@ mod builds;
 mod puts;
 
 // The bytes of an index that was written, or the number of a refusal.
-#[derive(Drop)]
+#[derive(Clone, Copy)]
 pub enum IndexWritten {
     Length(usize),
     Refused(u8),
@@ -34,7 +36,7 @@ impl IndexWritten {
 }
 
 // How far a log was read: its bytes, records and fallbacks so far.
-#[derive(Drop)]
+#[derive(Clone, Copy)]
 pub struct Extent {
     pub bytes: u64,
     pub records: u64,
@@ -43,14 +45,14 @@ pub struct Extent {
 
 // A part of a log that was read: the bytes of it that are used, the bytes of the entries that were written, and how
 // far the log is read then; or the number of a refusal.
-#[derive(Drop)]
+#[derive(Clone, Copy)]
 pub enum PartBuilt {
     Whole(usize, usize, Extent),
     Refused(u8),
 }
 
 // How far the records of a part reach, and what they bring; or the number of the first bad one's fault.
-#[derive(Drop)]
+#[derive(Clone, Copy)]
 pub(crate) enum Progress {
     Whole(usize, Extent),
     Fault(u8),

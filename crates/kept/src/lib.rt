@@ -1,4 +1,6 @@
 // What a program keeps of one read for the next: bytes moved to the start of its buffer.
+#![tactic(auto)]
+
 ghost use Rattle.std.specs.Prelude.{◌≡◌, ◌+◌, ◌≤◌, length};
 ghost use Rattle.kept.specs.Kept.{kept, shifted, kept_over};
 

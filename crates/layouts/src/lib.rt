@@ -1,5 +1,7 @@
 // Obstacles that are lent as numbers: their count, one kind and one vertex count each, and two numbers a vertex,
 // obstacle behind obstacle (02, T-01 and T-08).
+#![tactic(auto)]
+
 ghost use Rattle.std.specs.Prelude.{◌≡◌, ◌*◌, ◌≤◌, ◌<◌, length, drop, get_or};
 ghost use Rattle.admission.specs.Faults.{fault_of};
 ghost use Rattle.layouts.specs.Layouts.{kind_fault, count_fault, own_fault, layout_in, left_fault};
@@ -8,7 +10,7 @@ use admission::{Head, Judged, fault_unless, first_of};
 use dodgy_2d::Scene;
 
 // How many vertices an admitted layout has; or the number of its first fault.
-#[derive(Drop)]
+#[derive(Clone, Copy)]
 pub enum Layout {
     Vertices(usize),
     Fault(u8),

@@ -1,5 +1,7 @@
 // The linear program of a cart's velocity (the Rust's linear_programming.rs): the whole-list rules, as the single call
 // over a list of lines, and taken up again at a line.
+#![tactic(auto)]
+
 ghost use Rattle.std.specs.Prelude.{◌≡◌};
 ghost use Rattle.linear_programming.specs.Admit.{list_call, admitted_call};
 ghost use Rattle.linear_programming.specs.Resume.{resumed_call};
@@ -15,21 +17,21 @@ mod solve_list;
 
 // The phase that a list ends in: its point, by components, with the penetration where it is relaxed and the failed line
 // where that is rigid.
-#[derive(Drop)]
+#[derive(Clone, Copy)]
 pub enum Phase {
     Solving(f32, f32),
     Relaxing(f32, f32, f32),
     RigidFailure(usize, f32, f32),
 }
 
-#[derive(Drop)]
+#[derive(Clone, Copy)]
 pub enum FailedLine {
     NoLine,
     At(Failure),
 }
 
 // How a list of lines stands, with its probes; or the number of its refusal.
-#[derive(Drop)]
+#[derive(Clone, Copy)]
 pub enum Answer {
     Stands(Phase, FailedLine, u32),
     Refused(u8),

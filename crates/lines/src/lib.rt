@@ -1,5 +1,7 @@
 // A line, its origin, and lists of lines that are lent as numbers, four a line, or three an origin: the one place that
 // reads a line or an origin, the one that stores it, and what is admitted of a line.
+#![tactic(auto)]
+
 ghost use Rattle.std.specs.Prelude.{◌≡◌, get_or, length, take};
 ghost use Rattle.admission.specs.Faults.{fault_of};
 ghost use Rattle.lines.specs.Lines.{line as line_of, lines_of, off_line, line_stored};
@@ -10,7 +12,7 @@ use admission::{Judged, fault_unless, first_of, is_inside, is_within};
 use common::Vec2;
 
 // A half-plane to the left of `direction` through `point`.
-#[derive(Drop)]
+#[derive(Clone, Copy)]
 pub struct Line {
     pub point: Vec2,
     pub direction: Vec2,
@@ -40,7 +42,7 @@ impl Line {
 
 // Where a line comes from (02, T-06), in three whole numbers: its kind, then places counted from 0, an edge's obstacle
 // and left vertex, or a neighbour's own and 0. Nothing is judged of them: they are kept as they stand.
-#[derive(Drop)]
+#[derive(Clone, Copy)]
 pub struct Origin {
     pub kind: u32,
     pub place: u32,

@@ -1,4 +1,6 @@
 // Walks over the records of a log that count its fallbacks, the outcomes 3, 4 and 5 (02, T-10).
+#![tactic(auto)]
+
 ghost use Rattle.std.specs.Prelude.{◌≡◌};
 ghost use Rattle.arithmetic.specs.Binary32.{if◌then◌else◌};
 ghost use Rattle.log_walks.specs.Figures.{is_fallback};
@@ -7,14 +9,14 @@ ghost use Rattle.log_walks.specs.Walks.{walked, passed_by};
 use answer_logs::Logged;
 
 // The fallbacks met on a walk, or the number of the first bad record's fault.
-#[derive(Drop)]
+#[derive(Clone, Copy)]
 pub enum Met {
     Count(u64),
     Fault(u8),
 }
 
 // A record: the byte behind it, and 1 for a fallback, else 0; the number of a bad record's fault; or the end of the bytes.
-#[derive(Drop)]
+#[derive(Clone, Copy)]
 pub enum Passed {
     Record(usize, u64),
     Fault(u8),

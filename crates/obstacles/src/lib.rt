@@ -1,5 +1,7 @@
 // The lines that an obstacle's edges ask an agent to keep to (the Rust's obstacles.rs), and what is admitted of an
 // agent and of an obstacle.
+#![tactic(auto)]
+
 ghost use Rattle.std.specs.Prelude.{◌≡◌};
 ghost use Rattle.admission.specs.Faults.{fault_of};
 ghost use Rattle.obstacles.specs.ObstacleFaults.{vector_fault, agent_fault, head_fault, outline_fault};
@@ -20,7 +22,7 @@ mod obstacle;
 mod vertices;
 
 // The lines of one obstacle, four numbers each, and how many they are: blank behind them, and where the obstacle is refused.
-#[derive(Drop)]
+#[derive(Clone, Copy)]
 pub struct ObstacleLines {
     pub lines: [f32; 256],
     pub count: usize,
@@ -28,7 +30,7 @@ pub struct ObstacleLines {
 }
 
 // An edge's line after the admission of lines, or the number of its refusal.
-#[derive(Drop)]
+#[derive(Clone, Copy)]
 pub enum AdmittedLine {
     Kept(Line),
     Nothing,
@@ -36,7 +38,7 @@ pub enum AdmittedLine {
 }
 
 // How many lines the edges made, or the number of a refusal.
-#[derive(Drop)]
+#[derive(Clone, Copy)]
 pub(crate) enum AddedLines {
     Count(usize),
     Refused(u8),
@@ -112,7 +114,7 @@ pub fn get_line_alone(
 }
 
 // The ends of one edge, left and right; or the obstacle has no such edge.
-#[derive(Drop)]
+#[derive(Clone, Copy)]
 pub enum EdgeEnds {
     Between(Vec2, Vec2),
     Absent,

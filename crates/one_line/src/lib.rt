@@ -1,5 +1,7 @@
 // The one-line solve (01, "One-line solve"; the Rust's linear_programming.rs): the best value on a line within the
 // circle and the earlier lines.
+#![tactic(auto)]
+
 ghost use Rattle.std.specs.Prelude.{◌≡◌, take};
 ghost use Rattle.lines.specs.Lines.{lines_of};
 ghost use Rattle.one_line.specs.OneLine.{one_line};
@@ -11,7 +13,7 @@ use lines::Line;
 mod along_line;
 
 // What the best value is nearest to, or farthest along, by components.
-#[derive(Drop)]
+#[derive(Clone, Copy)]
 pub enum OptimalValue {
     Point(f32, f32),
     Direction(f32, f32),
@@ -19,7 +21,7 @@ pub enum OptimalValue {
 
 // What left nothing of a line: the circle, or the earlier line at an index, by its wrong side where it is parallel or
 // by the ends that crossed there.
-#[derive(Drop)]
+#[derive(Clone, Copy)]
 pub enum Cause {
     Circle,
     Parallel(usize),
@@ -27,14 +29,14 @@ pub enum Cause {
 }
 
 // The interval left on a line, with the earlier lines looked at; or none, with what closed it.
-#[derive(Drop)]
+#[derive(Clone, Copy)]
 pub(crate) enum Interval {
     Between(f32, f32, usize),
     Empty(usize, Cause),
 }
 
 // What a one-line solve finds, with its probes.
-#[derive(Drop)]
+#[derive(Clone, Copy)]
 pub enum AlongLine {
     At(Vec2, usize),
     Fails(usize, Cause),

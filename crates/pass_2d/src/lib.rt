@@ -1,5 +1,7 @@
 // The 2D pass (01, "Start" and "A line is met .."; the Rust's linear_programming.rs): the value nearest to a point, or
 // farthest along a direction, that meets the lines one by one, or the line that it fails at.
+#![tactic(auto)]
+
 ghost use Rattle.std.specs.Prelude.{◌≡◌, take};
 ghost use Rattle.lines.specs.Lines.{lines_of};
 ghost use Rattle.one_line.specs.Read.{objective_of};
@@ -14,14 +16,14 @@ use one_line::{Cause, OptimalValue};
 mod solve_2d;
 
 // The line that a 2D pass failed at, and what left nothing of it.
-#[derive(Drop)]
+#[derive(Clone, Copy)]
 pub struct Failure {
     pub index: usize,
     pub cause: Cause,
 }
 
 // The 2D pass so far, with its probes: the point now; the line it failed at and the point before it; or a refusal.
-#[derive(Drop)]
+#[derive(Clone, Copy)]
 pub enum LinearProgram2D {
     Feasible(Vec2, u32),
     Infeasible(Failure, Vec2, u32),

@@ -1,4 +1,6 @@
 // Phases, causes and failed lines as plain numbers, for a caller that has no enums; and back.
+#![tactic(auto)]
+
 ghost use Rattle.std.specs.Prelude.{◌≡◌};
 ghost use Rattle.plain_numbers.specs.Kinds.{phase_kind, phase_index, phase_in, cause_kind, cause_line, cause_in, failed_kind, failed_index, failed_cause, failed_in};
 

@@ -1,4 +1,6 @@
 // Records answered (01, "Records (ours)"): one scene record to its answer, and the program's work on a stream of records.
+#![tactic(auto)]
+
 ghost use Rattle.std.specs.Prelude.{◌≡◌};
 ghost use Rattle.answer_records.specs.Answers.{written_of};
 ghost use Rattle.records.specs.Answered.{answer_to, solved, scene_answer_to};
@@ -18,7 +20,7 @@ mod steps;
 // Where a stream of records stands after a turn: how many bytes of answers are at the output's start, to be written;
 // how many bytes wait at the input's start for the next read; how many bytes of an overlong record are still to be
 // skipped; and whether there may be more to read.
-#[derive(Drop)]
+#[derive(Clone, Copy)]
 pub struct Stream {
     pub put: usize,
     pub kept: usize,
@@ -52,7 +54,7 @@ impl Stream {
 
 // How far the work on a stream got: the bytes of the input that are used, the bytes of answers that stand at the output's start,
 // and how many bytes of an overlong record are still to be skipped.
-#[derive(Drop)]
+#[derive(Clone, Copy)]
 pub(crate) struct Place {
     pub(crate) used: usize,
     pub(crate) put: usize,
@@ -61,7 +63,7 @@ pub(crate) struct Place {
 
 // What stands next in a stream: bytes of an overlong record to be skipped; the length that an overlong record names; a whole
 // record, by the count of its bytes; or nothing whole.
-#[derive(Drop)]
+#[derive(Clone, Copy)]
 pub enum Part {
     Skipped(usize),
     Overlong(usize),
@@ -70,7 +72,7 @@ pub enum Part {
 }
 
 // The place behind a part that was worked; or there was none, or no room for its answer.
-#[derive(Drop)]
+#[derive(Clone, Copy)]
 pub(crate) enum Step {
     More(Place),
     Stop,

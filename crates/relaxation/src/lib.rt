@@ -1,5 +1,7 @@
 // Relaxation (01, "Relaxation"; the Rust's linear_programming.rs): where the lines cannot all be met, those that are
 // not rigid move back at the same speed, until the value that violates them least is found.
+#![tactic(auto)]
+
 ghost use Rattle.std.specs.Prelude.{◌≡◌, take};
 ghost use Rattle.lines.specs.Lines.{lines_of};
 ghost use Rattle.relaxation.specs.Calls.{resumed_relaxation};
@@ -11,14 +13,14 @@ use lines::Line;
 mod solve_3d;
 
 // What a previous line becomes for a relaxed one.
-#[derive(Drop)]
+#[derive(Clone, Copy)]
 pub(crate) enum Tightened {
     Kept(Line),
     Skipped,
 }
 
 // Relaxation so far: point, penetration and probes; or a refusal.
-#[derive(Drop)]
+#[derive(Clone, Copy)]
 pub enum LinearProgram3D {
     Relaxed(Vec2, f32, u32),
     Refused(u8),

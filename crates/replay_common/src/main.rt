@@ -3,6 +3,8 @@
 // (2), a * k (2), a / k (2), dot, perp (2), squared length, squared distance, normalize (2), and 1 where a == b, else
 // 0. Then a second line's start (2) and end (2), and of it and the line from a to b 1 and the times (2) at which they
 // meet, or three zeros where they are parallel.
+#![tactic(auto)]
+
 ghost use Rattle.std.specs.Prelude.{◌≡◌, ◌<◌};
 ghost use Rattle.replay_common.specs.CommonSet.{operators_agree, functions_agree, is_times, is_replayed};
 

@@ -2,6 +2,8 @@
 // go to sessions in batches that are cut in several ways, with origins and without, and after each batch, refused ones
 // too, the session must stand as the answer to the lines so far, and have the origins that they were fed with. The
 // tally counts these comparisons.
+#![tactic(auto)]
+
 ghost use Rattle.std.specs.Prelude.{◌≡◌, ◌/◌, ◌≤◌, ◌<◌, length};
 ghost use Rattle.admission.specs.Faults.{fault_of};
 ghost use Rattle.replay_cuts.specs.CutsSet.{same_fault};
@@ -15,7 +17,7 @@ use verdict::Tally;
 
 // A session on its way through a record: the origins that it was fed, how many lines, the last number drawn, the
 // record's name, and the comparisons so far.
-#[derive(Drop)]
+#[derive(Clone, Copy)]
 struct Feeding {
     session: Session,
     kept: [Origin; Line::MOST],
@@ -26,7 +28,7 @@ struct Feeding {
 }
 
 // How lines are cut into batches: one each; 0 to 5, as drawn; one each with an empty batch before it, or with refused ones.
-#[derive(Drop)]
+#[derive(Clone, Copy)]
 enum Cut {
     Single,
     Drawn,

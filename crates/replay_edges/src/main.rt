@@ -2,6 +2,8 @@
 // where one of them is not admitted or the obstacle is at fault. A record is, in words: kind, how many numbers, answer
 // (how many lines, or 100 + the number of a refusal), count of the vertices (2), position (2), velocity (2), margin,
 // horizon; the numbers, two a vertex; then the lines, four numbers each.
+#![tactic(auto)]
+
 ghost use Rattle.std.specs.Prelude.{◌≡◌, ◌<◌, ◌≤◌};
 ghost use Rattle.replay_edges.specs.EdgesSet.{long_at, are_numbers, is_answer, is_replayed};
 

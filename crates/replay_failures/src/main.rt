@@ -1,6 +1,8 @@
 // Replays the set `failures`: scenes that are not refused, each with what an answer record does not carry, the cause
 // and the origin of the last pass's failed line. A record is its head (how many bytes the scene has, the failed line,
 // its cause, its origin) and the scene's record.
+#![tactic(auto)]
+
 ghost use Rattle.std.specs.Prelude.{◌<◌};
 
 use admission::Judged;

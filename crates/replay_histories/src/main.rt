@@ -1,6 +1,8 @@
 // Replays the set `histories`: the calls of sessions one after the other, each with how it is judged and how the
 // session stands then, by the Rust's answer for the lines that stand. A record is one call; the session goes on from
 // record to record, up to the next start. Where each word of a head stands is below.
+#![tactic(auto)]
+
 ghost use Rattle.std.specs.Prelude.{◌≡◌, ◌+◌, ◌*◌, ◌<◌, ◌≤◌, length};
 
 use admission::Judged;
@@ -10,7 +12,7 @@ use replay_standings::is_standing;
 use session::{Fed, Session, Unmet};
 
 // A walk over the records, and the session on its way.
-#[derive(Drop)]
+#[derive(Clone, Copy)]
 struct Playing {
     walk: Walk,
     session: Session,
@@ -73,7 +75,7 @@ fn called(session: Session, head: &[u8], rest: &[u8]) -> Fed {
 
 // Where the parts of a record stand behind its head: the origins that are told end at `told`, and numbers, their
 // origins and indices follow, so many of each.
-#[derive(Drop)]
+#[derive(Clone, Copy)]
 struct Parts {
     told: usize,
     numbers: usize,

@@ -1,5 +1,7 @@
 // Replays the set `lists`: the answers to whole line lists, the Rust's where a list is admitted, else the number of its refusal.
 // A record is its list and one answer.
+#![tactic(auto)]
+
 ghost use Rattle.std.specs.Prelude.{◌≡◌, ◌<◌};
 ghost use Rattle.linear_programming.specs.Read.{outcome_of};
 ghost use Rattle.replay_lists.specs.ListsSet.{is_answer, is_replayed};

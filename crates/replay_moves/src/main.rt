@@ -2,6 +2,8 @@
 // the buffer held then. A call is a pair, the version to move to, a pair, the buffer's length, a pair, the record's
 // length, and the record. The answer is a pair, the length that was written or FF00 and the refusal's number, and the
 // whole buffer. The oracle makes both files.
+#![tactic(auto)]
+
 use libc::{STDIN_FILENO, STDOUT_FILENO};
 use scene_records::SceneWritten;
 

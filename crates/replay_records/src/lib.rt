@@ -1,5 +1,7 @@
 // The records of a set of vectors: a walk over their file, and what a record holds at a place, counted in bytes:
 // inputs, and answers to compare with. Words are big-endian.
+#![tactic(auto)]
+
 ghost use Rattle.std.specs.Prelude.{◌≡◌, ◌-◌, ◌≤◌, take};
 ghost use Rattle.verdict.specs.Tallies.{no_vectors, is_good};
 ghost use Rattle.replay_records.specs.Answers.{number_at, vector_at, is_number, is_vector, is_flag, agrees_with};
@@ -10,7 +12,7 @@ use verdict::Tally;
 
 // A walk over the records of a file: how many indices are left to name records by, none once it is over, and the
 // comparisons so far.
-#[derive(Drop)]
+#[derive(Clone, Copy)]
 pub struct Walk {
     pub fd: i32,
     pub left: u32,

@@ -1,5 +1,7 @@
 // How lines stand against an answer, seven words from a place on: kind (0 solving, 1 relaxing, 2 rigid failure, 100 +
 // the number of a refusal), point (2), penetration, failed line, its cause, probes.
+#![tactic(auto)]
+
 ghost use Rattle.std.specs.Prelude.{◌≡◌};
 ghost use Rattle.common.specs.Vectors.{vec};
 ghost use Rattle.one_line.specs.Read.{cause_of};

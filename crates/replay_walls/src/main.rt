@@ -3,6 +3,8 @@
 // the answer, 0 where the move is clear, 1 where it crosses an edge, 100 + the number of a refusal; obstacle and left
 // vertex of the first crossed edge, and how many are crossed, 0 where none is; then the numbers, a word each, the kinds
 // and the counts, a byte each.
+#![tactic(auto)]
+
 ghost use Rattle.std.specs.Prelude.{◌<◌};
 
 use replay_records::{Walk, first_numbers, vector_at};

@@ -1,5 +1,7 @@
 // Calls the scene writer with parts from standard input, and writes to standard output what it told and what the buffer
 // held then. The oracle makes both files.
+#![tactic(auto)]
+
 use libc::{STDIN_FILENO, STDOUT_FILENO};
 
 mod call;

@@ -1,5 +1,7 @@
 // Tries `arithmetic::sqrt` on the vectors of data/. A vector is the pattern of a number and the pattern of its root,
 // four bytes each, the highest first.
+#![tactic(auto)]
+
 ghost use Rattle.std.specs.Prelude.{◌≡◌, ◌≤◌, length};
 ghost use Rattle.std.specs.Float.{binary32};
 ghost use Rattle.std.specs.Float.Ieee.{of_bits};

@@ -1,4 +1,6 @@
 // Moves of a scene record between its versions (02, T-07): from 1 to 2, and from 2 back to 1 where every number is 0.
+#![tactic(auto)]
+
 ghost use Rattle.std.specs.Prelude.{◌≡◌, ◌≤◌, length, take};
 ghost use Rattle.scene_records.specs.declared.Version.TheVariants.{One, Two};
 ghost use Rattle.scene_writer.specs.Writing.{written_of};

@@ -11,7 +11,7 @@ fn put_bytes(buffer: &mut [u8], at: usize, source: &[u8], from: usize, count: us
     ensures { buffer.new ≡ sets buffer.old at (take count (drop from source.now)) }
 {
     let end = from + count;
-    bytes::copy(&source[from..end], &mut buffer[at..]);
+    buffer[at..at + count].copy_from_slice(&source[from..end]);
 }
 
 // The new record's length and version, then what stands before its lines.

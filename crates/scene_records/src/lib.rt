@@ -1,4 +1,6 @@
 // Scene records (01, "Records"): the bytes of one record, read to a scene or to the number of their first fault.
+#![tactic(auto)]
+
 ghost use Rattle.std.specs.Prelude.{◌≡◌};
 ghost use Rattle.fields.specs.Got.{refused as refusedWith};
 ghost use Rattle.scene_records.specs.Steps.{from, told};
@@ -18,7 +20,7 @@ mod steps;
 mod walls;
 
 // The versions of a scene record: 01's, and 02's (T-07), which has a number before each neighbour line.
-#[derive(Drop)]
+#[derive(Clone, Copy)]
 pub enum Version {
     One,
     Two,
@@ -26,7 +28,7 @@ pub enum Version {
 
 // What a record of version 1 is read to: a scene; or the number of its first fault, with a blank scene beside it. A
 // scene holds arrays, so the answer is a struct.
-#[derive(Drop)]
+#[derive(Clone, Copy)]
 pub struct SceneRead {
     pub judged: Judged,
     pub scene: Scene,
@@ -41,7 +43,7 @@ impl SceneRead {
 
 // What a record of either version is read to: a scene and its neighbours' numbers, each 0 under version 1, with zeros
 // behind the last; or the number of the record's first fault, with a blank scene and zeros beside it.
-#[derive(Drop)]
+#[derive(Clone, Copy)]
 pub struct NumberedScene {
     pub judged: Judged,
     pub scene: Scene,
@@ -56,21 +58,21 @@ impl NumberedScene {
 }
 
 // How many bytes were written, the length field included; or the number of the first fault, and nothing was written.
-#[derive(Drop)]
+#[derive(Clone, Copy)]
 pub enum SceneWritten {
     Length(usize),
     Refused(u8),
 }
 
 // Where reading goes on; or the number of the first fault, behind which nothing more is read.
-#[derive(Drop)]
+#[derive(Clone, Copy)]
 pub(crate) enum Cursor {
     At(usize),
     Fault(u8),
 }
 
 // What a number is held to.
-#[derive(Drop)]
+#[derive(Clone, Copy)]
 pub(crate) enum Rule {
     Within(f32),
     Inside(f32, f32),
@@ -78,44 +80,44 @@ pub(crate) enum Rule {
 }
 
 // A field's value and where reading goes on. The value behind a fault means nothing.
-#[derive(Drop)]
+#[derive(Clone, Copy)]
 pub(crate) struct ByteRead {
     pub(crate) value: u8,
     pub(crate) next: Cursor,
 }
 
-#[derive(Drop)]
+#[derive(Clone, Copy)]
 pub(crate) struct NumberRead {
     pub(crate) value: f32,
     pub(crate) next: Cursor,
 }
 
-#[derive(Drop)]
+#[derive(Clone, Copy)]
 pub(crate) struct VectorRead {
     pub(crate) value: Vec2,
     pub(crate) next: Cursor,
 }
 
-#[derive(Drop)]
+#[derive(Clone, Copy)]
 pub(crate) struct LineRead {
     pub(crate) value: Line,
     pub(crate) next: Cursor,
 }
 
-#[derive(Drop)]
+#[derive(Clone, Copy)]
 pub(crate) struct WordRead {
     pub(crate) value: u32,
     pub(crate) next: Cursor,
 }
 
-#[derive(Drop)]
+#[derive(Clone, Copy)]
 pub(crate) struct VersionRead {
     pub(crate) value: Version,
     pub(crate) next: Cursor,
 }
 
 // A neighbour's number and line.
-#[derive(Drop)]
+#[derive(Clone, Copy)]
 pub(crate) struct NumberedRead {
     pub(crate) number: u32,
     pub(crate) line: Line,
@@ -123,7 +125,7 @@ pub(crate) struct NumberedRead {
 }
 
 // The cart with what it wishes for.
-#[derive(Drop)]
+#[derive(Clone, Copy)]
 pub struct Cart {
     pub agent: Agent,
     pub margin: f32,
@@ -153,21 +155,21 @@ impl Cart {
     }
 }
 
-#[derive(Drop)]
+#[derive(Clone, Copy)]
 pub(crate) struct CartRead {
     pub(crate) value: Cart,
     pub(crate) next: Cursor,
 }
 
 // A count, which is 0 behind a fault.
-#[derive(Drop)]
+#[derive(Clone, Copy)]
 pub(crate) struct CountRead {
     pub(crate) value: usize,
     pub(crate) next: Cursor,
 }
 
 // An obstacle's kind and how many vertices it has, which is 0 behind a fault.
-#[derive(Drop)]
+#[derive(Clone, Copy)]
 pub(crate) struct HeadRead {
     pub(crate) kind: u8,
     pub(crate) count: u8,

@@ -1,4 +1,6 @@
 // The scene writer (02, T-01): a scene's parts, lent as numbers, written as the record that `scene_records` reads.
+#![tactic(auto)]
+
 ghost use Rattle.std.specs.Prelude.{◌≡◌, ◌+◌, ◌*◌, ◌≤◌, length};
 ghost use Rattle.admission.specs.Faults.{fault_of};
 ghost use Rattle.scene_writer.specs.Writing.{parts_fault, rest_fault, written_of, written_scene};

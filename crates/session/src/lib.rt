@@ -1,6 +1,8 @@
 // The batch session (01, "The session has three phases"): lines come in batches, with their origins or without, and can
 // be taken back (02, T-12); after each call the session stands as the whole list of its lines does. It can be asked
 // which line of a batch matters (02, T-13).
+#![tactic(auto)]
+
 ghost use Rattle.std.specs.Prelude.{◌≡◌, ◌+◌, ◌-◌, ◌*◌, ◌/◌, ◌<◌, ◌≤◌, true, ◌++◌, length, take, nat_lt};
 ghost use Rattle.std.proofs.lemmas.List.Edits.{sets};
 ghost use Rattle.arithmetic.specs.Binary32.{if◌then◌else◌};
@@ -22,7 +24,7 @@ use lines::{Line, Origin};
 
 // The lines so far, the origin of each and their count, what they are solved for, and how they stand: the phase, the
 // failed line beside it, and the probes. No origin changes how they stand.
-#[derive(Drop)]
+#[derive(Clone, Copy)]
 pub struct Session {
     pub lines: [Line; Line::MOST],
     pub origins: [Origin; Line::MOST],
@@ -36,14 +38,14 @@ pub struct Session {
 }
 
 // What a call hands back: whether it was refused, and the session. A session holds an array, so the answer is a struct.
-#[derive(Drop)]
+#[derive(Clone, Copy)]
 pub struct Fed {
     pub judged: Judged,
     pub session: Session,
 }
 
 // What a change by origin hands back: how many lines were withdrawn, none where it was refused, and the answer.
-#[derive(Drop)]
+#[derive(Clone, Copy)]
 pub struct Changed {
     pub withdrawn: usize,
     pub fed: Fed,
@@ -51,7 +53,7 @@ pub struct Changed {
 
 // The first line of a batch that a session's point does not strictly meet, by the index that the line gets; or that
 // there is none; or why a batch would be refused.
-#[derive(Drop)]
+#[derive(Clone, Copy)]
 pub enum Unmet {
     At(usize),
     Nothing,

@@ -1,6 +1,8 @@
 // Reads a log of answer records from standard input to its end and writes the page of its figures to standard output
 // (02, T-02), or the line `refused R at N`. A read or a write that fails is told on standard error, the one sign of it
 // that a program can give: it has no exit status.
+#![tactic(auto)]
+
 ghost use Rattle.std.specs.Prelude.{◌≡◌, ◌≤◌, length};
 ghost use Rattle.tally.specs.Turns.{held, ended_over, read_over, Follows};
 
@@ -8,7 +10,7 @@ use daily_tally::{DayTally, Walked};
 use libc::{STDIN_FILENO, STDOUT_FILENO};
 
 // Whether there may be more to read, the walk has ended, or a read has failed.
-#[derive(Drop)]
+#[derive(Clone, Copy)]
 enum Stage {
     Open,
     Ended(Walked),
@@ -16,7 +18,7 @@ enum Stage {
 }
 
 // What is kept from turn to turn: how many bytes wait at the input's start, the place of the next record, and the figures.
-#[derive(Drop)]
+#[derive(Clone, Copy)]
 struct Reading {
     stage: Stage,
     kept: usize,

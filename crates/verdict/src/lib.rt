@@ -1,11 +1,13 @@
 // How many vectors of a set were good, and the line that tells it.
+#![tactic(auto)]
+
 ghost use Rattle.std.specs.Prelude.{◌≡◌};
 ghost use Rattle.verdict.specs.Tallies.{more_of, first_of, with_of, is_good};
 
 use libc::STDOUT_FILENO;
 
 // How many vectors were good and how many bad, and the name of the first bad one, which says nothing while none is bad.
-#[derive(Drop)]
+#[derive(Clone, Copy)]
 pub struct Tally {
     pub good: u64,
     pub bad: u64,

@@ -1,4 +1,6 @@
 // Whether a move from one position to another crosses an edge of lent obstacles (02, T-08).
+#![tactic(auto)]
+
 ghost use Rattle.std.specs.Prelude.{◌≡◌, ◌+◌, ◌/◌, ◌≤◌, ◌<◌, length};
 ghost use Rattle.admission.specs.Faults.{fine, fault_of};
 ghost use Rattle.obstacles.specs.Obstacles.{ends_of};
@@ -12,7 +14,7 @@ use obstacles::{EdgeEnds, judge_vector};
 
 // The first crossed edge, as its obstacle and its left vertex, and how many are crossed; or none is; or the number of
 // the first fault.
-#[derive(Drop)]
+#[derive(Clone, Copy)]
 pub enum WallCheck {
     Crossed(usize, usize, usize),
     Clear,

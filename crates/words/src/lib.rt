@@ -1,4 +1,6 @@
 // Big-endian words of four bytes and pairs of two in lent bytes, read and written, and binary32 numbers by their pattern.
+#![tactic(auto)]
+
 ghost use Rattle.std.specs.Prelude.{◌≡◌, ◌+◌, ◌%◌, ◌<◌, get_or, set};
 ghost use Rattle.std.proofs.lemmas.List.Edits.{sets};
 ghost use Rattle.std.specs.Float.{binary32};

@@ -1,5 +1,7 @@
 // Writes scene records again: each record of standard input that the reader accepts has its parts lent to the writer,
 // which has to leave the same bytes.
+#![tactic(auto)]
+
 ghost use Rattle.std.specs.Prelude.{◌≤◌, length};
 
 use libc::STDIN_FILENO;
@@ -8,7 +10,7 @@ use verdict::Tally;
 mod again;
 
 // What reading one record came to: how many bytes it has; or that the input has ended, or within it.
-#[derive(Drop)]
+#[derive(Clone, Copy)]
 enum Reading {
     Whole(usize),
     End,

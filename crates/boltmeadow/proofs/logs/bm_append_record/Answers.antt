@@ -1,0 +1,7 @@
+-- `boltmeadow::logs::bm_append_record` meets its contract. Assumes nothing.
+use borrow.Author.Rules.{rules}
+use Rattle.boltmeadow.proofs.LeftLaws.{index-left}
+use Rattle.boltmeadow.proofs.logs.bm_append_record.Goals as goal
+
+pub returns : goal.returns
+returns c = index-left c.indexed.ensures c.append_record-appended.ensures

@@ -1,0 +1,7 @@
+-- `boltmeadow::logs::bm_build_index` meets its contract. Assumes nothing.
+use borrow.Author.Rules.{rules}
+use Rattle.boltmeadow.proofs.LeftLaws.{index-left}
+use Rattle.boltmeadow.proofs.logs.bm_build_index.Goals as goal
+
+pub returns : goal.returns
+returns c = index-left c.indexed.ensures c.build_index-built.ensures

@@ -1,0 +1,7 @@
+-- `boltmeadow::bm_session_start_in` meets its contract. Assumes nothing.
+use borrow.Author.Rules.{rules}
+use Rattle.boltmeadow.proofs.sessions.bm_session_start_in.Goals as goal
+
+pub returns : goal.returns
+returns c =
+    rw (← c.new.ensures, ← c.start-fed.ensures.0) c.leave.ensures

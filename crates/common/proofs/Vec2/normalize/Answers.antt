@@ -1,0 +1,8 @@
+-- `common::Vec2::normalize` meets its contract. Assumes nothing.
+use borrow.Author.Rules.{rules}
+use Rattle.common.specs.Vectors.{normalize_of}
+use Rattle.common.proofs.Vec2.normalize.Goals as goal
+
+pub returns : goal.returns
+unfolding normalize_of
+returns c = cc

@@ -1,0 +1,54 @@
+use borrow.Author.Rules.{rules}
+use Prim.Native.Nat.{◌-◌}
+use native.Mathlib.Omega.{arith}
+use mathlib.Core.Path.{◌≡◌, sym, ap, ◌∙◌}
+use lib.ListN.{length}
+use Rattle.comparison.specs.Comparing.{advanced}
+use Rattle.comparison.proofs.TurnLaws.{is_onward, advanced_at, from_start, part-reach, goes_on, stops}
+use Rattle.comparison.proofs.advance.Goals as goal
+
+pub loop-j-init : goal.loop-j-init
+loop-j-init c = let a = c.args in from_start a.ours.now a.theirs.now a.place
+
+pub loop-j-smaller : goal.loop-j-smaller
+loop-j-smaller c =
+    let l = c.loop-j in
+    let a = c.args in
+    let read = rw c.in-Onward.is at c.part_turn-turn.ensures in
+    let far = part-reach a.ours.now a.theirs.now l.at l.by l.next read in
+    omega (arith, far.0, far.1)
+
+pub loop-j-preserved : goal.loop-j-preserved
+loop-j-preserved c =
+    let l = c.loop-j in
+    let a = c.args in
+    let read = rw c.in-Onward.is at c.part_turn-turn.ensures in
+    rw c.next_place-next.ensures (l.invariant ∙ goes_on a.ours.now a.theirs.now l.at l.by l.next read)
+
+pub returns-in-Unreadable : goal.returns-in-Unreadable
+returns-in-Unreadable c =
+    let l = c.loop-j in
+    let a = c.args in
+    c.stopped.ensures ∙ sym (l.invariant ∙ stops a.ours.now a.theirs.now l.at l.by l.next
+    c.part_turn-turn.ensures (ap is_onward c.in-Unreadable.is))
+
+pub returns-in-Different : goal.returns-in-Different
+returns-in-Different c =
+    let l = c.loop-j in
+    let a = c.args in
+    c.stopped-in-Different.ensures ∙ sym (l.invariant ∙ stops a.ours.now a.theirs.now l.at l.by l.next
+    c.part_turn-turn.ensures (ap is_onward c.in-Different.is))
+
+pub returns-in-BothEnded : goal.returns-in-BothEnded
+returns-in-BothEnded c =
+    let l = c.loop-j in
+    let a = c.args in
+    c.stopped-in-BothEnded.ensures ∙ sym (l.invariant ∙ stops a.ours.now a.theirs.now l.at l.by l.next
+    c.part_turn-turn.ensures (ap is_onward c.in-BothEnded.is))
+
+pub returns-in-OneEnded : goal.returns-in-OneEnded
+returns-in-OneEnded c =
+    let l = c.loop-j in
+    let a = c.args in
+    c.stopped-in-OneEnded.ensures ∙ sym (l.invariant ∙ stops a.ours.now a.theirs.now l.at l.by l.next
+    c.part_turn-turn.ensures (ap is_onward c.in-OneEnded.is))

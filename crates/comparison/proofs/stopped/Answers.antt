@@ -1,0 +1,6 @@
+-- `comparison::stopped` meets its contract. Assumes nothing.
+use borrow.Author.Rules.{rules}
+use Rattle.comparison.proofs.stopped.Goals as goal
+
+pub returns : goal.returns
+returns c = rw c.found_by-found.ensures

@@ -1,0 +1,6 @@
+-- `daily_tally::finish` meets its contract. Assumes nothing.
+use Rattle.std.proofs.Common.{rules}
+use Rattle.daily_tally.proofs.finish.Goals as goal
+
+pub returns : goal.returns
+returns c = c.finish_within.ensures.0

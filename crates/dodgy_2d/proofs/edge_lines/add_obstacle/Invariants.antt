@@ -1,0 +1,31 @@
+-- `dodgy_2d::edge_lines::add_obstacle` meets its contract. The invariant: what its first i edges make stands behind the
+-- `count` lines, their walls are noted beside it, and the lines before it are as they were. Assumes nothing.
+use Prim.Native.Nat.{◌+◌, ◌-◌, ◌*◌, ◌/◌, ◌≤◌, ◌<◌}
+use mathlib.Core.Path.{◌≡◌, refl, sym, ◌∙◌}
+use mathlib.Core.List.{◌++◌, map, append-nil}
+use native.Mathlib.Omega.{arith}
+use native.Mathlib.Nat.{add-zero}
+use lib.ListN.{length, take, drop}
+use Rattle.lines.specs.Lines.{lines_of}
+use Rattle.lines.specs.Origins.{edge_origin}
+use Rattle.lines.proofs.Stored.{stored-sets}
+use Rattle.obstacles.specs.Vertices.{vertices_of}
+use Rattle.obstacles.specs.Obstacles.{lines as standing, edge_count, obstacle_lines, obstacle_edges, lines_up_to, makers_up_to}
+use Rattle.obstacles.proofs.EdgesInOrder.{few-counted, alone-edge, add_kept, add_nothing, add-refused, maker-kept, maker-nothing}
+use Rattle.dodgy_2d.specs.Read.{walls_in, counted, none_told}
+use Rattle.dodgy_2d.proofs.EdgesJoined.{standing-own, others-stay, own-next}
+use Rattle.dodgy_2d.proofs.OriginsNoted.{noted-on}
+use borrow.Author.Rules.{rules}
+use Rattle.dodgy_2d.proofs.edge_lines.add_obstacle.Given as goal
+
+abbrev pub invariant-loop-i : goal.invariant-loop-i
+invariant-loop-i l =     (l.own ≤ l.i) × (l.i ≤ l.all) × (l.all ≤ length l.vertices / 2) × (l.count + length l.vertices / 2 ≤ 192) × (l.place < 16)
+    × (length l.numbers ≡ 1024) × (length l.walls ≡ 192) × (take (4 * l.count) l.numbers ≡ take (4 * l.count) l.initial.numbers)
+    × (lines_up_to l.agent l.kind (length l.vertices / 2) (vertices_of l.vertices) l.margin l.horizon l.i
+    ≡ standing (lines_of (take (4 * l.own) (drop (4 * l.count) l.numbers))))
+    × (walls_in (l.count + l.own) l.walls
+    ≡ walls_in l.count l.initial.walls ++ map (edge_origin l.place) (makers_up_to l.agent l.kind (length l.vertices / 2)
+    (vertices_of l.vertices) l.margin l.horizon l.i))
+
+abbrev pub decreases-loop-i : goal.decreases-loop-i
+decreases-loop-i l = l.all - l.i

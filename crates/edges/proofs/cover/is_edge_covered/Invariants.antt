@@ -1,0 +1,18 @@
+-- `edges::cover::is_edge_covered` meets its contract. The invariant: the lines before i cover nothing. Assumes nothing.
+use Prim.Native.Nat.{◌/◌, ◌-◌, ◌≤◌}
+use mathlib.Core.Path.{◌≡◌, refl, sym, ◌∙◌}
+use native.Mathlib.Omega.{arith}
+use lib.ListN.{length, drop}
+use Rattle.lines.specs.Lines.{lines_of, off_line}
+use Rattle.lines.proofs.Rows.{lines_long}
+use Rattle.edges.specs.Cover.{is_edge_covered}
+use Rattle.edges.proofs.Covered.{covered-at, covered-on, covered-done}
+use borrow.Author.Rules.{rules}
+use Rattle.edges.proofs.cover.is_edge_covered.Given as goal
+
+abbrev pub invariant-loop-i : goal.invariant-loop-i
+invariant-loop-i l =     (l.i ≤ length l.existing_lines / 4) × (is_edge_covered l.left_vertex l.right_vertex l.horizon l.margin (lines_of l.existing_lines)
+    ≡ is_edge_covered l.left_vertex l.right_vertex l.horizon l.margin (drop l.i (lines_of l.existing_lines)))
+
+abbrev pub decreases-loop-i : goal.decreases-loop-i
+decreases-loop-i l = length l.existing_lines / 4 - l.i

@@ -1,0 +1,30 @@
+use Prim.Native.Nat.{◌-◌, ◌≤◌}
+use mathlib.Core.Path.{◌≡◌, refl}
+use native.Mathlib.Omega.{arith}
+use lib.ListN.{length, take, length-set}
+use Rattle.lines.specs.Lines.{lines_of, off_line}
+use Rattle.lines.proofs.Rows.{lines_long}
+use Rattle.held_sessions.proofs.FillLaws.{filled_next, filled}
+use borrow.Author.Rules.{rules}
+use Rattle.held_sessions.proofs.lines_in.Goals as goal
+
+pub loop-i-init : goal.loop-i-init
+loop-i-init c = (omega arith, search rules, refl)
+
+pub loop-i-preserved : goal.loop-i-preserved
+loop-i-preserved c =
+    let l = c.loop-i in
+    let b = c.args.numbers.now in
+    let long = lines_long b in (
+      omega arith,
+      simp length-set l.invariant.1,
+      filled_next l.held (lines_of b) l.i off_line (omega arith)
+          (omega arith) l.invariant.2 c.line_at.ensures,
+    )
+
+pub returns : goal.returns
+returns c =
+    let l = c.loop-i in
+    let b = c.args.numbers.now in
+    let long = lines_long b in
+    filled l.held (lines_of b) l.i (omega arith) (omega arith) l.invariant.2

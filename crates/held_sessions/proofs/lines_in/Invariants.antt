@@ -1,0 +1,16 @@
+-- `held_sessions::lines_in` meets its contract. The invariant: the first i lines are read. Assumes nothing.
+use Prim.Native.Nat.{◌-◌, ◌≤◌}
+use mathlib.Core.Path.{◌≡◌, refl}
+use native.Mathlib.Omega.{arith}
+use lib.ListN.{length, take, length-set}
+use Rattle.lines.specs.Lines.{lines_of, off_line}
+use Rattle.lines.proofs.Rows.{lines_long}
+use Rattle.held_sessions.proofs.FillLaws.{filled_next, filled}
+use borrow.Author.Rules.{rules}
+use Rattle.held_sessions.proofs.lines_in.Given as goal
+
+abbrev pub invariant-loop-i : goal.invariant-loop-i
+invariant-loop-i l = (l.i ≤ 256) × (length l.held ≡ 256) × (take l.i l.held ≡ take l.i (lines_of l.numbers))
+
+abbrev pub decreases-loop-i : goal.decreases-loop-i
+decreases-loop-i l = 256 - l.i

@@ -1,0 +1,18 @@
+-- `held_sessions::put_lines` meets its contract. The invariant: the first n lines are laid out. Assumes nothing.
+use Prim.Native.Nat.{◌-◌, ◌≤◌}
+use mathlib.Core.Path.{◌≡◌, refl, sym, ap, ◌∙◌}
+use native.Mathlib.Omega.{arith}
+use lib.ListN.{length, take}
+use Rattle.lines.specs.Lines.{lines_of, numbers_of, off_line}
+use Rattle.lines.proofs.Rows.{lines_long}
+use Rattle.lines.proofs.Stored.{stored-line}
+use Rattle.lines.proofs.Numbers.{numbers-back}
+use Rattle.held_sessions.proofs.FillLaws.{filled_next, filled}
+use borrow.Author.Rules.{rules}
+use Rattle.held_sessions.proofs.put_lines.Given as goal
+
+abbrev pub invariant-loop-n : goal.invariant-loop-n
+invariant-loop-n l = (l.n ≤ 256) × (length l.numbers ≡ 1024) × (take l.n (lines_of l.numbers) ≡ take l.n l.lines)
+
+abbrev pub decreases-loop-n : goal.decreases-loop-n
+decreases-loop-n l = 256 - l.n

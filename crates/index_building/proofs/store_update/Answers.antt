@@ -1,0 +1,38 @@
+-- `index_building::store_update` meets its contract. Assumes nothing.
+use native.Mathlib.Omega.{arith}
+use borrow.Author.Rules.{rules}
+use Rattle.index_building.proofs.StoredLaws.{new-length, stored-long, stored-many, stored_short, stored-done}
+use Rattle.index_building.proofs.store_update.Goals as goal
+
+pub returns-then-total-gt-GREATEST : goal.returns-then-total-gt-GREATEST
+returns-then-total-gt-GREATEST c = stored-long _ _ _ _ c.if-total-gt-GREATEST.true
+
+pub returns-then-count-gt-GREATEST : goal.returns-then-count-gt-GREATEST
+returns-then-count-gt-GREATEST c = stored-many _ _ _ _ (omega (arith, c.if-total-gt-GREATEST.false)) c.if-count-gt-GREATEST.true
+
+pub returns-then-buffer-whole : goal.returns-then-buffer-whole
+returns-then-buffer-whole c =
+    stored_short _ _ _ _ (omega (arith, c.if-total-gt-GREATEST.false)) (omega (arith, c.if-count-gt-GREATEST.false))
+    (omega (arith, c.if-buffer-whole.true, c.entry_at-whole.ensures))
+
+pub put_new_entry-requires : goal.put_new_entry-requires
+put_new_entry-requires c =
+    let a = c.args in
+    omega (
+      arith,
+      c.entry_at.ensures,
+      new-length a.count a.total a.before,
+      c.put_head.auto.0,
+      c.if-buffer-whole.false,
+      c.entry_at-whole.ensures,
+    )
+
+pub shape_of-buffer : goal.shape_of-buffer
+shape_of-buffer c =
+    omega (arith, c.put_new_entry.auto.0, c.put_head.auto.0)
+
+pub returns : goal.returns
+returns c =
+    stored-done _ _ _ _ (omega (arith, c.if-total-gt-GREATEST.false)) (omega (arith, c.if-count-gt-GREATEST.false)) _ _ _
+    (omega (arith, c.entry_at-whole.ensures)) (omega (arith, c.if-buffer-whole.false, c.entry_at-whole.ensures)) c.put_head.ensures
+    (rw c.entry_at.ensures at c.put_new_entry.ensures.0)

@@ -1,0 +1,40 @@
+-- `linear_programming::solve_list::after_pass` meets its contract. Assumes nothing.
+use mathlib.Core.Path.{◌∙◌}
+use borrow.Author.Tests.{lt-ltb, le-ltb}
+use Rattle.arithmetic.specs.Binary32.{if◌then◌else◌}
+use Rattle.lines.specs.Lines.{lines_of}
+use Rattle.lines.proofs.Fold.{taken-most}
+use Rattle.pass_2d.specs.Read.{failure_of}
+use Rattle.relaxation.proofs.CallLaws.{relaxed-most}
+use Rattle.linear_programming.specs.Whole.{failed_line, after_pass}
+use Rattle.linear_programming.proofs.ResumeLaws.{relaxed-behind}
+use borrow.Author.Rules.{rules}
+use Rattle.linear_programming.proofs.solve_list.after_pass.Goals as goal
+
+pub returns-then-k-rigid : goal.returns-then-k-rigid
+unfolding after_pass if◌then◌else◌
+returns-then-k-rigid c = simp (lt-ltb _ _ c.if-k-rigid.true, c.in-Infeasible.is)
+
+pub relaxed_answer-requires : goal.relaxed_answer-requires
+relaxed_answer-requires c =
+    let probes = rw c.in-Infeasible.is at c.requires.1 in
+    let short = taken-most c.args.count (lines_of c.args.lines.now) c.requires.0 in
+    (probes, relaxed-most _ _ _ short _ _ _ c.solve_linear_program_3d-relaxed.result c.solve_linear_program_3d-relaxed.ensures)
+
+pub returns-in-Feasible : goal.returns-in-Feasible
+unfolding after_pass if◌then◌else◌
+returns-in-Feasible c = simp c.in-Feasible.is
+
+pub returns-else-k-rigid : goal.returns-else-k-rigid
+unfolding after_pass if◌then◌else◌
+returns-else-k-rigid c =
+    let parts = c.pass-in-Infeasible-1.given.0 in
+    let short = taken-most c.args.count (lines_of c.args.lines.now) c.requires.0 in
+    let relaxed = relaxed-behind _ _ _ short _ _ _ (failed_line (failure_of parts.0)) parts.1.1.0 _
+    c.solve_linear_program_3d-relaxed.ensures in
+    simp (le-ltb _ _ c.if-k-rigid.false, c.in-Infeasible.is)
+    (c.relaxed_answer.ensures ∙ relaxed)
+
+pub returns-in-Refused : goal.returns-in-Refused
+unfolding after_pass if◌then◌else◌
+returns-in-Refused c = simp c.in-Refused.is

@@ -1,0 +1,16 @@
+-- `linear_programming::solve_list::lay` meets its contract. The invariant: the first n lines are laid out. Assumes nothing.
+use Prim.Native.Nat.{◌-◌, ◌≤◌}
+use mathlib.Core.Path.{◌≡◌, refl, ◌∙◌}
+use native.Mathlib.Omega.{arith}
+use lib.ListN.{length, take}
+use Rattle.lines.specs.Lines.{lines_of, off_line}
+use Rattle.lines.proofs.Fold.{take_next}
+use Rattle.lines.proofs.Stored.{stored_next}
+use borrow.Author.Rules.{rules}
+use Rattle.linear_programming.proofs.solve_list.lay.Given as goal
+
+abbrev pub invariant-loop-n : goal.invariant-loop-n
+invariant-loop-n l = (l.n ≤ l.count) × (length l.numbers ≡ 1024) × (take l.n (lines_of l.numbers) ≡ take l.n l.lines)
+
+abbrev pub decreases-loop-n : goal.decreases-loop-n
+decreases-loop-n l = l.count - l.n

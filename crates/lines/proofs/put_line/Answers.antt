@@ -1,0 +1,30 @@
+-- `lines::put_line` meets its contract. Assumes nothing.
+use mathlib.Core.Path.{refl, sym}
+use native.Mathlib.Omega.{arith}
+use native.Mathlib.Numerals.{add-one, add-two, add-three}
+use lib.ListN.{length-set}
+use Rattle.lines.proofs.Stored.{stored-sets, stored-not}
+use borrow.Author.Rules.{rules}
+use Rattle.lines.proofs.put_line.Goals as goal
+
+pub returns-then-i-numbers : goal.returns-then-i-numbers
+returns-then-i-numbers c = let a = c.args in sym (stored-not a.numbers.now a.i a.line (omega arith))
+
+pub bounds-numbers-k-2 : goal.bounds-numbers-k-2
+bounds-numbers-k-2 c = simp length-set (omega arith)
+
+pub bounds-numbers-k-3 : goal.bounds-numbers-k-3
+bounds-numbers-k-3 c = simp length-set (omega arith)
+
+pub bounds-numbers-k-4 : goal.bounds-numbers-k-4
+bounds-numbers-k-4 c = simp length-set (omega arith)
+
+pub returns : goal.returns
+returns c =
+    let a = c.args in
+    rw (
+      stored-sets a.numbers.now a.i a.line (omega arith),
+      add-one,
+      add-two,
+      add-three,
+    ) refl

@@ -1,0 +1,16 @@
+-- `obstacles::judge::judge_components` meets its contract. Assumes nothing.
+use Prim.Native.Nat.{◌*◌}
+use lib.Seq.{drop-drop}
+use Rattle.obstacles.specs.ObstacleFaults.{components_fault}
+use borrow.Author.Rules.{rules}
+use Rattle.obstacles.proofs.judge.judge_components.Goals as goal
+
+pub returns : goal.returns
+unfolding components_fault
+returns c =
+    let a = c.args in
+    rw (
+      drop-drop 1 (2 * a.i) a.vertices.now,
+      ← c.judge_number-y.ensures,
+      ← c.judge_number-x.ensures,
+    ) c.first_of.ensures

@@ -1,0 +1,13 @@
+-- `obstacles::judge::judge_number` meets its contract. Assumes nothing.
+use mathlib.Core.Path.{sym}
+use lib.Ieee.{nan}
+use Rattle.obstacles.proofs.ObstacleFaults.{number-there, number-missing}
+use borrow.Author.Rules.{rules}
+use Rattle.obstacles.proofs.judge.judge_number.Goals as goal
+
+pub returns-then-at-numbers : goal.returns-then-at-numbers
+returns-then-at-numbers c = rw (number-there _ _ _ nan c.if-at-numbers.true, ← c.is_Within.ensures)
+    c.fault_unless.ensures
+
+pub returns : goal.returns
+returns c = sym (number-missing _ _ _ c.if-at-numbers.false)

@@ -1,0 +1,26 @@
+-- `relaxation::solve_3d::relax_from` meets its contract. The invariant: the lines from i on take value and penetration
+-- now to the same end. Assumes nothing.
+use Prim.Native.Nat.{◌+◌, ◌-◌, ◌*◌, ◌≤◌}
+use mathlib.Core.Path.{◌≡◌, refl, sym, ◌∙◌}
+use native.Mathlib.Omega.{arith}
+use lib.ListN.{take, drop}
+use lib.Seq.{length-take-le}
+use Rattle.pass_2d.specs.Walk.{walk}
+use Rattle.lines.specs.Lines.{lines_of, off_line}
+use Rattle.relaxation.specs.Relax.{relaxed, relax_line}
+use Rattle.lines.proofs.Rows.{lines_fit}
+use Rattle.pass_2d.proofs.WalkLaws.{walk-on, walk-stop, walk-done}
+use Rattle.relaxation.proofs.TightLaws.{relax-refused-stays}
+use Rattle.relaxation.proofs.RelaxedProbes.{relax-most}
+use borrow.Author.Rules.{rules}
+use Rattle.relaxation.proofs.solve_3d.relax_from.Given as goal
+
+abbrev pub invariant-loop-i : goal.invariant-loop-i
+invariant-loop-i l =     (l.counted ≤ 32896 * l.i)
+    × (walk (relax_line l.rigid l.radius) (take l.from (lines_of l.lines)) (drop l.from (take l.count (lines_of l.lines)))
+    (relaxed l.initial.best_value l.initial.depth 0)
+    ≡ walk (relax_line l.rigid l.radius) (take l.i (lines_of l.lines)) (drop l.i (take l.count (lines_of l.lines)))
+    (relaxed l.best_value l.depth l.counted))
+
+abbrev pub decreases-loop-i : goal.decreases-loop-i
+decreases-loop-i l = l.count - l.i

@@ -1,0 +1,15 @@
+-- `scene_writer::judge::judge_cart` meets its contract. Assumes nothing.
+use Rattle.scene_writer.specs.Writing.{cart_fault}
+use borrow.Author.Rules.{rules}
+use Rattle.scene_writer.proofs.judge.judge_cart.Goals as goal
+
+pub returns : goal.returns
+unfolding cart_fault
+returns c = simp (
+  ← c.first_of-2.ensures,
+  ← c.first_of.ensures,
+  ← c.fault_unless-limit.ensures,
+  ← c.is_inside.ensures,
+  ← c.judge_vector-wish.ensures,
+  ← c.judge_agent-agent.ensures,
+)

@@ -1,0 +1,11 @@
+-- `scene_writer::put::put_obstacle` meets its contract. Assumes nothing.
+use Rattle.scene_writer.proofs.PutLaws.{obstacle-put}
+use borrow.Author.Rules.{rules}
+use Rattle.scene_writer.proofs.put.put_obstacle.Goals as goal
+
+pub returns : goal.returns
+returns c =
+    let a = c.args in
+    obstacle-put a.kind a.count a.start a.vertices.now c.requires.1 a.buffer-1.now _ _ _ a.at
+    (rw c.wide.ensures.0 at c.put_byte.ensures) c.put_byte-2.ensures
+    c.put_numbers.ensures

@@ -1,0 +1,33 @@
+-- `scene_writer::put::put_scene` meets its contract. Assumes nothing.
+use Prim.Native.Nat.{◌+◌, ◌*◌}
+use mathlib.Core.Path.{refl, ap, ◌∙◌}
+use native.Mathlib.Omega.{arith}
+use lib.ListN.{length}
+use lib.Seq.{sets, take-length}
+use Rattle.fields.proofs.WordLaws.{pair-stored}
+use Rattle.scene_writer.proofs.Accepted.{Fits, scene-put}
+use borrow.Author.Rules.{rules}
+use Rattle.scene_writer.proofs.put.put_scene.Goals as goal
+
+pub returns : goal.returns
+returns c =
+    let a = c.args in
+    let fits : Fits a.obstacles a.kinds.now a.counts.now a.vertices.now a.neighbours
+    a.lines.now = record {
+      c.before.before.before.before.before.before.before.before.before.before = record {
+        few = c.requires.4;
+        kinds = c.requires.0;
+        counts = c.requires.1;
+        vertices = c.requires.2;
+        most = omega (arith, c.requires.2, c.requires.6);
+      };
+      few = c.requires.5;
+      c.before.before = c.requires.3;
+    } in
+    scene-put a.cart a.obstacles a.kinds.now a.counts.now a.vertices.now a.neighbours
+    a.lines.now fits (40 + 2 * a.obstacles + 4 * length a.vertices.now) _ a.buffer-1.now _ _ _ _ _ _
+    _ refl (omega arith)
+    (c.put_pair.ensures ∙ ap (sets a.buffer-1.now 0) (pair-stored _))
+    (rw c.wide.ensures.0 at c.put_byte.ensures) c.put_cart.ensures
+    c.put_byte-2.ensures c.put_obstacles.ensures c.put_byte-3.ensures
+    (rw (take-length a.lines.now) at c.put_numbers.ensures)

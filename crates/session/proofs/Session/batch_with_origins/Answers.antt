@@ -1,0 +1,23 @@
+-- `session::Session::batch_with_origins` meets its contract. Assumes nothing.
+use Rattle.session.specs.Batches.{fed_with}
+use Rattle.session.proofs.BatchWork.{batch-counts}
+use Rattle.session.proofs.HandedLaws.{continues-by}
+use Rattle.std.proofs.Common.{rules}
+use Rattle.session.proofs.Session.batch_with_origins.Goals as goal
+
+pub returns-in-Fault : goal.returns-in-Fault
+unfolding fed_with
+returns-in-Fault c = continues-by _ _ _ _ (simp (c.in-Fault.is, ← c.judge_batch-judged.ensures))
+
+pub work-requires : goal.work-requires
+work-requires c =
+    let a = c.args in
+    batch-counts _ a.numbers.now a.origins.now
+    (rw c.in_default.is at c.judge_batch-judged.ensures)
+
+pub returns : goal.returns
+unfolding fed_with
+returns c = continues-by _ _ _ _ (simp (
+  c.in_default.is,
+  ← c.judge_batch-judged.ensures,
+) c.work.ensures)

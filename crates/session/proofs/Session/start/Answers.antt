@@ -1,0 +1,25 @@
+-- `session::Session::start` meets its contract. Assumes nothing.
+use Rattle.session.specs.Sessions.{started_as}
+use Rattle.linear_programming.proofs.Agreement.{phase-back, failed-back}
+use Rattle.session.proofs.StartLaws.{begins-by}
+use Rattle.std.proofs.Common.{rules}
+use Rattle.session.proofs.Session.start.Goals as goal
+
+pub returns-in-Stands : goal.returns-in-Stands
+unfolding started_as
+returns-in-Stands c = begins-by _ _ _ _ (simp (
+  ← c.blank_origins.ensures,
+  ← c.blank_lines.ensures,
+  c.in-Stands.is,
+  ← c.solve_linear_program-answer.ensures,
+  phase-back,
+  failed-back,
+))
+
+pub returns-in-Refused : goal.returns-in-Refused
+unfolding started_as
+returns-in-Refused c = begins-by _ _ _ _ (simp (
+  ← c.blank.ensures,
+  c.in-Refused.is,
+  ← c.solve_linear_program-answer.ensures,
+))

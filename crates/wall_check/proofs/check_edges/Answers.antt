@@ -1,0 +1,35 @@
+use Prim.Native.Nat.{◌+◌, ◌-◌, ◌/◌, ◌≤◌}
+use mathlib.Core.Path.{◌≡◌, refl, sym, ◌∙◌}
+use native.Mathlib.Omega.{arith}
+use native.Mathlib.Nat.{sub-zero}
+use lib.ListN.{length}
+use Rattle.obstacles.specs.Obstacles.{edge_count}
+use Rattle.obstacles.proofs.EdgesInOrder.{few-edges}
+use Rattle.wall_check.specs.Crossings.{walls_from, own_walls, crossed_in, behind, count_in}
+use Rattle.wall_check.proofs.CrossedInOrder.{edges-on, edges-done}
+use borrow.Author.Rules.{rules}
+use Rattle.wall_check.proofs.check_edges.Goals as goal
+
+pub loop-i-init : goal.loop-i-init
+unfolding own_walls
+loop-i-init c = (omega arith, omega arith, rw sub-zero refl)
+
+pub check_edge-known-requires : goal.check_edge-known-requires
+check_edge-known-requires c = omega (arith, c.requires, c.loop-i.invariant.1)
+
+pub loop-i-preserved : goal.loop-i-preserved
+loop-i-preserved c =
+    let a = c.args in
+    let l = c.loop-i in
+    let on = edges-on a.from a.to a.obstacle a.kind a.vertices.now l.i l.known
+    c.check_edge-known.ensures.0 in
+    (omega arith, omega (arith, c.check_edge-known.ensures.1, l.invariant.1), l.invariant.2 ∙ on)
+
+pub returns : goal.returns
+returns c =
+    let a = c.args in
+    let l = c.loop-i in
+    let few = few-edges a.kind (length a.vertices.now / 2) in
+    let done = edges-done a.from a.to a.obstacle a.kind a.vertices.now l.i {s =
+    l.known} (omega (arith, few)) in
+    (sym (l.invariant.2 ∙ done), omega (arith, l.invariant.1))

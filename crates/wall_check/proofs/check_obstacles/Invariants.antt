@@ -1,0 +1,24 @@
+-- `wall_check::check_obstacles` meets its contract. The invariant: the obstacles from the i-th on pass, and behind what
+-- is known their edges make the answer. Assumes nothing.
+use Prim.Native.Nat.{◌+◌, ◌-◌, ◌*◌, ◌≤◌}
+use mathlib.Core.Path.{◌≡◌, refl, sym, ◌∙◌}
+use native.Mathlib.Omega.{arith}
+use native.Mathlib.Nat.{sub-zero}
+use lib.ListN.{length, drop, get_or}
+use Rattle.admission.specs.Faults.{fine}
+use Rattle.obstacles.proofs.VertexNumbers.{part-size}
+use Rattle.layouts.specs.Layouts.{lent_fault}
+use Rattle.layouts.proofs.LentHolds.{all-lent, next-passes}
+use Rattle.wall_check.specs.Crossings.{walls_of, crossed_in, found_in, behind, count_in}
+use Rattle.wall_check.proofs.CrossedInOrder.{obstacles-on, obstacles-done}
+use borrow.Author.Rules.{rules}
+use Rattle.wall_check.proofs.check_obstacles.Given as goal
+
+abbrev pub invariant-loop-i : goal.invariant-loop-i
+invariant-loop-i l =     (l.i ≤ l.obstacles) × (l.total ≤ 192) × (2 * l.total ≤ length l.vertices) × (count_in l.known ≤ l.total)
+    × (lent_fault l.total (l.obstacles - l.i) (drop l.i l.kinds) (drop l.i l.counts) (drop (2 * l.total) l.vertices) ≡ fine)
+    × (found_in (crossed_in l.from l.to (walls_of 0 l.obstacles l.kinds l.counts l.vertices))
+    ≡ behind l.known (crossed_in l.from l.to (walls_of l.i (l.obstacles - l.i) (drop l.i l.kinds) (drop l.i l.counts) (drop (2 * l.total) l.vertices))))
+
+abbrev pub decreases-loop-i : goal.decreases-loop-i
+decreases-loop-i l = l.obstacles - l.i

@@ -1,0 +1,11 @@
+-- `words::put_pair` meets its contract. Assumes nothing.
+use native.Mathlib.Nat.{add-zero}
+use native.Mathlib.Numerals.{towards_suc}
+use borrow.Author.Rules.{rules}
+use Rattle.words.specs.Words.{pair_bytes}
+use Rattle.words.proofs.put_pair.Goals as goal
+
+pub returns : goal.returns
+unfolding pair_bytes
+returns c =
+    simp (c.put_byte-2.ensures, c.put_byte.ensures, towards_suc, add-zero)
