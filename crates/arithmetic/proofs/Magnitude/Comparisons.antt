@@ -77,6 +77,9 @@ le-within (inf s) plain (within g) h = absurd (false≢true h)
 le-within (fin s m e) {k} plain (within {m = n} {e = d} g) h =
     within (under (m * up e) (n * up d) (down e) (down d) (2 ^ k) (down_pos d)
     (le-numbers (m * up e * down d) (n * up d * down e) h) g)
+le-within nan {k = k} boundless x8 h = elim x8 [ ]
+le-within (inf s) {k = k} boundless x8 h = elim x8 [ ]
+le-within (fin s m e) {k = k} boundless x9 h = elim x9 [ ]
 
 pub within-le : {j k : ℕ} {x y : Float} → Within j x → Over k y → j ≤ k → (abs_of x ≤ᶠ y) ≡ true
 unfolding le abs_of
@@ -130,6 +133,11 @@ between-within (fin true m e) {k} plain (within g) z h =
     go p =
         let q : m * up e ≡ 0 = omega (arith, zero-mul (down e)) in
         rw q zero-le
+between-within nan {k = k} boundless x10 z h = elim x10 [ ]
+between-within (inf false) {k = k} boundless x12 z h = elim x12 [ ]
+between-within (inf true) {k = k} boundless x13 z h = elim x13 [ ]
+between-within (fin false m e) {k = k} boundless x13 z h = elim x13 [ ]
+between-within (fin true m e) {k = k} boundless x14 z h = elim x14 [ ]
 
 -- ---- above what is not negative, and written in the one way: a smallest value at least
 

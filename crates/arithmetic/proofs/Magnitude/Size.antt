@@ -80,3 +80,4 @@ within-or-apart k (fin s m e) f = go (le-or-lt (m * up e * 2 ^ 149) (2 ^ k * dow
 pub apart-not-within : {j k : ℕ} {x : Float} → Apart j x → Within k x → k < j → ⊥
 apart-not-within {j} {k} (apart {e = e} h) (within g) l =
     lt_irrefl _ (lt_of_lt_of_le (mul-lt-mul_of_pos_right (pow-lt l) (down_pos e)) (le_trans h g))
+apart-not-within {j = j} {k = k} (endless {s = s}) x5 l = elim x5 [ ]

@@ -37,6 +37,7 @@ pub data SignOfRoot : Float → Type 0 where
 
 nonneg-sign-of-root : {k : ℕ} {x : Float} → NonNeg x → Within k x → SignOfRoot x
 nonneg-sign-of-root plain (within h) = upward
+nonneg-sign-of-root {k = k} Rattle.arithmetic.proofs.Magnitude.Size.boundless x4 = elim x4 [ ]
 
 -- ---- the pattern of a power of two
 
@@ -152,6 +153,7 @@ sqrt-over {j} i (over {m = suc m} {e} h) (within g) c =
     (le_trans (le_of_eq (sym (pow-add 2 i i)))
     (le_trans (pow_mono c) (le_trans (le_of_eq (pow-add 2 j 149))
     (mul-le-mul_right (2 ^ 149) ((le-div_iff_mul-le (down_pos e)).1 h)))))
+sqrt-over {j = j} i Rattle.arithmetic.proofs.Magnitude.Size.infinite w c = elim w [ ]
 
 pub sqrt-sign : {j k : ℕ} {x : Float} → Within j x → (x <ᶠ 0ᶠ) ≡ false → j ≤ 276 → Within k (sqrt_of x) → SignOfRoot (sqrt_of x)
 unfolding sqrt_of count

@@ -8,12 +8,13 @@ use Rattle.arithmetic.proofs.Signs.{ne-self, is_zero, is_negative, is_positive, 
 use Rattle.arithmetic.proofs.Patterns.{positive-bits, worth-under}
 use Rattle.arithmetic.proofs.Roots.{of_nan, of_zero, of_negative, of-infinity, is_finite, of_positive, root-not-nan}
 use Rattle.arithmetic.proofs.sqrt.Goals as goal
+use Rattle.arithmetic.proofs.sqrt.Goals.{Start}
 
 -- past the three tests x is above 0, and fits
 above : (c : goal.Else-x-3) → Positive c.args.x
 above c = is_positive _ c.if-x.false c.if-x-2.false c.if-x-3.false
 
-held : (c : goal.Start) → T (fits binary32 c.args.x)
+held : (c : Start) → T (fits binary32 c.args.x)
 held c = subst T (sym c.well_formed.0.1) tt
 
 -- past the fourth it is finite
@@ -42,7 +43,7 @@ root_bits-requires c =
     (b.0, b.1)
 
 pub float_from_bits-result : goal.float_from_bits-result
-float_from_bits-result c = rw c.root_bits.ensures (root-not-nan _ (worth-under _ (root_bits-requires c.before _).1))
+float_from_bits-result c = rw c.root_bits.ensures (root-not-nan _ (worth-under _ (root_bits-requires c.before).1))
 
 pub returns : goal.returns
 returns c =
