@@ -41,7 +41,7 @@ returns-in_default c =
     let room = sym c.is_room.ensures ∙ not-false _ c.if-not-is_room.false in
     rw c.closed-in_default.ensures
     (refused-turn a.to a.input-1.now a.output-1.now a.before a.read room c.if-read-eq0.false _ _
-    c.walk-walk.ensures (not-open c.walk-walk.result.stage c.in-Open.keys2))
+    c.walk-walk.ensures (not-open c.walk-walk.result.stage c.in_default.not-Open))
 
 pub returns : goal.returns
 returns c =

@@ -17,7 +17,7 @@ pub overflow_cast-extent : goal.overflow_cast-extent
 overflow_cast-extent c =
     omega (
       arith,
-      end_fits _ _ c.args.extent c.args.buffer-1.now (sym (ap fault_of c.in_default.is)
+      end_fits _ _ c.args.extent c.args.buffer_1.now (sym (ap fault_of c.in_default.is)
           ∙ c.judge_end-judged.ensures),
       c.requires,
     )
@@ -26,7 +26,7 @@ pub overflow_cast-extent-2 : goal.overflow_cast-extent-2
 overflow_cast-extent-2 c =
     omega (
       arith,
-      end_fits _ _ c.args.extent c.args.buffer-1.now (sym (ap fault_of c.in_default.is)
+      end_fits _ _ c.args.extent c.args.buffer_1.now (sym (ap fault_of c.in_default.is)
           ∙ c.judge_end-judged.ensures),
       c.requires,
     )
