@@ -23,5 +23,5 @@ shape_of-buffer c =
 pub returns : goal.returns
 returns c =
     let a = c.args in
-    stored a.answer a.buffer-1.now _ _ _ _ _ c.if-buffer-lt-BYTES.false c.put_pair.ensures c.put_word.ensures
+    stored a.answer a.buffer.now _ _ _ _ _ c.if-buffer-lt-BYTES.false c.put_pair.ensures c.put_word.ensures
     c.put_word-2.ensures c.put_pair-2.ensures c.put_word-3.ensures

@@ -17,7 +17,7 @@ overflow_cast-extent-2 c =
     let a = c.args in
     omega (
       arith,
-      few-records a.most a.log.now a.buffer-1.now a.extent (reached-end _ _ c.requires.1),
+      few-records a.most a.log.now a.buffer.now a.extent (reached-end _ _ c.requires.1),
       c.if-extent-most.false,
       c.requires.0,
     )
@@ -27,11 +27,11 @@ fill-requires c =
     let a = c.args in
     let w = reached-end _ _ c.requires.1 in
     let fits = c.if-extent-most.false in
-    let rest = rest-length a.most a.log.now a.buffer-1.now a.extent w fits in
+    let rest = rest-length a.most a.log.now a.buffer.now a.extent w fits in
     rw c.at_start.ensures (
       start_fits _ (omega arith),
       (
-        rest-whole a.most a.log.now a.buffer-1.now a.extent w fits,
+        rest-whole a.most a.log.now a.buffer.now a.extent w fits,
         omega (arith, rest, c.put_start.auto.0, c.if-buffer-needed.false, c.entry_at-needed.ensures),
       ),
     )
