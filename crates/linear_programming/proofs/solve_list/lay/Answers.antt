@@ -19,7 +19,7 @@ loop-n-preserved c =
       rw (
         c.put_line.ensures,
         stored_next l.numbers l.n _ (omega arith),
-        take_next c.args.t1 l.n (omega arith) off_line,
+        take_next c.args.lines l.n (omega arith) off_line,
         l.invariant.2,
       ),
     )
