@@ -13,7 +13,7 @@ pub returns-then-not-is_met : goal.returns-then-not-is_met
 returns-then-not-is_met c =
     let a = c.args in
     let l = c.loop-i in
-    let unmet = sym (rw c.line_at-line.ensures at c.is_met.ensures) ∙ not-true _ c.if-not-is_met.true in
+    let unmet = sym (rw c.line_at-line.ensures at c.is_met.ensures) ∙ c.if-not-is_met.true in
     sym (l.invariant.1 ∙ counted_stop a.point (lines_of a.numbers.now) l.i
     (omega (arith, lines_long a.numbers.now)) unmet)
 
@@ -21,7 +21,7 @@ pub loop-i-preserved : goal.loop-i-preserved
 loop-i-preserved c =
     let a = c.args in
     let l = c.loop-i in
-    let met = sym (rw c.line_at-line.ensures at c.is_met.ensures) ∙ not-false _ c.if-not-is_met.false in (
+    let met = sym (rw c.line_at-line.ensures at c.is_met.ensures) ∙ c.if-not-is_met.false in (
       omega arith,
       l.invariant.1 ∙ counted-on a.point (lines_of a.numbers.now) l.i
           (omega (arith, lines_long a.numbers.now)) met,

@@ -20,7 +20,7 @@ loop-i-preserved c =
       omega arith,
       omega (arith, c.note-n.ensures.0),
       c.note-n.auto.found ∙ l.invariant.2,
-      found-next a.kind a.place a.t1 a.count l.i (omega arith) (omega arith)
+      found-next a.kind a.place a.origins a.count l.i (omega arith) (omega arith)
           c.is_of.ensures _ (take l.n l.found) _ l.invariant.3 c.note-n.ensures.1,
     )
 
@@ -30,6 +30,6 @@ returns c =
     let a = c.args in (
       omega arith,
       l.invariant.2,
-      found_all a.kind a.place a.t1 a.count l.i (omega arith) (omega arith) _
+      found_all a.kind a.place a.origins a.count l.i (omega arith) (omega arith) _
           (take l.n l.found) l.invariant.3,
     )

@@ -18,7 +18,7 @@ unfolding batch_fault
 returns-then-not-is_fitting c =
     simp (
       lines_long c.args.numbers.now,
-      sym c.is_fitting.ensures ∙ not-true _ c.if-not-is_fitting.true,
+      sym c.is_fitting.ensures ∙ c.if-not-is_fitting.true,
       eq-eqb _ _ c.if-numbers-ne0.false,
       le-leb _ _ c.if-count-gt-MOST.false,
     )
@@ -28,8 +28,8 @@ unfolding batch_fault
 returns-then-not-fits_behind c =
     simp (
       lines_long c.args.numbers.now,
-      sym c.fits_behind.ensures ∙ not-true _ c.if-not-fits_behind.true,
-      sym c.is_fitting.ensures ∙ not-false _ c.if-not-is_fitting.false,
+      sym c.fits_behind.ensures ∙ c.if-not-fits_behind.true,
+      sym c.is_fitting.ensures ∙ c.if-not-is_fitting.false,
       eq-eqb _ _ c.if-numbers-ne0.false,
       le-leb _ _ c.if-count-gt-MOST.false,
     )
@@ -40,8 +40,8 @@ returns c =
     simp (
       ← c.judge_lines.ensures,
       lines_long c.args.numbers.now,
-      sym c.fits_behind.ensures ∙ not-false _ c.if-not-fits_behind.false,
-      sym c.is_fitting.ensures ∙ not-false _ c.if-not-is_fitting.false,
+      sym c.fits_behind.ensures ∙ c.if-not-fits_behind.false,
+      sym c.is_fitting.ensures ∙ c.if-not-is_fitting.false,
       eq-eqb _ _ c.if-numbers-ne0.false,
       le-leb _ _ c.if-count-gt-MOST.false,
     )

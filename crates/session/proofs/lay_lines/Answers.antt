@@ -23,8 +23,8 @@ loop-n-preserved c =
       omega arith,
       c.put_line.auto.numbers ∙ l.invariant.1,
       rw (c.put_line.ensures, stored_next l.numbers l.n _ (omega arith), l.invariant.2)
-          (sym (laid_next a.t1 a.count a.withdrawn.now l.n (omega arith) (omega arith) near off_line _
-          (ap (λ k. get_or a.t1 k off_line) from.0))),
+          (sym (laid_next a.lines a.count a.withdrawn.now l.n (omega arith) (omega arith) near off_line _
+          (ap (λ k. get_or a.lines k off_line) from.0))),
     )
 
 pub returns : goal.returns

@@ -30,8 +30,8 @@ loop-n-preserved c =
         take_set_next (origins_of l.numbers) l.n (omega arith) _,
         l.invariant.2,
       )
-          (sym (laid_next a.t1 a.count a.withdrawn.now l.n (omega arith) (omega arith) near unknown _
-          (ap (λ k. get_or a.t1 k unknown) from.0))),
+          (sym (laid_next a.origins a.count a.withdrawn.now l.n (omega arith) (omega arith) near unknown _
+          (ap (λ k. get_or a.origins k unknown) from.0))),
     )
 
 pub returns : goal.returns

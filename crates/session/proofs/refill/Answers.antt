@@ -10,12 +10,12 @@ returns c =
     let s = a.session in
     let w = a.withdrawn.now in
     let n = s.count - length w in
-    let b = c.lay_lines.new.1.1.1.0 in
-    let t = c.lay_origins.new.1.1.1.0 in
-    refilled s.wish-1 s.limit a.rigid b (4 * n - 0) (left_of w s.count s.lines-1) t (3 * n - 0)
-    (left_of w s.count s.origins-1)
+    let b = c.lay_lines.new.numbers in
+    let t = c.lay_origins.new.numbers in
+    refilled s.wish s.limit a.rigid b (4 * n - 0) (left_of w s.count s.lines) t (3 * n - 0)
+    (left_of w s.count s.origins)
     (laid-lines b n (4 * n - 0) _ (omega arith) (omega (arith, c.requires.1, c.lay_lines.ensures.0))
     c.lay_lines.ensures.1)
     (laid-origins t n (3 * n - 0) _ (omega arith) (omega (arith, c.requires.1, c.lay_origins.ensures.0))
     c.lay_origins.ensures.1)
-    c.start-started.ensures.0 c.then_feed.ensures
+    c.start-started.ensures.value c.then_feed.ensures

@@ -7,4 +7,4 @@ pub returns-in-Fault : goal.returns-in-Fault
 returns-in-Fault c = not-fed _ _ _ c.in-Fault.is
 
 pub returns : goal.returns
-returns c = fed_then _ _ _ c.in_default.is c.batch_with_origins.ensures.0
+returns c = fed_then _ _ _ c.in_default.is c.batch_with_origins.ensures.value

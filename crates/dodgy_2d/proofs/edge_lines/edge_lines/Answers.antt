@@ -52,7 +52,7 @@ pub slice_bounds-add_obstacle-end : goal.slice_bounds-add_obstacle-end
 slice_bounds-add_obstacle-end c =
     let a = c.args in
     let l = c.loop-i in
-    let next = own-left a.t2 a.t3 a.n l.i (omega arith) (omega arith) l.offset (omega arith) l.invariant.5 in
+    let next = own-left a.kinds a.counts a.n l.i (omega arith) (omega arith) l.offset (omega arith) l.invariant.5 in
     rw c.wide.ensures.0 (omega (arith, next, c.requires.3))
 
 pub add_obstacle-added-requires : goal.add_obstacle-added-requires
@@ -60,8 +60,8 @@ add_obstacle-added-requires c =
     let a = c.args in
     let l = c.loop-i in
     let wide = c.wide.ensures.0 in
-    let next = own-left a.t2 a.t3 a.n l.i (omega arith) (omega arith) l.offset (omega arith) l.invariant.5 in
-    let h = head_of (get_or a.t2 l.i 0) (get_or a.t3 l.i 0) in
+    let next = own-left a.kinds a.counts a.n l.i (omega arith) (omega arith) l.offset (omega arith) l.invariant.5 in
+    let h = head_of (get_or a.kinds l.i 0) (get_or a.counts l.i 0) in
     let many = part-many a.agent a.margin a.horizon a.vertices.now l.offset h
     (omega (arith, next, c.requires.3)) in
     (l.invariant.4, l.invariant.7, rw (wide, many) (omega (arith, next, c.requires.2)), omega (arith, c.requires.0))
@@ -69,19 +69,19 @@ add_obstacle-added-requires c =
 pub returns-in_default : goal.returns-in_default
 returns-in_default c =
     let a = c.args in
-    let kinds : a.n ≤ length a.t2 = omega (arith, c.requires.0) in
-    let counts : a.n ≤ length a.t3 = omega (arith, c.requires.0) in
+    let kinds : a.n ≤ length a.kinds = omega (arith, c.requires.0) in
+    let counts : a.n ≤ length a.counts = omega (arith, c.requires.0) in
     let l = c.loop-i in
     let wide = c.wide.ensures.0 in
-    let next = own-left a.t2 a.t3 a.n l.i kinds counts l.offset (omega arith) l.invariant.5 in
-    let there : 2 * (l.offset + get_or a.t3 l.i 0) ≤ length a.vertices.now = omega (arith, next, c.requires.3) in
-    let h = head_of (get_or a.t2 l.i 0) (get_or a.t3 l.i 0) in
+    let next = own-left a.kinds a.counts a.n l.i kinds counts l.offset (omega arith) l.invariant.5 in
+    let there : 2 * (l.offset + get_or a.counts l.i 0) ≤ length a.vertices.now = omega (arith, next, c.requires.3) in
+    let h = head_of (get_or a.kinds l.i 0) (get_or a.counts l.i 0) in
     let lines_of_part = part-lines a.agent a.margin a.horizon a.vertices.now l.offset h there in
     let step = rw (c.in_default.is, wide, lines_of_part) at c.add_obstacle-added.ensures.3 in (
       c.add_obstacle-added.ensures.0,
       rw c.in_default.is (omega arith),
       rw c.in_default.is
-          (sym (l.invariant.6 ∙ edges-on a.agent a.margin a.horizon a.vertices.now a.t2 a.t3
+          (sym (l.invariant.6 ∙ edges-on a.agent a.margin a.horizon a.vertices.now a.kinds a.counts
           a.n kinds counts l.i
           l.offset (lines (lines_of (take (4 * l.count) l.numbers))) _ (omega arith) step)),
       rw c.in_default.is none_told,
@@ -91,13 +91,13 @@ returns-in_default c =
 pub loop-i-preserved : goal.loop-i-preserved
 loop-i-preserved c =
     let a = c.args in
-    let kinds : a.n ≤ length a.t2 = omega (arith, c.requires.0) in
-    let counts : a.n ≤ length a.t3 = omega (arith, c.requires.0) in
+    let kinds : a.n ≤ length a.kinds = omega (arith, c.requires.0) in
+    let counts : a.n ≤ length a.counts = omega (arith, c.requires.0) in
     let l = c.loop-i in
     let wide = c.wide.ensures.0 in
-    let next = own-left a.t2 a.t3 a.n l.i kinds counts l.offset (omega arith) l.invariant.5 in
-    let there : 2 * (l.offset + get_or a.t3 l.i 0) ≤ length a.vertices.now = omega (arith, next, c.requires.3) in
-    let h = head_of (get_or a.t2 l.i 0) (get_or a.t3 l.i 0) in
+    let next = own-left a.kinds a.counts a.n l.i kinds counts l.offset (omega arith) l.invariant.5 in
+    let there : 2 * (l.offset + get_or a.counts l.i 0) ≤ length a.vertices.now = omega (arith, next, c.requires.3) in
+    let h = head_of (get_or a.kinds l.i 0) (get_or a.counts l.i 0) in
     let added = c.in-Count.is in
     let lines_of_part = part-lines a.agent a.margin a.horizon a.vertices.now l.offset h there in
     let lefts-of = part-lefts a.agent a.margin a.horizon a.vertices.now l.offset h there in
@@ -111,12 +111,12 @@ loop-i-preserved c =
       rw wide there,
       c.add_obstacle-added.ensures.0,
       rw wide next,
-      rw wide (l.invariant.6 ∙ edges-on a.agent a.margin a.horizon a.vertices.now a.t2
-          a.t3 a.n kinds counts l.i l.offset (lines (lines_of (take (4 * l.count) l.numbers))) _
+      rw wide (l.invariant.6 ∙ edges-on a.agent a.margin a.horizon a.vertices.now a.kinds
+          a.counts a.n kinds counts l.i l.offset (lines (lines_of (take (4 * l.count) l.numbers))) _
           (omega arith) step),
       c.add_obstacle-added.ensures.1,
       rw wide
-          (l.invariant.8 ∙ origins-on a.agent a.margin a.horizon a.vertices.now a.t2 a.t3 a.n kinds
+          (l.invariant.8 ∙ origins-on a.agent a.margin a.horizon a.vertices.now a.kinds a.counts a.n kinds
           counts l.i l.offset (walls_in l.count l.walls) _ (omega arith) noted),
     )
 
@@ -129,9 +129,9 @@ returns c =
     let l = c.loop-i in (
       l.invariant.4,
       omega arith,
-      sym (l.invariant.6 ∙ edges-done a.agent a.margin a.horizon a.vertices.now a.t2 a.t3 a.n
+      sym (l.invariant.6 ∙ edges-done a.agent a.margin a.horizon a.vertices.now a.kinds a.counts a.n
           (omega arith) (omega arith) l.i l.offset (lines_of (take (4 * l.count) l.numbers)) (omega arith)),
-      counted (sym (l.invariant.8 ∙ origins-done a.agent a.margin a.horizon a.vertices.now a.t2 a.t3
+      counted (sym (l.invariant.8 ∙ origins-done a.agent a.margin a.horizon a.vertices.now a.kinds a.counts
           a.n (omega arith) (omega arith) l.i l.offset (walls_in l.count l.walls) (omega arith))),
       l.invariant.7,
     )

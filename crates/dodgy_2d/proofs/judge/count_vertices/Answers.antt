@@ -17,12 +17,12 @@ loop-i-preserved c =
     let a = c.args in
     let l = c.loop-i in
     let wide = c.wide.ensures in
-    let next = own-left a.t1 a.t2 a.n l.i (omega arith) (omega arith) l.total (omega arith) l.invariant.2 in
+    let next = own-left a.kinds a.counts a.n l.i (omega arith) (omega arith) l.total (omega arith) l.invariant.2 in
     (omega arith, omega (arith, wide.1), rw wide.0 next)
 
 pub returns : goal.returns
 returns c =
     let a = c.args in
     let l = c.loop-i in
-    let none = count_none a.t1 a.t2 a.n l.i (omega arith) (omega arith) (omega arith) in
+    let none = count_none a.kinds a.counts a.n l.i (omega arith) (omega arith) (omega arith) in
     omega (arith, none, l.invariant.2)

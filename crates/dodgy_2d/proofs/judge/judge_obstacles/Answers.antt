@@ -16,7 +16,7 @@ returns-in_default c =
     let l = c.loop-i in
     let step = rw (c.in_default.is, c.wide.ensures.0)
     at c.judge_obstacle-judged.ensures in
-    rw c.in_default.is (sym (l.invariant.2 ∙ obstacle-stop a.t1 a.t2 a.n l.i (omega arith)
+    rw c.in_default.is (sym (l.invariant.2 ∙ obstacle-stop a.kinds a.counts a.n l.i (omega arith)
     (omega arith) l.total a.vertices.now _ (omega arith) step))
 
 pub loop-i-preserved : goal.loop-i-preserved
@@ -27,8 +27,8 @@ loop-i-preserved c =
     at c.judge_obstacle-judged.ensures in (
       omega arith,
       rw c.wide.ensures.0
-          (own_room a.t1 a.t2 a.n l.i (omega arith) (omega arith) l.total a.vertices.now step).1,
-      rw c.wide.ensures.0 (l.invariant.2 ∙ obstacle-on a.t1 a.t2 a.n l.i (omega arith)
+          (own_room a.kinds a.counts a.n l.i (omega arith) (omega arith) l.total a.vertices.now step).1,
+      rw c.wide.ensures.0 (l.invariant.2 ∙ obstacle-on a.kinds a.counts a.n l.i (omega arith)
           (omega arith) l.total a.vertices.now (omega arith) step),
     )
 
@@ -36,5 +36,5 @@ pub returns : goal.returns
 returns c =
     let a = c.args in
     let l = c.loop-i in
-    sym (l.invariant.2 ∙ obstacles-done a.t1 a.t2 a.n l.i (omega arith) (omega arith) l.total
+    sym (l.invariant.2 ∙ obstacles-done a.kinds a.counts a.n l.i (omega arith) (omega arith) l.total
     a.vertices.now (omega arith))

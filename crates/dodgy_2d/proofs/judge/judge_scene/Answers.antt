@@ -45,7 +45,7 @@ returns-then-m-gt-MOST_NEIGHBOURS c =
 pub slice_bounds-judge_lines-end : goal.slice_bounds-judge_lines-end
 slice_bounds-judge_lines-end c =
     let size : length
-    c.args.scene.lines-1 ≡ 256 = search rules in
+    c.args.scene.lines ≡ 256 = search rules in
     omega (arith, c.if-m-gt-MOST_NEIGHBOURS.false, size)
 
 pub returns : goal.returns
@@ -61,5 +61,5 @@ returns c =
     )
     (let s = c.args.scene in let e : 4 * s.neighbours - 0 ≡ 4 *
     s.neighbours = omega arith in c.judge_lines.ensures ∙ ap
-    (λ (k : ℕ). lines_fault (lines_of (take k s.lines-1))) e ∙ ap lines_fault
-    (lines-take s.lines-1 s.neighbours))
+    (λ (k : ℕ). lines_fault (lines_of (take k s.lines))) e ∙ ap lines_fault
+    (lines-take s.lines s.neighbours))

@@ -10,7 +10,7 @@ fall_back-requires c =
     let a = c.args in
     let s = scene_from a.scene a.kinds a.counts a.vertices.now a.lines.now in (
       c.requires,
-      sized-fits s a.scene.agent.velocity-1 c.requires
+      sized-fits s a.scene.agent.velocity c.requires
           (rw c.in-Stands.is at c.pass-passed.ensures.0),
     )
 
@@ -19,7 +19,7 @@ returns-in-Refused c =
     let a = c.args in
     let s = scene_from a.scene a.kinds a.counts a.vertices.now a.lines.now in
     let told = rw c.in-Refused.is at c.pass-passed.ensures.0 in
-    (rw (← told), rw (← told) (refused-origin s a.scene.agent.velocity-1 _ told))
+    (rw (← told), rw (← told) (refused-origin s a.scene.agent.velocity _ told))
 
 pub returns-in-Solving : goal.returns-in-Solving
 returns-in-Solving c =

@@ -5,4 +5,5 @@ use Rattle.session.proofs.Session.batch.Goals as goal
 
 pub returns : goal.returns
 unfolding fed_as
-returns c = c.batch_with_origins.ensures
+returns c =
+    let fed = c.batch_with_origins.ensures in record { value = fed.value; continues = fed.continues_with }

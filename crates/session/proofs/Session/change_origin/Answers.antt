@@ -10,5 +10,5 @@ pub returns : goal.returns
 returns c =
     let found = c.find-n.ensures in
     let n = c.find-n.result in
-    origin-right _ _ _ _ _ c.find-n.new.1.1.1.1.0 n (n - 0) (omega arith) found.2
+    origin-right _ _ _ _ _ c.find-n.new.found n (n - 0) (omega arith) found.2
     (omega (arith, found.0, found.1)) c.change-fed.ensures c.told_withdrawn.ensures
