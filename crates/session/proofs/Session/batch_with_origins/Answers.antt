@@ -7,7 +7,10 @@ use Rattle.session.proofs.Session.batch_with_origins.Goals as goal
 
 pub returns-in-Fault : goal.returns-in-Fault
 unfolding fed_with
-returns-in-Fault c = continues-by _ _ _ _ (simp (c.in-Fault.is, ← c.judge_batch-judged.ensures))
+returns-in-Fault c =
+    let a = c.args in
+    let h = continues-by a.self a.numbers.now a.origins.now _ (simp (c.in-Fault.is, ← c.judge_batch-judged.ensures)) in
+    record { value = h.0; continues_with = h.1 }
 
 pub work-requires : goal.work-requires
 work-requires c =
@@ -17,7 +20,9 @@ work-requires c =
 
 pub returns : goal.returns
 unfolding fed_with
-returns c = continues-by _ _ _ _ (simp (
-  c.in_default.is,
-  ← c.judge_batch-judged.ensures,
-) c.work.ensures)
+returns c =
+    let a = c.args in
+    let h = continues-by a.self a.numbers.now a.origins.now _ (simp (
+      c.in_default.is,
+      ← c.judge_batch-judged.ensures,
+    ) c.work.ensures) in record { value = h.0; continues_with = h.1 }
