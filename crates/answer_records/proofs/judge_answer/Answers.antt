@@ -1,6 +1,6 @@
 -- `answer_records::judge_answer` meets its contract. Assumes nothing.
-use Rattle.std.proofs.Common.{sym, ◌∙◌, arith, rules, eq-eqb, ne_eqb, le-leb}
-use borrow.Author.Tests.{lt-leb, not-true, not-false}
+use Rattle.std.proofs.Common.{sym, ◌∙◌, arith, eq-eqb, ne_eqb, le-leb}
+use borrow.Author.Tests.{lt-leb}
 use Rattle.answer_records.specs.Replies.{answer_fault}
 use Rattle.answer_records.proofs.ReplyLaws.{has_code}
 use Rattle.answer_records.proofs.judge_answer.Goals as goal
@@ -14,7 +14,7 @@ unfolding answer_fault
 returns-then-not-is_length c = simp (
   le-leb 2 _ c.if-bytes-lt2.false,
   ← c.pair_at-length.ensures,
-  sym c.is_length.ensures ∙ not-true _ c.if-not-is_length.true,
+  sym c.is_length.ensures ∙ c.if-not-is_length.true,
 )
 
 pub returns-then-bytes-length : goal.returns-then-bytes-length
@@ -23,7 +23,7 @@ returns-then-bytes-length c = simp (
   le-leb 2 _ c.if-bytes-lt2.false,
   ← c.pair_at-length.ensures,
   sym c.is_length.ensures
-      ∙ not-false _ c.if-not-is_length.false,
+      ∙ c.if-not-is_length.false,
   ne_eqb _ _ c.if-bytes-length.true,
 )
 
@@ -31,7 +31,7 @@ pub bounds-bytes-2 : goal.bounds-bytes-2
 bounds-bytes-2 c = omega (
   arith,
   has_code _ (sym c.is_length.ensures
-      ∙ not-false _ c.if-not-is_length.false),
+      ∙ c.if-not-is_length.false),
   c.if-bytes-length.false,
 )
 
@@ -40,14 +40,14 @@ bounds-bytes-3 c =
     omega (
       arith,
       has_code _ (sym c.is_length.ensures
-          ∙ not-false _ c.if-not-is_length.false),
+          ∙ c.if-not-is_length.false),
       c.if-bytes-length.false,
     )
 
 pub returns : goal.returns
 unfolding answer_fault
 returns c =
-    let named = sym c.is_length.ensures ∙ not-false _ c.if-not-is_length.false in
+    let named = sym c.is_length.ensures ∙ c.if-not-is_length.false in
     simp (
       c.first_of.ensures,
       c.fault_unless-code.ensures,
