@@ -2,8 +2,6 @@
 -- says. Assumes nothing.
 use Rattle.std.proofs.Common.{◌≡◌, ℕ, ◌+◌, ◌-◌, ◌*◌, ◌≤◌, Bool, true, false, leb, List, [], ◌∷◌, ◌++◌, length, take, drop, sym, refl, ap, ◌∙◌, ⊎_elim, arith, length-append, length-drop, length-take-le, take_at, take-add, le-leb, leb-true}
 use native.Mathlib.Nat.{sub-zero}
-use types.Run.{OneOf}
-use denote.Enum.Declared.{tag_of}
 use borrow.Rule.Slice.PartMut.{mid_of, put_mid, same_len_mid}
 use Rattle.arithmetic.specs.Binary32.{if◌then◌else◌}
 use Rattle.arithmetic.proofs.Choice.{if-all, and_left, and_right}
@@ -15,7 +13,6 @@ use Rattle.scene_records.specs.Versions.{longest_either}
 use Rattle.records.proofs.TurnLaws.{part_left, mid-length}
 use Rattle.conversion.specs.declared.Stage.{Stage}
 use Rattle.conversion.specs.declared.Stage.TheVariants as stage
-use Rattle.conversion.specs.contracts.Stage.{the_type as stage-type}
 use Rattle.conversion.specs.declared.Stream.{Stream}
 use Rattle.conversion.specs.declared.Walk.{Walk}
 use Rattle.conversion.specs.Streams.{Walked, walked, last_stage, is_open}
@@ -42,10 +39,8 @@ walk-room input output kept read e =
     rw (sub-zero, length-take-le (kept + read) input fits.1) (omega (arith, fits))
 
 -- which stage it is where a `let .. else` left it
-pub not-open : (g : Stage) → OneOf (1 ∷ 2 ∷ 3 ∷ []) (tag_of stage-type g) → is_open g ≡ false
-not-open stage.Open h =
-    absurd (⊎_elim (λ (k : ◌≡◌ {A = ℕ} 0 1). omega arith)
-    (λ h. ⊎_elim (λ (k : ◌≡◌ {A = ℕ} 0 2). omega arith) (λ (k : ◌≡◌ {A = ℕ} 0 3). omega arith) h) h)
+pub not-open : (g : Stage) → (g ≡ stage.Open → ⊥) → is_open g ≡ false
+not-open stage.Open h = absurd (h refl)
 not-open stage.Whole h = refl
 not-open (stage.Refused r) h = refl
 not-open stage.NoRoom h = refl

@@ -3,27 +3,23 @@
 use Prim.Native.Nat.{ℕ, ◌+◌, ◌≤◌}
 use mathlib.Core.Path.{◌≡◌, refl}
 use mathlib.Core.List.{List, [], ◌∷◌}
-use mathlib.Core.Logic.{⊎_elim}
 use native.Mathlib.Omega.{arith}
-use types.Run.{OneOf}
-use denote.Enum.Declared.{tag_of}
 use lib.ListN.{length}
 use lib.Ieee.{Float}
+use Rattle.common.specs.declared.Vec2.{Vec2}
 use Rattle.lines.specs.declared.Line.{Line}
 use Rattle.one_line.specs.declared.AlongLine.{AlongLine}
+use Rattle.one_line.specs.declared.Cause.{Cause}
 use Rattle.one_line.specs.declared.AlongLine.TheVariants as along-line
-use Rattle.one_line.specs.contracts.AlongLine.{the_type as along-type}
 use Rattle.one_line.specs.OneLine.{Objective, one_line}
 use Rattle.one_line.specs.Read.{found_of, looked_of}
 use Rattle.one_line.proofs.OneLineLaws.{Solves, solves, stops, line-solves}
 
 -- neither a point nor a failure
-pub refuses-left : (a : AlongLine) → OneOf (1 ∷ 2 ∷ []) (tag_of along-type a) → OneOf (0 ∷ 2 ∷ []) (tag_of along-type a) →
-    a ≡ along-line.Refuses
-refuses-left (along-line.At p n) h k =
-    absurd (⊎_elim (λ (e : ◌≡◌ {A = ℕ} 0 1). omega arith) (λ (e : ◌≡◌ {A = ℕ} 0 2). omega arith) h)
-refuses-left (along-line.Fails n cause) h k =
-    absurd (⊎_elim (λ (e : ◌≡◌ {A = ℕ} 1 0). omega arith) (λ (e : ◌≡◌ {A = ℕ} 1 2). omega arith) k)
+pub refuses-left : (a : AlongLine) → ((p : Vec2) (n : ℕ) → a ≡ along-line.At p n → ⊥) →
+    ((n : ℕ) (c : Cause) → a ≡ along-line.Fails n c → ⊥) → a ≡ along-line.Refuses
+refuses-left (along-line.At p n) h k = absurd (h p n refl)
+refuses-left (along-line.Fails n c) h k = absurd (k n c refl)
 refuses-left along-line.Refuses h k = refl
 
 -- a one-line solve looks at no more lines than there are

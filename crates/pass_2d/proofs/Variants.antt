@@ -3,13 +3,11 @@
 use Prim.Native.Nat.{ℕ, ◌+◌, ◌*◌, ◌≤◌, ◌<◌}
 use mathlib.Core.Path.{◌≡◌, refl, sym}
 use mathlib.Core.List.{List, [], ◌∷◌}
-use mathlib.Core.Logic.{⊎_elim}
 use native.Mathlib.Omega.{arith}
-use types.Run.{OneOf}
-use denote.Enum.Declared.{tag_of}
 use lib.ListN.{length, take}
 use lib.Seq.{length-take-le}
 use lib.Ieee.{Float}
+use Rattle.common.specs.declared.Vec2.{Vec2}
 use Rattle.lines.specs.declared.Line.{Line}
 use Rattle.lines.specs.Lines.{most_lines, lines_of}
 use Rattle.lines.proofs.Rows.{lines_fit}
@@ -18,7 +16,6 @@ use Rattle.one_line.specs.Read.{found_of, looked_of}
 use Rattle.one_line.proofs.Variants.{looked-most}
 use Rattle.pass_2d.specs.declared.LinearProgram2D.{LinearProgram2D}
 use Rattle.pass_2d.specs.declared.LinearProgram2D.TheVariants as lp2d
-use Rattle.pass_2d.specs.contracts.LinearProgram2D.{the_type as pass-type}
 use Rattle.one_line.specs.OneLine.{Objective, one_line}
 use Rattle.pass_2d.specs.Pass.{start, judged, pass_line, pass}
 use Rattle.pass_2d.specs.Read.{pass_of}
@@ -33,16 +30,15 @@ few-looked o limit own xs index room few a h =
     omega (arith, short, looked-most o limit own (take index (lines_of xs)) a h)
 
 -- a pass that failed or was refused stays so
-pub ended-stays : (o : Objective) (limit : Float) (a : LinearProgram2D) → OneOf (1 ∷ 2 ∷ []) (tag_of pass-type a) →
+pub ended-stays : (o : Objective) (limit : Float) (a : LinearProgram2D) → ((p : Vec2) (n : ℕ) → a ≡ lp2d.Feasible p n → ⊥) →
     (e : List Line) (x : Line) → pass_line o limit e x (pass_of a) ≡ pass_of a
 unfolding pass_line
-ended-stays o limit (lp2d.Feasible p n) h e x =
-    absurd (⊎_elim (λ (k : ◌≡◌ {A = ℕ} 0 1). omega arith) (λ (k : ◌≡◌ {A = ℕ} 0 2). omega arith) h)
+ended-stays o limit (lp2d.Feasible p n) h e x = absurd (h p n refl)
 ended-stays o limit (lp2d.Infeasible f p n) h e x = refl
 ended-stays o limit (lp2d.Refused r) h e x = refl
 
 -- and so a starting point that is refused is the whole pass
-pub ended-start : (o : Objective) (limit : Float) (a : LinearProgram2D) → OneOf (1 ∷ 2 ∷ []) (tag_of pass-type a) →
+pub ended-start : (o : Objective) (limit : Float) (a : LinearProgram2D) → ((p : Vec2) (n : ℕ) → a ≡ lp2d.Feasible p n → ⊥) →
     (l : List Line) → pass_of a ≡ judged o (start o limit) 0 → pass_of a ≡ pass o limit l
 unfolding pass
 ended-start o limit a h l e = rw (← e) (sym (walk-stays (pass_line o limit) (pass_of a) (ended-stays o limit a h) [] l))

@@ -42,9 +42,9 @@ module _ {A S : Type 0} where
   pub walk-keeps-over : (step : List A → A → S → S) (Q : A → Type 0) (P : S → Type 0) →
       ((e : List A) (x : A) (s : S) → All Q e → Q x → P s → P (step e x s)) →
       {e l : List A} (s : S) → All Q e → All Q l → P s → P (walk step e l s)
-  walk-keeps-over step Q P h s earlier none p = p
-  walk-keeps-over step Q P h {e} s earlier (more {x} q qs) p =
-      walk-keeps-over step Q P h (step e x s) (all_snoc earlier q) qs (h e x s earlier q p)
+  walk-keeps-over step Q P h {e = e} s earlier none p = p
+  walk-keeps-over step Q P h {e = e} s earlier (more {x} q qs) p =
+      walk-keeps-over step Q P h {e = e ++ (x ∷ [])} (step e x s) (all_snoc earlier q) qs (h e x s earlier q p)
 
   -- where each step goes through g, the walk does
   pub walk_through : {T : Type 0} (step : List A → A → S → S) (other : List A → A → T → T) (g : S → T) →

@@ -32,7 +32,7 @@ slice_bounds-walk-end c =
 pub walk-walk-requires : goal.walk-walk-requires
 walk-walk-requires c =
     let a = c.args in
-    walk-room a.input-1.now a.output-1.now _ _
+    walk-room a.input.now a.output.now _ _
     (sym c.is_room.ensures ∙ not-false _ c.if-not-is_room.false)
 
 pub returns-in_default : goal.returns-in_default
@@ -40,17 +40,17 @@ returns-in_default c =
     let a = c.args in
     let room = sym c.is_room.ensures ∙ not-false _ c.if-not-is_room.false in
     rw c.closed-in_default.ensures
-    (refused-turn a.to a.input-1.now a.output-1.now a.before a.read room c.if-read-eq0.false _ _
-    c.walk-walk.ensures (not-open c.walk-walk.result.stage c.in-Open.keys2))
+    (refused-turn a.to a.input.now a.output.now a.before a.read room c.if-read-eq0.false _ _
+    c.walk-walk.ensures (not-open c.walk-walk.result.stage c.in_default.not-Open))
 
 pub returns : goal.returns
 returns c =
     let a = c.args in
     let room = sym c.is_room.ensures ∙ not-false _ c.if-not-is_room.false in
-    let used = used-there a.to a.input-1.now a.output-1.now a.before a.read room c.if-read-eq0.false _ _
+    let used = used-there a.to a.input.now a.output.now a.before a.read room c.if-read-eq0.false _ _
     c.walk-walk.ensures in
     let moved = c.keep.ensures
-    ∙ kept_there _ _ a.input-1.now used (omega (arith, (has_room_lem _ _ _ _ room).1)) in
+    ∙ kept_there _ _ a.input.now used (omega (arith, (has_room_lem _ _ _ _ room).1)) in
     rw (ap (λ (k : Kept). k.count) moved, ap (λ (k : Kept). k.contents) moved)
-    (whole-turn a.to a.input-1.now a.output-1.now a.before a.read room c.if-read-eq0.false _ _
+    (whole-turn a.to a.input.now a.output.now a.before a.read room c.if-read-eq0.false _ _
     c.walk-walk.ensures c.in-Open.is)

@@ -14,10 +14,10 @@ unfolding largest_of
 returns-in-End c =
     let a = c.args in
     let step = rw c.left.ensures at c.count_at-step.ensures in
-    let none = met-end (a.most - c.loop-number.next) c.loop-number.next a.part.now c.loop-number.at c.loop-number.sum-1 step.0
+    let none = met-end (a.most - c.loop-number.next) c.loop-number.next a.part.now c.loop-number.at c.loop-number.sum step.0
     c.in-End.is in (
-      c.Going-on.ensures ∙ sym (c.loop-number.invariant.1 ∙ ap (progress c.loop-number.at c.loop-number.next c.loop-number.sum-1) none
-          ∙ progress-none c.loop-number.at c.loop-number.next c.loop-number.sum-1),
+      c.Going-on.ensures ∙ sym (c.loop-number.invariant.1 ∙ ap (progress c.loop-number.at c.loop-number.next c.loop-number.sum) none
+          ∙ progress-none c.loop-number.at c.loop-number.next c.loop-number.sum),
       c.loop-number.invariant.2 (rw none (omega arith)),
     )
 
@@ -26,10 +26,10 @@ returns-in-Fault c =
     let a = c.args in
     let step =
     rw c.left.ensures at c.count_at-step.ensures in
-    let none = met-fault (a.most - c.loop-number.next) c.loop-number.next a.part.now c.loop-number.at c.loop-number.sum-1
+    let none = met-fault (a.most - c.loop-number.next) c.loop-number.next a.part.now c.loop-number.at c.loop-number.sum
     step.0 c.in-Fault.is in (
       rw c.nothing-none.ensures at c.stopped.ensures
-          ∙ sym (c.loop-number.invariant.1 ∙ ap (progress c.loop-number.at c.loop-number.next c.loop-number.sum-1) none),
+          ∙ sym (c.loop-number.invariant.1 ∙ ap (progress c.loop-number.at c.loop-number.next c.loop-number.sum) none),
       c.loop-number.invariant.2 (rw none (omega arith)),
     )
 
@@ -37,7 +37,7 @@ pub overflow_add-next : goal.overflow_add-next
 overflow_add-next c =
     let a = c.args in
     let step = rw c.left.ensures at c.count_at-step.ensures in
-    let m = met-record (a.most - c.loop-number.next) c.loop-number.next a.part.now c.loop-number.at c.loop-number.sum-1 step.0
+    let m = met-record (a.most - c.loop-number.next) c.loop-number.next a.part.now c.loop-number.at c.loop-number.sum step.0
     c.in-Record.is step.1 in
     omega (arith, m.allowed)
 
@@ -45,7 +45,7 @@ pub loop-number-smaller : goal.loop-number-smaller
 loop-number-smaller c =
     let a = c.args in
     let step = rw c.left.ensures at c.count_at-step.ensures in
-    let m = met-record (a.most - c.loop-number.next) c.loop-number.next a.part.now c.loop-number.at c.loop-number.sum-1 step.0
+    let m = met-record (a.most - c.loop-number.next) c.loop-number.next a.part.now c.loop-number.at c.loop-number.sum step.0
     c.in-Record.is step.1 in
     omega (arith, m.onward, m.inside)
 
@@ -53,9 +53,9 @@ pub loop-number-preserved : goal.loop-number-preserved
 loop-number-preserved c =
     let a = c.args in
     let step = rw c.left.ensures at c.count_at-step.ensures in
-    let m = met-record (a.most - c.loop-number.next) c.loop-number.next a.part.now c.loop-number.at c.loop-number.sum-1 step.0
+    let m = met-record (a.most - c.loop-number.next) c.loop-number.next a.part.now c.loop-number.at c.loop-number.sum step.0
     c.in-Record.is step.1 in (
       m.inside,
-      c.loop-number.invariant.1 ∙ goes_on a.most c.loop-number.next a.part.now c.loop-number.at c.loop-number.sum-1 _ m,
-      λ h. c.loop-number.invariant.2 (stays-small a.most c.loop-number.next a.part.now c.loop-number.at c.loop-number.sum-1 _ m h),
+      c.loop-number.invariant.1 ∙ goes_on a.most c.loop-number.next a.part.now c.loop-number.at c.loop-number.sum _ m,
+      λ h. c.loop-number.invariant.2 (stays-small a.most c.loop-number.next a.part.now c.loop-number.at c.loop-number.sum _ m h),
     )

@@ -14,8 +14,8 @@ returns-in-Fault c = simp (c.in-Fault.is, ← c.judge_scene-judged.ensures)
 
 pub solve-requires : goal.solve-requires
 solve-requires c =
-    let size : length c.args.t1.lines ≡ 256 = search rules in
-    rw c.bare-bare.ensures (admitted-sizes c.args.t1 size
+    let size : length c.args.scene.lines ≡ 256 = search rules in
+    rw c.bare-bare.ensures (admitted-sizes c.args.scene size
     (sym (rw c.in_default.is at c.judge_scene-judged.ensures)))
 
 pub returns : goal.returns

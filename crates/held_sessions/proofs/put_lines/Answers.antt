@@ -17,19 +17,19 @@ pub loop-n-preserved : goal.loop-n-preserved
 loop-n-preserved c =
     let l = c.loop-n in
     let a = c.args in
-    let long = lines_long l.numbers-1 in
+    let long = lines_long l.numbers in
     let size : length a.t1 ≡ 256 = search rules in (
       omega arith,
-      c.put_line.auto.0 ∙ l.invariant.1,
-      rw (c.put_line.ensures, stored-line l.numbers-1 l.n _ (omega arith))
-          (filled_next (lines_of l.numbers-1) a.t1 l.n off_line (omega arith) (omega arith) l.invariant.2 refl),
+      c.put_line.auto.numbers ∙ l.invariant.1,
+      rw (c.put_line.ensures, stored-line l.numbers l.n _ (omega arith))
+          (filled_next (lines_of l.numbers) a.t1 l.n off_line (omega arith) (omega arith) l.invariant.2 refl),
     )
 
 pub returns : goal.returns
 returns c =
     let l = c.loop-n in
     let a = c.args in
-    let long = lines_long l.numbers-1 in
+    let long = lines_long l.numbers in
     let size : length a.t1 ≡ 256 = search rules in
-    sym (numbers-back l.numbers-1 (omega arith))
-    ∙ ap numbers_of (filled (lines_of l.numbers-1) a.t1 l.n (omega arith) (omega arith) l.invariant.2)
+    sym (numbers-back l.numbers (omega arith))
+    ∙ ap numbers_of (filled (lines_of l.numbers) a.t1 l.n (omega arith) (omega arith) l.invariant.2)

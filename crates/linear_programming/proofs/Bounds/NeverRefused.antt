@@ -79,8 +79,8 @@ module _ (own prev : Line) (O : Admitted own) (P : Admitted prev) where
 fold-in : (own : Line) → Admitted own → {made l : List Line} → All (LineIn 199) made → All Admitted l →
     All (LineIn 199) (foldl (tighten_next own) made l)
 unfolding tighten_next
-fold-in own O h none = h
-fold-in own O h (more {x} p ps) = fold-in own O (behind-in h (tighten-in own x O p)) ps
+fold-in own O {made = made} h none = h
+fold-in own O {made = made} h (more {x} p ps) = fold-in own O {made = behind made (tighten own x)} (behind-in h (tighten-in own x O p)) ps
 
 tightened-in : (rigid : ℕ) (own : Line) {e : List Line} → Admitted own → All Admitted e → All (LineIn 199) (tightened rigid own e)
 unfolding tightened

@@ -21,5 +21,5 @@ returns c =
       ← c.fault_unless-point_y.ensures,
       ← c.is_within-2.ensures,
       ← c.fault_unless-point_x.ensures,
-      ← c.is_Within.ensures,
+      ← c.is_within.ensures,
     )

@@ -9,10 +9,10 @@ use borrow.Author.Rules.{rules}
 use Rattle.obstacles.proofs.edge_ends.Goals as goal
 
 pub next_index-right_index-requires : goal.next_index-right_index-requires
-next_index-right_index-requires c = omega (arith, few-counted _ _ c.IsEdge-count.ensures)
+next_index-right_index-requires c = omega (arith, few-counted _ _ c.edge_count.ensures)
 
 pub vertex_at-left-requires : goal.vertex_at-left-requires
-vertex_at-left-requires c = omega (arith, few-counted _ _ c.IsEdge-count.ensures)
+vertex_at-left-requires c = omega (arith, few-counted _ _ c.edge_count.ensures)
 
 pub returns-then-left_index-edge_count : goal.returns-then-left_index-edge_count
 unfolding ends_of edge_at edge_vertex_at if◌then◌else◌
@@ -21,9 +21,9 @@ returns-then-left_index-edge_count c = simp (
   ← c.vertex_at-left.ensures,
   ← c.next_index-right_index.ensures.0,
   lt-ltb _ _ c.if-left_index-edge_count.true,
-  ← c.IsEdge-count.ensures,
+  ← c.edge_count.ensures,
 )
 
 pub returns : goal.returns
 unfolding ends_of if◌then◌else◌
-returns c = simp (le-ltb _ _ c.if-left_index-edge_count.false, ← c.IsEdge-count.ensures)
+returns c = simp (le-ltb _ _ c.if-left_index-edge_count.false, ← c.edge_count.ensures)

@@ -8,12 +8,12 @@ use borrow.Author.Rules.{rules}
 use Rattle.obstacles.proofs.get_line_alone.Goals as goal
 
 pub admitted_line-requires : goal.admitted_line-requires
-admitted_line-requires c = omega (arith, few-counted _ _ c.IsEdge-count.ensures)
+admitted_line-requires c = omega (arith, few-counted _ _ c.edge_count.ensures)
 
 pub returns-then-left_index-edge_count : goal.returns-then-left_index-edge_count
 unfolding line_alone if◌then◌else◌
-returns-then-left_index-edge_count c = simp (← c.admitted_line.ensures, lt-ltb _ _ c.if-left_index-edge_count.true, ← c.IsEdge-count.ensures)
+returns-then-left_index-edge_count c = simp (← c.admitted_line.ensures, lt-ltb _ _ c.if-left_index-edge_count.true, ← c.edge_count.ensures)
 
 pub returns : goal.returns
 unfolding line_alone if◌then◌else◌
-returns c = simp (le-ltb _ _ c.if-left_index-edge_count.false, ← c.IsEdge-count.ensures)
+returns c = simp (le-ltb _ _ c.if-left_index-edge_count.false, ← c.edge_count.ensures)

@@ -10,5 +10,5 @@ returns c = simp (
   ← c.fault_unless-y.ensures,
   ← c.is_within-2.ensures,
   ← c.fault_unless-x.ensures,
-  ← c.is_Within.ensures,
+  ← c.is_within.ensures,
 )

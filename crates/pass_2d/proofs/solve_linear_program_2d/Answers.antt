@@ -23,7 +23,7 @@ returns-in_default c =
     let list = take a.count (lines_of a.lines.now) in
     let short = rw c.count_given-given.ensures at c.if-given-gt-MOST.false in
     let first = rw c.start_value-value.ensures at c.judge_point-start.ensures in
-    ended-start _ _ c.judge_point-start.result c.in-Feasible.keys2 list first ∙ sym (few-called _ _ list short)
+    ended-start _ _ c.judge_point-start.result c.in_default.not-Feasible list first ∙ sym (few-called _ _ list short)
 
 pub pass_from-requires : goal.pass_from-requires
 pass_from-requires c =

@@ -21,7 +21,7 @@ finish-put-requires c = omega (
 pub returns-then-read-eq0 : goal.returns-then-read-eq0
 returns-then-read-eq0 c =
     let a = c.args in
-    last_turn a.input-1.now a.output-1.now a.before a.read (sym c.is_room.ensures
+    last_turn a.input.now a.output.now a.before a.read (sym c.is_room.ensures
     ∙ not-false _ c.if-not-is_room.false) c.if-read-eq0.true _ _ c.finish-put.ensures
 
 pub overflow_add-there : goal.overflow_add-there
@@ -38,8 +38,8 @@ pub returns : goal.returns
 returns c =
     let a = c.args in
     let room = sym c.is_room.ensures ∙ not-false _ c.if-not-is_room.false in
-    let used = used-there a.input-1.now a.output-1.now a.before a.read room c.if-read-eq0.false _ _ c.work-place.ensures in
+    let used = used-there a.input.now a.output.now a.before a.read room c.if-read-eq0.false _ _ c.work-place.ensures in
     let moved = c.keep-left.ensures
-    ∙ kept_there _ _ a.input-1.now used (omega (arith, (has_room _ _ _ _ room).1)) in
+    ∙ kept_there _ _ a.input.now used (omega (arith, (has_room _ _ _ _ room).1)) in
     rw (ap (λ (k : Kept). k.count) moved, ap (λ (k : Kept). k.contents) moved)
-    (whole-turn a.input-1.now a.output-1.now a.before a.read room c.if-read-eq0.false _ _ c.work-place.ensures)
+    (whole-turn a.input.now a.output.now a.before a.read room c.if-read-eq0.false _ _ c.work-place.ensures)

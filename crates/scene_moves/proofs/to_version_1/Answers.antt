@@ -66,7 +66,7 @@ put_start-requires c =
     let r = c.read_scene_of_version-read.result in
     let known = reads Two a.source.now r c.read_scene_of_version-read.ensures
     c.in_default.is in
-    let fits : length a.source.now - 4 * r.scene.neighbours ≤ length a.buffer-1.now = (both-pass
+    let fits : length a.source.now - 4 * r.scene.neighbours ≤ length a.buffer.now = (both-pass
     c.is_zero.result _ _ (rw (
       c.in_default-first.is,
       c.fault_unless-lost.ensures,
@@ -86,17 +86,17 @@ put_unnumbered-requires c =
     let r = c.read_scene_of_version-read.result in
     let known = reads Two a.source.now r c.read_scene_of_version-read.ensures
     c.in_default.is in
-    let fits : length a.source.now - 4 * r.scene.neighbours ≤ length a.buffer-1.now = (both-pass
+    let fits : length a.source.now - 4 * r.scene.neighbours ≤ length a.buffer.now = (both-pass
     c.is_zero.result _ _ (rw (
       c.in_default-first.is,
       c.fault_unless-lost.ensures,
       c.fault_unless-short.ensures,
     )
     at c.first_of-first.ensures)).1 in
-    (omega (arith, known.room), omega (arith, known.room, c.put_start.auto.0, fits))
+    (omega (arith, known.room), omega (arith, known.room, c.put_start.auto.buffer, fits))
 
 pub shape_of-buffer : goal.shape_of-buffer
-shape_of-buffer c = c.put_unnumbered.auto.0 ∙ c.put_start.auto.0
+shape_of-buffer c = c.put_unnumbered.auto.buffer ∙ c.put_start.auto.buffer
 
 pub returns : goal.returns
 returns c =
@@ -114,6 +114,6 @@ returns c =
     ) at c.first_of-first.ensures) in
     let kept : keeps One known.parts ≡ true = rw (← known.numbers-1)
     (sym c.is_zero.ensures ∙ passed.0) in
-    told_moved Two One a.source.now a.buffer-1.now r known kept _ size passed.1 _
-    (moved-put Two One r.scene.neighbours a.source.now known.room a.buffer-1.now _ _
+    told_moved Two One a.source.now a.buffer.now r known kept _ size passed.1 _
+    (moved-put Two One r.scene.neighbours a.source.now known.room a.buffer.now _ _
     (rw size at c.put_start.ensures) c.put_unnumbered.ensures)

@@ -58,10 +58,10 @@ pub put_numbered-requires : goal.put_numbered-requires
 put_numbered-requires c =
     let known = reads One c.args.source.now _ c.read_scene_of_version-read.ensures
     c.in_default.is in
-    (omega (arith, known.room), omega (arith, known.room, c.put_start.auto.0, c.if-buffer-length.false))
+    (omega (arith, known.room), omega (arith, known.room, c.put_start.auto.buffer, c.if-buffer-length.false))
 
 pub shape_of-buffer : goal.shape_of-buffer
-shape_of-buffer c = c.put_numbered.auto.0 ∙ c.put_start.auto.0
+shape_of-buffer c = c.put_numbered.auto.buffer ∙ c.put_start.auto.buffer
 
 pub returns : goal.returns
 returns c =
@@ -71,6 +71,6 @@ returns c =
     c.in_default.is in
     let size : length a.source.now + 4 * r.scene.neighbours ≡ moved_length One Two r.scene.neighbours
     a.source.now = omega (arith, known.room) in
-    told_moved One Two a.source.now a.buffer-1.now r known refl _ size c.if-buffer-length.false _
-    (moved-put One Two r.scene.neighbours a.source.now known.room a.buffer-1.now _ _
+    told_moved One Two a.source.now a.buffer.now r known refl _ size c.if-buffer-length.false _
+    (moved-put One Two r.scene.neighbours a.source.now known.room a.buffer.now _ _
     (rw size at c.put_start.ensures) c.put_numbered.ensures)

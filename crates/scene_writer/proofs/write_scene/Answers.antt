@@ -9,7 +9,7 @@ pub returns-in-Fault : goal.returns-in-Fault
 returns-in-Fault c =
     let a = c.args in
     told-refused a.cart a.obstacles a.kinds.now a.counts.now a.vertices.now a.neighbours
-    a.lines.now a.buffer-1.now _ (rw c.in-Fault.is at c.judge_parts-judged.ensures)
+    a.lines.now a.buffer.now _ (rw c.in-Fault.is at c.judge_parts-judged.ensures)
 
 pub record_length-length-requires : goal.record_length-length-requires
 record_length-length-requires c =
@@ -22,7 +22,7 @@ pub returns-then-buffer-length : goal.returns-then-buffer-length
 returns-then-buffer-length c =
     let a = c.args in
     told-short a.cart a.obstacles a.kinds.now a.counts.now a.vertices.now a.neighbours
-    a.lines.now a.buffer-1.now (rw c.in_default.is at c.judge_parts-judged.ensures) _
+    a.lines.now a.buffer.now (rw c.in_default.is at c.judge_parts-judged.ensures) _
     c.record_length-length.ensures c.if-buffer-length.true
 
 pub put_scene-requires : goal.put_scene-requires
@@ -44,5 +44,5 @@ pub returns : goal.returns
 returns c =
     let a = c.args in
     told-written a.cart a.obstacles a.kinds.now a.counts.now a.vertices.now a.neighbours
-    a.lines.now a.buffer-1.now (rw c.in_default.is at c.judge_parts-judged.ensures) _
+    a.lines.now a.buffer.now (rw c.in_default.is at c.judge_parts-judged.ensures) _
     c.record_length-length.ensures _ c.if-buffer-length.false c.put_scene.ensures

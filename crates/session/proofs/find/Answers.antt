@@ -9,8 +9,8 @@ loop-i-init c = (omega arith, omega arith, search rules, refl)
 pub note-n-requires : goal.note-n-requires
 note-n-requires c =
     let l = c.loop-i in
-    let size : length l.found-1 ≡ 256 = l.invariant.2 in
-    let room : l.n < length l.found-1 = omega arith in
+    let size : length l.found ≡ 256 = l.invariant.2 in
+    let room : l.n < length l.found = omega arith in
     (room, size)
 
 pub loop-i-preserved : goal.loop-i-preserved
@@ -19,9 +19,9 @@ loop-i-preserved c =
     let a = c.args in (
       omega arith,
       omega (arith, c.note-n.ensures.0),
-      c.note-n.auto.0 ∙ l.invariant.2,
+      c.note-n.auto.found ∙ l.invariant.2,
       found-next a.kind a.place a.t1 a.count l.i (omega arith) (omega arith)
-          c.is_of.ensures _ (take l.n l.found-1) _ l.invariant.3 c.note-n.ensures.1,
+          c.is_of.ensures _ (take l.n l.found) _ l.invariant.3 c.note-n.ensures.1,
     )
 
 pub returns : goal.returns
@@ -31,5 +31,5 @@ returns c =
       omega arith,
       l.invariant.2,
       found_all a.kind a.place a.t1 a.count l.i (omega arith) (omega arith) _
-          (take l.n l.found-1) l.invariant.3,
+          (take l.n l.found) l.invariant.3,
     )

@@ -21,8 +21,8 @@ loop-n-preserved c =
     let from = c.source_in-from.ensures in
     let near = rw from.0 at from.1 in (
       omega arith,
-      c.put_line.auto.0 ∙ l.invariant.1,
-      rw (c.put_line.ensures, stored_next l.numbers-1 l.n _ (omega arith), l.invariant.2)
+      c.put_line.auto.numbers ∙ l.invariant.1,
+      rw (c.put_line.ensures, stored_next l.numbers l.n _ (omega arith), l.invariant.2)
           (sym (laid_next a.t1 a.count a.withdrawn.now l.n (omega arith) (omega arith) near off_line _
           (ap (λ k. get_or a.t1 k off_line) from.0))),
     )

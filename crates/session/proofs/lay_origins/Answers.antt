@@ -21,13 +21,13 @@ loop-n-preserved c =
     let a = c.args in
     let from = c.source_in-from.ensures in
     let near = rw from.0 at from.1 in
-    let long = origins-long l.numbers-1 in (
+    let long = origins-long l.numbers in (
       omega arith,
-      c.put_origin.auto.0 ∙ l.invariant.1,
+      c.put_origin.auto.numbers ∙ l.invariant.1,
       rw (
         c.put_origin.ensures,
-        stored-origin l.numbers-1 l.n _ (omega arith),
-        take_set_next (origins_of l.numbers-1) l.n (omega arith) _,
+        stored-origin l.numbers l.n _ (omega arith),
+        take_set_next (origins_of l.numbers) l.n (omega arith) _,
         l.invariant.2,
       )
           (sym (laid_next a.t1 a.count a.withdrawn.now l.n (omega arith) (omega arith) near unknown _

@@ -8,17 +8,17 @@ use Rattle.conversion.proofs.steps.step.Goals as goal
 pub returns-in-Cut : goal.returns-in-Cut
 returns-in-Cut c =
     let a = c.args in
-    cut_step a.to a.input.now a.output-1.now a.at _ c.next_part-part.ensures c.in-Cut.is
+    cut_step a.to a.input.now a.output.now a.at _ c.next_part-part.ensures c.in-Cut.is
 
 pub returns-in-Skipped : goal.returns-in-Skipped
 returns-in-Skipped c =
     let a = c.args in
-    skip_step a.to a.input.now a.output-1.now a.at _ c.next_part-part.ensures _ c.in-Skipped.is
+    skip_step a.to a.input.now a.output.now a.at _ c.next_part-part.ensures _ c.in-Skipped.is
 
 pub returns-in-Overlong : goal.returns-in-Overlong
 returns-in-Overlong c =
     let a = c.args in
-    overlong-step a.to a.input.now a.output-1.now a.at _ c.next_part-part.ensures _
+    overlong-step a.to a.input.now a.output.now a.at _ c.next_part-part.ensures _
     c.in-Overlong.is
 
 pub overflow_add-end : goal.overflow_add-end
@@ -27,7 +27,7 @@ overflow_add-end c =
     omega (
       arith,
       c.requires.0,
-      (whole-fits a.to a.input.now a.output-1.now a.at _
+      (whole-fits a.to a.input.now a.output.now a.at _
           c.next_part-part.ensures _ c.in-Whole.is).1,
     )
 
@@ -37,7 +37,7 @@ slice_bounds-move_record-end c =
     omega (
       arith,
       c.requires.0,
-      (whole-fits a.to a.input.now a.output-1.now a.at _
+      (whole-fits a.to a.input.now a.output.now a.at _
           c.next_part-part.ensures _ c.in-Whole.is).1,
     )
 
@@ -46,7 +46,7 @@ overflow_add-behind c =
     let a = c.args in
     omega (
       arith,
-      moved-fits a.to a.input.now a.output-1.now a.at _ c.next_part-part.ensures _ c.in-Whole.is
+      moved-fits a.to a.input.now a.output.now a.at _ c.next_part-part.ensures _ c.in-Whole.is
           c.requires.2 c.requires.1 _ _ _
           (rw c.in-Length.is at c.move_record-written.ensures) refl,
     )
@@ -54,7 +54,7 @@ overflow_add-behind c =
 pub returns-in-Refused : goal.returns-in-Refused
 returns-in-Refused c =
     let a = c.args in
-    refused-step a.to a.input.now a.output-1.now a.at _ c.next_part-part.ensures _ c.in-Whole.is
+    refused-step a.to a.input.now a.output.now a.at _ c.next_part-part.ensures _ c.in-Whole.is
     c.requires.2 c.requires.1 _ _ _
     (rw c.in-Refused.is at c.move_record-written.ensures) _ refl
 
@@ -62,6 +62,6 @@ pub returns-in-Length : goal.returns-in-Length
 unfolding next_place
 returns-in-Length c =
     let a = c.args in
-    moved-step a.to a.input.now a.output-1.now a.at _ c.next_part-part.ensures _ c.in-Whole.is
+    moved-step a.to a.input.now a.output.now a.at _ c.next_part-part.ensures _ c.in-Whole.is
     c.requires.2 c.requires.1 _ _ _
     (rw c.in-Length.is at c.move_record-written.ensures) refl _ c.wrapping_add_u64-next.ensures

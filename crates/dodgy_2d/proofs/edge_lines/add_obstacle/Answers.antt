@@ -19,7 +19,7 @@ use Rattle.dodgy_2d.proofs.edge_lines.add_obstacle.Goals as goal
 pub loop-i-init : goal.loop-i-init
 unfolding lines_up_to makers_up_to lines_of
 loop-i-init c =
-    let few = few-counted _ _ c.IsEdge-count.ensures in (
+    let few = few-counted _ _ c.edge_count.ensures in (
       omega arith,
       omega arith,
       few,
@@ -40,11 +40,11 @@ loop-i-preserved-in-Kept c =
     let vs = vertices_of a.vertices.now in
     let cut : 4 * (a.count + l.own_val) - 4 * a.count ≡ 4 * l.own_val = omega arith in
     let own-edge : l.i < edge_count a.kind n = omega
-    (arith, c.IsEdge-count.ensures) in
+    (arith, c.edge_count.ensures) in
     let made = rw (c.in-Kept.is, cut) at c.get_line_alone-found.ensures ∙ alone-edge a.agent
     a.kind n vs a.margin a.horizon a.vertices.now l.i _ refl refl own-edge in
-    let room : 4 * (a.count + l.own_val) + 4 ≤ length l.numbers-1 = omega (arith, l.invariant.5) in
-    let stored = c.put_line.ensures ∙ stored-sets l.numbers-1 (a.count + l.own_val) _ room in
+    let room : 4 * (a.count + l.own_val) + 4 ≤ length l.numbers = omega (arith, l.invariant.5) in
+    let stored = c.put_line.ensures ∙ stored-sets l.numbers (a.count + l.own_val) _ room in
     let left : l.i + 1 - 1 ≡ l.i = omega arith in
     let next : a.count + (l.own_val + 1) ≡ a.count + l.own_val + 1 = omega arith in (
       omega arith,
@@ -54,8 +54,8 @@ loop-i-preserved-in-Kept c =
       l.invariant.4,
       search rules,
       search rules,
-      rw stored (others-stay l.numbers-1 a.count l.own_val _ room ∙ l.invariant.7),
-      rw (stored, own-next l.numbers-1 a.count l.own_val _ room)
+      rw stored (others-stay l.numbers a.count l.own_val _ room ∙ l.invariant.7),
+      rw (stored, own-next l.numbers a.count l.own_val _ room)
           (add_kept a.agent a.kind n vs a.margin a.horizon l.i _ _ l.invariant.8 made),
       rw (left, next, maker-kept a.agent a.kind n vs a.margin a.horizon l.i _ _ l.invariant.8 made)
           (noted-on l.walls (a.count + l.own_val) a.place l.i (walls_in a.count a.walls.now)
@@ -71,7 +71,7 @@ loop-i-preserved c =
     let vs = vertices_of a.vertices.now in
     let cut : 4 * (a.count + l.own_val) - 4 * a.count ≡ 4 * l.own_val = omega arith in
     let own-edge : l.i < edge_count a.kind n =
-    omega (arith, c.IsEdge-count.ensures) in
+    omega (arith, c.edge_count.ensures) in
     let made = rw (c.in-Nothing.is, cut) at c.get_line_alone-found.ensures
     ∙ alone-edge a.agent a.kind n vs a.margin a.horizon a.vertices.now l.i _ refl refl own-edge in (
       omega arith,
@@ -103,7 +103,7 @@ returns-in-Refused c =
     let vs = vertices_of a.vertices.now in
     let cut : 4 * (a.count + l.own_val) - 4 * a.count ≡ 4 * l.own_val = omega arith in
     let own-edge : l.i < edge_count a.kind n =
-    omega (arith, c.IsEdge-count.ensures) in
+    omega (arith, c.edge_count.ensures) in
     let made = rw (c.in-Refused.is, cut) at c.get_line_alone-found.ensures
     ∙ alone-edge a.agent a.kind n vs a.margin a.horizon a.vertices.now l.i _ refl refl own-edge in (
       l.invariant.5,
@@ -126,11 +126,11 @@ returns c =
     let a = c.args in
     let l = c.loop-i in
     let n = length a.vertices.now / 2 in
-    let ended : l.i ≡ edge_count a.kind n = omega (arith, c.IsEdge-count.ensures) in (
+    let ended : l.i ≡ edge_count a.kind n = omega (arith, c.edge_count.ensures) in (
       l.invariant.5,
       l.invariant.6,
       omega arith,
-      rw (standing-own l.numbers-1 a.count l.own_val (omega (arith, l.invariant.5)), l.invariant.7, ← ended, l.invariant.8),
+      rw (standing-own l.numbers a.count l.own_val (omega (arith, l.invariant.5)), l.invariant.7, ← ended, l.invariant.8),
       counted (rw ended at l.invariant.9),
     )
 

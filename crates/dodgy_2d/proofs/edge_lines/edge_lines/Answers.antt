@@ -83,7 +83,7 @@ returns-in_default c =
       rw c.in_default.is
           (sym (l.invariant.6 ∙ edges-on a.agent a.margin a.horizon a.vertices.now a.t2 a.t3
           a.n kinds counts l.i
-          l.offset (lines (lines_of (take (4 * l.count) l.numbers-1))) _ (omega arith) step)),
+          l.offset (lines (lines_of (take (4 * l.count) l.numbers))) _ (omega arith) step)),
       rw c.in_default.is none_told,
       c.add_obstacle-added.ensures.1,
     )
@@ -112,12 +112,12 @@ loop-i-preserved c =
       c.add_obstacle-added.ensures.0,
       rw wide next,
       rw wide (l.invariant.6 ∙ edges-on a.agent a.margin a.horizon a.vertices.now a.t2
-          a.t3 a.n kinds counts l.i l.offset (lines (lines_of (take (4 * l.count) l.numbers-1))) _
+          a.t3 a.n kinds counts l.i l.offset (lines (lines_of (take (4 * l.count) l.numbers))) _
           (omega arith) step),
       c.add_obstacle-added.ensures.1,
       rw wide
           (l.invariant.8 ∙ origins-on a.agent a.margin a.horizon a.vertices.now a.t2 a.t3 a.n kinds
-          counts l.i l.offset (walls_in l.count l.walls-1) _ (omega arith) noted),
+          counts l.i l.offset (walls_in l.count l.walls) _ (omega arith) noted),
     )
 
 pub shape_of-walls : goal.shape_of-walls
@@ -130,8 +130,8 @@ returns c =
       l.invariant.4,
       omega arith,
       sym (l.invariant.6 ∙ edges-done a.agent a.margin a.horizon a.vertices.now a.t2 a.t3 a.n
-          (omega arith) (omega arith) l.i l.offset (lines_of (take (4 * l.count) l.numbers-1)) (omega arith)),
+          (omega arith) (omega arith) l.i l.offset (lines_of (take (4 * l.count) l.numbers)) (omega arith)),
       counted (sym (l.invariant.8 ∙ origins-done a.agent a.margin a.horizon a.vertices.now a.t2 a.t3
-          a.n (omega arith) (omega arith) l.i l.offset (walls_in l.count l.walls-1) (omega arith))),
+          a.n (omega arith) (omega arith) l.i l.offset (walls_in l.count l.walls) (omega arith))),
       l.invariant.7,
     )

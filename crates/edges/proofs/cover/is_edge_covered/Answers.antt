@@ -16,19 +16,19 @@ pub returns-then-is_covered_by : goal.returns-then-is_covered_by
 returns-then-is_covered_by c =
     let a = c.args in
     let l = c.loop-i in
-    let b = a.existing-lines.now in
+    let b = a.existing_lines.now in
     let hit = rw (c.if-is_covered_by.true, c.line_at-line.ensures) at c.is_covered_by.ensures in
-    sym (l.invariant.1 ∙ covered-at a.left-vertex a.right-vertex a.horizon a.margin (lines_of b) l.i off_line
+    sym (l.invariant.1 ∙ covered-at a.left_vertex a.right_vertex a.horizon a.margin (lines_of b) l.i off_line
     (omega (arith, lines_long b)) hit)
 
 pub loop-i-preserved : goal.loop-i-preserved
 loop-i-preserved c =
     let a = c.args in
     let l = c.loop-i in
-    let b = a.existing-lines.now in
+    let b = a.existing_lines.now in
     let miss = rw (c.if-is_covered_by.false, c.line_at-line.ensures) at c.is_covered_by.ensures in (
       omega arith,
-      l.invariant.1 ∙ covered-on a.left-vertex a.right-vertex a.horizon a.margin (lines_of b)
+      l.invariant.1 ∙ covered-on a.left_vertex a.right_vertex a.horizon a.margin (lines_of b)
           l.i off_line (omega (arith, lines_long b)) miss,
     )
 
@@ -36,6 +36,6 @@ pub returns : goal.returns
 returns c =
     let a = c.args in
     let l = c.loop-i in
-    let b = a.existing-lines.now in
-    sym (l.invariant.1 ∙ covered-done a.left-vertex a.right-vertex a.horizon a.margin (lines_of b) l.i
+    let b = a.existing_lines.now in
+    sym (l.invariant.1 ∙ covered-done a.left_vertex a.right_vertex a.horizon a.margin (lines_of b) l.i
     (omega (arith, lines_long b)))

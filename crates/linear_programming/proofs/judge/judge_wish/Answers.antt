@@ -14,5 +14,5 @@ returns c =
       ← c.fault_unless-y.ensures,
       ← c.is_within-2.ensures,
       ← c.fault_unless-x.ensures,
-      ← c.is_Within.ensures,
+      ← c.is_within.ensures,
     )

@@ -28,9 +28,8 @@ returns-in-Feasible c = simp c.in-Feasible.is
 pub returns-else-k-rigid : goal.returns-else-k-rigid
 unfolding after_pass if◌then◌else◌
 returns-else-k-rigid c =
-    let parts = c.pass-in-Infeasible-1.given.0 in
     let short = taken-most c.args.count (lines_of c.args.lines.now) c.requires.0 in
-    let relaxed = relaxed-behind _ _ _ short _ _ _ (failed_line (failure_of parts.0)) parts.1.1.0 _
+    let relaxed = relaxed-behind _ _ _ short _ _ _ _ _ _
     c.solve_linear_program_3d-relaxed.ensures in
     simp (le-ltb _ _ c.if-k-rigid.false, c.in-Infeasible.is)
     (c.relaxed_answer.ensures ∙ relaxed)

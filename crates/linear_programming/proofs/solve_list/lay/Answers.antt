@@ -15,11 +15,11 @@ pub loop-n-preserved : goal.loop-n-preserved
 loop-n-preserved c =
     let l = c.loop-n in (
       omega arith,
-      c.put_line.auto.0 ∙ l.invariant.1,
+      c.put_line.auto.numbers ∙ l.invariant.1,
       rw (
         c.put_line.ensures,
-        stored_next l.numbers-1 l.n _ (omega arith),
-        take_next c.args.t1 l.n (omega arith) off_line,
+        stored_next l.numbers l.n _ (omega arith),
+        take_next c.args.lines l.n (omega arith) off_line,
         l.invariant.2,
       ),
     )

@@ -17,7 +17,7 @@ use Rattle.obstacles.proofs.obstacle.add_edges.Goals as goal
 pub loop-i-init : goal.loop-i-init
 unfolding lines_up_to lines_of
 loop-i-init c =
-    let few = few-counted _ _ c.IsEdge-count.ensures in (
+    let few = few-counted _ _ c.edge_count-edges.ensures in (
       omega arith,
       omega arith,
       omega (arith, few, c.requires.0),
@@ -54,14 +54,14 @@ loop-i-preserved-in-Kept c =
     let n = length a.vertices.now / 2 in
     let few : l.count < 64 = omega arith in
     let made = rw (c.in-Kept.is, sub-zero) at c.admitted_line-admitted.ensures in
-    let room : 4 * l.count + 4 ≤ length l.lines-1 = omega (arith, l.invariant.4.size) in
-    let stored = c.put_line.ensures ∙ stored-sets l.lines-1 l.count _ room in (
+    let room : 4 * l.count + 4 ≤ length l.lines = omega (arith, l.invariant.4.size) in
+    let stored = c.put_line.ensures ∙ stored-sets l.lines l.count _ room in (
       omega arith,
       omega arith,
       l.invariant.2,
       l.invariant.3,
-      rw stored (filled_next l.lines-1 l.count _ few l.invariant.4),
-      rw (stored, stored_lines l.lines-1 l.count _ room)
+      rw stored (filled_next l.lines l.count _ few l.invariant.4),
+      rw (stored, stored_lines l.lines l.count _ room)
           (add_kept a.agent a.kind n (vertices_of a.vertices.now) a.margin a.horizon l.i _ _
           l.invariant.5 made),
     )
@@ -96,7 +96,7 @@ returns-in-Refused c =
     let n = length a.vertices.now / 2 in
     let made = rw (c.in-Refused.is, sub-zero) at c.admitted_line-admitted.ensures in
     rw (add-refused a.agent a.kind n (vertices_of a.vertices.now) a.margin a.horizon l.i
-    (edge_count a.kind n) _ _ l.invariant.5 made (omega (arith, c.IsEdge-count.ensures)))
+    (edge_count a.kind n) _ _ l.invariant.5 made (omega (arith, c.edge_count-edges.ensures)))
 
 pub shape_of-lines : goal.shape_of-lines
 shape_of-lines c = c.loop-i.invariant.4.size ∙ sym (blank-long _ c.requires.1)
@@ -107,5 +107,5 @@ returns c =
     let a = c.args in
     let l = c.loop-i in
     let n = length a.vertices.now / 2 in
-    let ended : l.i ≡ edge_count a.kind n = omega (arith, c.IsEdge-count.ensures) in
-    filled-answer l.lines-1 l.count (omega arith) l.invariant.4 ∙ sym (ap answer_as (rw ended at l.invariant.5))
+    let ended : l.i ≡ edge_count a.kind n = omega (arith, c.edge_count-edges.ensures) in
+    filled-answer l.lines l.count (omega arith) l.invariant.4 ∙ sym (ap answer_as (rw ended at l.invariant.5))

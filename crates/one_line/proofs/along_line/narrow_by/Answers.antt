@@ -10,7 +10,7 @@ unfolding narrow if◌then◌else◌ within
 returns-then-is_within c = simp (
   ← c.unless_fails.ensures,
   c.if-is_within.true,
-  ← c.is_Within.ensures,
+  ← c.is_within.ensures,
   ← c.determinant-numerator.ensures,
   ← c.sub.ensures,
   ← c.determinant-direction_determinant.ensures,
@@ -21,7 +21,7 @@ unfolding narrow if◌then◌else◌ within
 returns c = simp (
   ← c.cut_at.ensures,
   c.if-is_within.false,
-  ← c.is_Within.ensures,
+  ← c.is_within.ensures,
   ← c.determinant-numerator.ensures,
   ← c.sub.ensures,
   ← c.determinant-direction_determinant.ensures,

@@ -21,9 +21,9 @@ pub returns-in_default : goal.returns-in_default
 returns-in_default c =
     let a = c.args in
     let l = c.loop-i in
-    sym (l.invariant.1 ∙ walk-stop (pass_line (objective_of a.optimal-value) a.radius) (lines_of a.lines.now)
+    sym (l.invariant.1 ∙ walk-stop (pass_line (objective_of a.optimal_value) a.radius) (lines_of a.lines.now)
     a.count l.i (lines_fit a.lines.now a.count (omega arith)) off_line (omega arith)
-    (sym c.pass_line-pass.ensures) (ended-stays _ _ c.pass_line-pass.result c.in-Feasible.keys2))
+    (sym c.pass_line-pass.ensures) (ended-stays _ _ c.pass_line-pass.result c.in_default.not-Feasible))
 
 pub loop-i-preserved : goal.loop-i-preserved
 loop-i-preserved c =
@@ -34,7 +34,7 @@ loop-i-preserved c =
     in (
       omega (arith, short, line-most _ _ _ _ _ _ _ _ step),
       l.invariant.1 ∙ walk-on
-          (pass_line (objective_of a.optimal-value) a.radius) (lines_of a.lines.now) a.count l.i
+          (pass_line (objective_of a.optimal_value) a.radius) (lines_of a.lines.now) a.count l.i
           (lines_fit a.lines.now a.count (omega arith)) off_line (omega arith) (sym step),
     )
 
@@ -42,5 +42,5 @@ pub returns : goal.returns
 returns c =
     let a = c.args in
     let l = c.loop-i in
-    sym (l.invariant.1 ∙ walk-done (pass_line (objective_of a.optimal-value) a.radius) (lines_of a.lines.now)
+    sym (l.invariant.1 ∙ walk-done (pass_line (objective_of a.optimal_value) a.radius) (lines_of a.lines.now)
     a.count l.i (lines_fit a.lines.now a.count (omega arith)) (omega arith))

@@ -22,7 +22,7 @@ returns-then-determinant c = simp (
 pub returns-in_default-along : goal.returns-in_default-along
 unfolding pass_line if◌then◌else◌ solved
 returns-in_default-along c =
-    let refuses = refuses-left c.solve_linear_program_along_line-along.result c.in-At.keys2 c.in-Fails.in-Fails-own.keys2 in
+    let refuses = refuses-left c.solve_linear_program_along_line-along.result c.in_default.not-At c.in_default-along.not-Fails in
     simp (
       refuses,
       ← c.solve_linear_program_along_line-along.ensures,

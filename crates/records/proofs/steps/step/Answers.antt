@@ -14,27 +14,27 @@ returns-then-output-put-lt-BYTES c = no_room _ _ _ c.if-output-put-lt-BYTES.true
 pub overflow_add-result : goal.overflow_add-result
 overflow_add-result c =
     let a = c.args in
-    let fits = skip-fits a.input.now a.output-1.now a.place c.if-output-put-lt-BYTES.false _
+    let fits = skip-fits a.input.now a.output.now a.place c.if-output-put-lt-BYTES.false _
     c.next_part-part.ensures _ c.in-Skipped.is in
     omega (arith, c.requires)
 
 pub overflow_sub-result : goal.overflow_sub-result
 overflow_sub-result c =
     let a = c.args in
-    (skip-fits a.input.now a.output-1.now a.place c.if-output-put-lt-BYTES.false _ c.next_part-part.ensures _
+    (skip-fits a.input.now a.output.now a.place c.if-output-put-lt-BYTES.false _ c.next_part-part.ensures _
     c.in-Skipped.is).1
 
 pub overflow_add-end : goal.overflow_add-end
 overflow_add-end c =
     let a = c.args in
-    let fits = whole-fits a.input.now a.output-1.now a.place c.if-output-put-lt-BYTES.false _
+    let fits = whole-fits a.input.now a.output.now a.place c.if-output-put-lt-BYTES.false _
     c.next_part-part.ensures _ c.in-Whole.is in
     omega (arith, c.requires)
 
 pub slice_bounds-reply-end : goal.slice_bounds-reply-end
 slice_bounds-reply-end c =
     let a = c.args in
-    let fits = whole-fits a.input.now a.output-1.now a.place c.if-output-put-lt-BYTES.false _
+    let fits = whole-fits a.input.now a.output.now a.place c.if-output-put-lt-BYTES.false _
     c.next_part-part.ensures _ c.in-Whole.is in
     omega (arith, c.requires)
 
@@ -49,24 +49,24 @@ overflow_add-result-in-Whole c =
 pub returns-in-Cut : goal.returns-in-Cut
 returns-in-Cut c =
     let a = c.args in
-    cut_step a.input.now a.output-1.now a.place c.if-output-put-lt-BYTES.false _ c.next_part-part.ensures
+    cut_step a.input.now a.output.now a.place c.if-output-put-lt-BYTES.false _ c.next_part-part.ensures
     c.in-Cut.is
 
 pub returns-in-Skipped : goal.returns-in-Skipped
 returns-in-Skipped c =
     let a = c.args in
-    skip_step a.input.now a.output-1.now a.place c.if-output-put-lt-BYTES.false _ c.next_part-part.ensures _
+    skip_step a.input.now a.output.now a.place c.if-output-put-lt-BYTES.false _ c.next_part-part.ensures _
     c.in-Skipped.is
 
 pub returns-in-Overlong : goal.returns-in-Overlong
 returns-in-Overlong c =
     let a = c.args in
-    overlong-step a.input.now a.output-1.now a.place c.if-output-put-lt-BYTES.false _
+    overlong-step a.input.now a.output.now a.place c.if-output-put-lt-BYTES.false _
     c.next_part-part.ensures _ c.in-Overlong.is _ _ c.requires.1
     c.write_refusal.ensures
 
 pub returns-in-Whole : goal.returns-in-Whole
 returns-in-Whole c =
     let a = c.args in
-    whole-step a.input.now a.output-1.now a.place c.if-output-put-lt-BYTES.false _
+    whole-step a.input.now a.output.now a.place c.if-output-put-lt-BYTES.false _
     c.next_part-part.ensures _ c.in-Whole.is _ _ c.requires.1 c.reply-answered.ensures

@@ -18,10 +18,10 @@ loop-n-preserved c =
     let l = c.loop-n in
     let h : l.n < length (lines_of b) = omega (arith, lines_fit b (l.n + 1) (omega arith)) in (
       omega arith,
-      c.put_line.auto.0 ∙ l.invariant.1,
+      c.put_line.auto.numbers ∙ l.invariant.1,
       rw (
         c.put_line.ensures,
-        stored_next l.tight-1 l.n c.line_at.result (omega arith),
+        stored_next l.tight l.n c.line_at.result (omega arith),
         take_next (lines_of b) l.n h off_line,
         c.line_at.ensures,
         l.invariant.2,

@@ -11,7 +11,7 @@ returns-then-dot c = simp (
   c.if-dot.true,
   ← c.dot.ensures,
   c.if-is_within.true,
-  ← c.is_Within.ensures,
+  ← c.is_within.ensures,
   ← c.determinant-intersection_determinant.ensures,
 )
 
@@ -23,7 +23,7 @@ returns-then-is_within c = simp (
   c.if-dot.false,
   ← c.dot.ensures,
   c.if-is_within.true,
-  ← c.is_Within.ensures,
+  ← c.is_within.ensures,
   ← c.determinant-intersection_determinant.ensures,
 )
 
@@ -33,6 +33,6 @@ returns c = simp (
   ← c.tighten_at-2.ensures,
   ← c.intersection_point.ensures,
   c.if-is_within.false,
-  ← c.is_Within.ensures,
+  ← c.is_within.ensures,
   ← c.determinant-intersection_determinant.ensures,
 )

@@ -33,11 +33,11 @@ loop-i-preserved-in-Kept c =
     let made = rw (c.in-Kept.is, c.line_at-previous.ensures) at c.tighten.ensures in (
       omega arith,
       omega arith,
-      c.put_line.auto.0 ∙ l.invariant.2,
+      c.put_line.auto.numbers ∙ l.invariant.2,
       l.invariant.3 ∙ fold_on
           (tighten_next a.constraint) (lines_of b) a.index l.i (lines_fit b a.index (omega arith)) off_line
           (omega arith) (next-kept _ _ _ _ made ∙
-          rw (c.put_line.ensures, stored_next l.tight-1 l.n _ (omega arith))),
+          rw (c.put_line.ensures, stored_next l.tight l.n _ (omega arith))),
     )
 
 pub loop-i-preserved : goal.loop-i-preserved

@@ -13,16 +13,16 @@ loop-i-init c = putting-begins One Two _ _ _ _
 pub put_bytes-requires : goal.put_bytes-requires
 put_bytes-requires c =
     let l = c.loop-i in
-    (omega (arith, c.requires), omega (arith, c.put_word.auto.0, l.invariant.sized, c.requires))
+    (omega (arith, c.requires), omega (arith, c.put_word.auto.s, l.invariant.sized, c.requires))
 
 pub loop-i-preserved : goal.loop-i-preserved
 loop-i-preserved c =
     let l = c.loop-i in
     let a = c.args in
-    putting-on One Two _ a.source.now a.start a.count l.buffer-1 _ l.i l.invariant c.loop-i-test.true
+    putting-on One Two _ a.source.now a.start a.count l.buffer _ l.i l.invariant c.loop-i-test.true
     c.requires.0
-    (c.put_bytes.auto.0 ∙ c.put_word.auto.0)
-    (numbered-put l.buffer-1 _ _ (drop (a.start + 16 * l.i) a.source.now) (a.start + 20 * l.i)
+    (c.put_bytes.auto.buffer ∙ c.put_word.auto.s)
+    (numbered-put l.buffer _ _ (drop (a.start + 16 * l.i) a.source.now) (a.start + 20 * l.i)
     c.put_word.ensures c.put_bytes.ensures)
 
 pub shape_of-buffer : goal.shape_of-buffer

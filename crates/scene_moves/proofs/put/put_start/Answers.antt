@@ -10,15 +10,15 @@ use Rattle.scene_moves.proofs.put.put_start.Goals as goal
 
 pub put_bytes-requires : goal.put_bytes-requires
 put_bytes-requires c =
-    (omega (arith, c.requires), simp length-set (omega (arith, c.put_pair.auto.0, c.requires)))
+    (omega (arith, c.requires), simp length-set (omega (arith, c.put_pair.auto.s, c.requires)))
 
 pub shape_of-buffer : goal.shape_of-buffer
-shape_of-buffer c = c.put_bytes.auto.0
-    ∙ simp length-set c.put_pair.auto.0
+shape_of-buffer c = c.put_bytes.auto.buffer
+    ∙ simp length-set c.put_pair.auto.s
 
 pub returns : goal.returns
 returns c =
     let a = c.args in
-    start-put a.buffer-1.now _ _ _ a.source.now a.size a.version a.start
-    (c.put_pair.ensures ∙ ap (sets a.buffer-1.now 0) (pair-stored _)) refl
+    start-put a.buffer.now _ _ _ a.source.now a.size a.version a.start
+    (c.put_pair.ensures ∙ ap (sets a.buffer.now 0) (pair-stored _)) refl
     c.put_bytes.ensures

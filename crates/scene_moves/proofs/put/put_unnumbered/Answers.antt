@@ -17,10 +17,10 @@ pub loop-i-preserved : goal.loop-i-preserved
 loop-i-preserved c =
     let l = c.loop-i in
     let a = c.args in
-    putting-on Two One _ a.source.now a.start a.count l.buffer-1 _ l.i l.invariant c.loop-i-test.true
+    putting-on Two One _ a.source.now a.start a.count l.buffer _ l.i l.invariant c.loop-i-test.true
     c.requires.0
-    c.put_bytes.auto.0
-    (unnumbered-put l.buffer-1 _ a.source.now (a.start + 16 * l.i) (a.start + 20 * l.i)
+    c.put_bytes.auto.buffer
+    (unnumbered-put l.buffer _ a.source.now (a.start + 16 * l.i) (a.start + 20 * l.i)
     c.put_bytes.ensures)
 
 pub shape_of-buffer : goal.shape_of-buffer

@@ -24,10 +24,10 @@ pub loop-i-preserved : goal.loop-i-preserved
 loop-i-preserved c =
     let l = c.loop-i in
     let a = c.args in
-    let put = c.put_line.ensures ∙ stored-sets l.lines-1 l.i _
+    let put = c.put_line.ensures ∙ stored-sets l.lines l.i _
     (omega (arith, l.invariant.1, c.requires.0)) in (
       omega arith,
-      omega (arith, c.put_line.auto.0, l.invariant.1),
+      omega (arith, c.put_line.auto.numbers, l.invariant.1),
       simp length-set l.invariant.2,
       l.invariant.3 ∙ rows_next a.bytes.now _ _ l.i _ _ _ _ a.count c.loop-i-test.true
           c.numbered_line_at-read.ensures put,

@@ -3,7 +3,7 @@ use borrow.Author.Rules.{rules}
 use Rattle.scene_records.proofs.steps.passes.Goals as goal
 
 pub returns-in-Within : goal.returns-in-Within
-returns-in-Within c = simp (← c.is_Within.ensures, c.in-Within.is)
+returns-in-Within c = simp (← c.is_within.ensures, c.in-Within.is)
 
 pub returns-in-Inside : goal.returns-in-Inside
 returns-in-Inside c = simp (← c.is_inside.ensures, c.in-Inside.is)

@@ -51,7 +51,7 @@ loop-i-preserved c =
           c.head_at-head.ensures c.wide-many.ensures.0,
       simp length-set l.invariant.2,
       simp length-set l.invariant.3,
-      omega (arith, c.outline_at-next.auto.1, l.invariant.4),
+      omega (arith, c.outline_at-next.auto.vertices, l.invariant.4),
       l.invariant.5 ∙ walls-next
           a.bytes.now _ _ _ _ l.i l.total _ _ _ a.count _ _ _ c.loop-i-test.true
           (head-known _ _ read) c.wide-many.ensures.0 c.outline_at-next.ensures,

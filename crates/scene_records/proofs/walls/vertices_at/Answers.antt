@@ -32,7 +32,7 @@ loop-i-preserved c =
     let a = c.args in
     let put = c.put.ensures in (
       omega arith,
-      omega (arith, c.put.auto.0, l.invariant.1),
+      omega (arith, c.put.auto.vertices, l.invariant.1),
       l.invariant.2 ∙ stored_next coordinates 2 (λ v. refl) (vertex a.bytes.now) on_vertex _ _ _ _ _ _
           (outer_of l.previous) _ a.count l.i c.loop-i-test.true c.vertex_at-vertex.ensures put
           (omega arith),

@@ -6,7 +6,7 @@ use borrow.Author.Rules.{rules}
 use Rattle.scene_writer.proofs.judge.judge_point.Goals as goal
 
 pub returns-then-at-numbers : goal.returns-then-at-numbers
-returns-then-at-numbers c = rw (number-there _ _ _ nan c.if-at-numbers.true, ← c.is_Within.ensures)
+returns-then-at-numbers c = rw (number-there _ _ _ nan c.if-at-numbers.true, ← c.is_within.ensures)
     c.fault_unless.ensures
 
 pub returns : goal.returns

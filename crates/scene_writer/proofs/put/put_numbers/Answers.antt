@@ -10,16 +10,16 @@ use Rattle.scene_writer.proofs.put.put_numbers.Goals as goal
 pub loop-k-init : goal.loop-k-init
 loop-k-init c =
     let a = c.args in
-    (omega arith, refl, turn-start a.numbers.now a.from a.n a.at a.buffer-1.now)
+    (omega arith, refl, turn-start a.numbers.now a.from a.n a.at a.buffer.now)
 
 pub loop-k-preserved : goal.loop-k-preserved
 loop-k-preserved c =
     let l = c.loop-k in
     let a = c.args in (
       omega arith,
-      c.put_number.auto.0 ∙ l.invariant.1,
+      c.put_number.auto.buffer ∙ l.invariant.1,
       l.invariant.2 ∙ turn-next a.numbers.now
-          a.from a.n a.at l.buffer-1 _ l.k c.loop-k-test.true c.requires.1
+          a.from a.n a.at l.buffer _ l.k c.loop-k-test.true c.requires.1
           c.put_number.ensures,
     )
 
@@ -30,4 +30,4 @@ pub returns : goal.returns
 returns c =
     let a = c.args in
     let l = c.loop-k in
-    turn_end a.numbers.now a.from a.n a.at l.buffer-1 l.k c.loop-k-test.false ∙ sym l.invariant.2
+    turn_end a.numbers.now a.from a.n a.at l.buffer l.k c.loop-k-test.false ∙ sym l.invariant.2

@@ -31,9 +31,9 @@ loop-i-preserved c =
     c.loop-i-test.true in
     let fits : 2 * (l.total + get_or a.counts.now l.i 0) ≤ length a.vertices.now = omega (arith, l.invariant.2, more) in (
       omega arith,
-      c.put_obstacle.auto.0 ∙ l.invariant.1,
+      c.put_obstacle.auto.buffer ∙ l.invariant.1,
       omega (arith, l.invariant.2, more, c.wide-count.ensures.0),
-      l.invariant.3 ∙ wall-next a.kinds.now a.counts.now a.vertices.now l.i l.total l.buffer-1 _ _
+      l.invariant.3 ∙ wall-next a.kinds.now a.counts.now a.vertices.now l.i l.total l.buffer _ _
           c.wide-count.ensures.0 (omega (arith, c.requires.1)) (omega (arith, c.requires.2))
           (rw c.wide-count.ensures.0 fits) c.put_obstacle.ensures,
     )
@@ -45,5 +45,5 @@ pub returns : goal.returns
 returns c =
     let a = c.args in
     let l = c.loop-i in
-    walls-end a.kinds.now a.counts.now a.vertices.now l.i l.total l.buffer-1 _
+    walls-end a.kinds.now a.counts.now a.vertices.now l.i l.total l.buffer _
     (omega (arith, c.requires.1, c.loop-i-test.false)) ∙ sym l.invariant.3

@@ -25,9 +25,9 @@ returns c =
       c.before.before = c.requires.3;
     } in
     scene-put a.cart a.obstacles a.kinds.now a.counts.now a.vertices.now a.neighbours
-    a.lines.now fits (40 + 2 * a.obstacles + 4 * length a.vertices.now) _ a.buffer-1.now _ _ _ _ _ _
+    a.lines.now fits (40 + 2 * a.obstacles + 4 * length a.vertices.now) _ a.buffer.now _ _ _ _ _ _
     _ refl (omega arith)
-    (c.put_pair.ensures ∙ ap (sets a.buffer-1.now 0) (pair-stored _))
+    (c.put_pair.ensures ∙ ap (sets a.buffer.now 0) (pair-stored _))
     (rw c.wide.ensures.0 at c.put_byte.ensures) c.put_cart.ensures
     c.put_byte-2.ensures c.put_obstacles.ensures c.put_byte-3.ensures
     (rw (take-length a.lines.now) at c.put_numbers.ensures)

@@ -6,5 +6,5 @@ use Rattle.scene_writer.proofs.put.put_vector.Goals as goal
 pub returns : goal.returns
 returns c =
     let a = c.args in
-    vector-put a.buffer-1.now _ _ a.at a.v c.put_number.ensures
+    vector-put a.buffer.now _ _ a.at a.v c.put_number.ensures
     c.put_number-2.ensures
