@@ -146,6 +146,7 @@ module _ (left place : ℕ) (s more : List ℕ) (rest : (size : ℕ) → records
   step_cut (entry e size) (placed-entry h) =
       ap (λ (t : List ℕ). ahead e (records_from left (place + 1) t)) (drop-append-le size s more h)
       ∙ ap (ahead e) (rest size) ∙ ahead-joined left place s more e size (wholes_from left (place + 1) (drop size s))
+  step_cut ended x' = elim x' [ ]
 
   step_waits : (b : Bool) → waits s ≡ b →
       onward place (λ size. records_from left (place + 1) (drop size (s ++ more))) (found_in (s ++ more)) ≡
@@ -206,6 +207,7 @@ module _ (left place : ℕ) (s : List ℕ) (rest : (size : ℕ) → records_from
   close-placed (bad n) placed-bad = refl
   close-placed (entry e size) (placed-entry h) =
       ap (ahead e) (rest size) ∙ ahead-closing place s e size h (wholes_from left (place + 1) (drop size s))
+  close-placed ended x' = elim x' [ ]
 
   close-waits : (b : Bool) → waits s ≡ b → onward place (λ size. records_from left (place + 1) (drop size s)) (found_in s) ≡
       closing (length s) place (onward_whole place (λ size. wholes_from left (place + 1) (drop size s))
@@ -248,6 +250,7 @@ module _ (place : ℕ) (s : List ℕ) (rest : ℕ → Wholes) (few-rest : (size 
   few-placed : (f : Found) → Placed s f → Few (length s) (onward_whole place rest f)
   few-placed (bad n) placed-bad = few-stopped
   few-placed (entry e size) (placed-entry h) = few-ahead s e size h (rest size) (few-rest size)
+  few-placed ended x' = elim x' [ ]
 
   few-waits : (b : Bool) → waits s ≡ b → Few (length s) (onward_whole place rest (if b then ended else found_in s))
   unfolding if◌then◌else◌

@@ -15,7 +15,6 @@ use Rattle.answer_records.specs.Replies as said
 use Rattle.answer_records.specs.Answers.{answer_version}
 use Rattle.answer_records.specs.Replies.{Said, is_length, length_of_code, answer_fault, answer_in}
 use Rattle.answer_logs.specs.Logs.{bad, found_as, size_in, found_in, replied_as, logged_as, logged_at}
-use Rattle.answer_logs.specs.declared.Logged.{Logged}
 use Rattle.answer_logs.specs.declared.Logged.TheVariants as logged
 
 -- bytes that do not match their length are the fault 2, whatever stands in them

@@ -1,20 +1,19 @@
 -- The walk over a part of a log, record by record, in the code's words. Assumes nothing.
 use Prim.Native.Nat.{ℕ, suc, ◌+◌, ◌-◌, ◌≤◌, ◌<◌}
 use native.Mathlib.Omega.{arith}
-use mathlib.Core.Path.{◌≡◌, refl, sym, ap, ◌∙◌}
-use mathlib.Core.Bool.{Bool, true, false}
+use mathlib.Core.Path.{◌≡◌, refl, ap}
+use mathlib.Core.Bool.{true, false}
 use mathlib.Core.List.{List, [], ◌∷◌}
 use lib.Dec.{ltb}
 use lib.ListN.{length, drop, length-drop}
 use lib.Seq.{drop-drop}
 use borrow.Author.Tests.{lt-ltb, le-ltb, le-leb, lt-leb}
-use Rattle.arithmetic.specs.Binary32.{if◌then◌else◌}
 use Rattle.arithmetic.proofs.Choice.{if-all}
 use Rattle.words.specs.Words.{pair_of}
 use Rattle.answer_records.specs.Answers.{longest_answer}
 use Rattle.answer_logs.specs.declared.Logged.{Logged}
 use Rattle.answer_logs.specs.declared.Logged.TheVariants as logged
-use Rattle.answer_logs.specs.Logs.{outcome, refusal, Found, ended, bad, entry, found_in, logged_as, logged_at}
+use Rattle.answer_logs.specs.Logs.{outcome, refusal, Found, ended, bad, entry, logged_as, logged_at}
 use Rattle.answer_logs.specs.Parts.{waits, found_whole, whole_at, Wholes, reached, stopped, ahead_whole, no_more_whole, onward_whole, wholes_from}
 use Rattle.answer_logs.proofs.LogLaws.{size-at}
 use Rattle.answer_logs.proofs.RecordLaws.{Stands, no_record, stands}

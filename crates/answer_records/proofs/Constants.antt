@@ -1,5 +1,5 @@
 -- The constants of answer records: each length is that of the record's bytes behind the length field. Assumes nothing.
-use Rattle.std.proofs.Common.{◌≡◌, ℕ, ◌+◌, List, [], ◌∷◌, length, refl}
+use Rattle.std.proofs.Common.{◌≡◌, ℕ, ◌+◌, [], ◌∷◌, length, refl}
 use Rattle.fields.specs.Bytes.{big_endian}
 use Rattle.answer_records.specs.declared.Answer.{Answer}
 use Rattle.answer_records.specs.Answers.{outcome_length, refusal_length, answer_version, longest_answer, no_failed_line, refused_code, answer_bytes, refusal_bytes}

@@ -13,7 +13,7 @@ use Rattle.answer_logs.specs.Logs.{Entry, outcome, refusal, Found, ended, bad, e
 use Rattle.log_walks.specs.declared.Met.TheVariants as met
 use Rattle.log_walks.specs.Figures.{size_of, sizes, fallbacks}
 use Rattle.log_walks.specs.Parts.{records_of}
-use Rattle.log_walks.specs.Walks.{more, walked}
+use Rattle.log_walks.specs.Walks.{walked}
 use Rattle.log_walks.proofs.FoundLaws.{Sized, sized-end, sized, entry_found, size-within, one-outcome, one-refusal, same_start}
 use Rattle.log_walks.proofs.WalkLaws.{one-fallback}
 

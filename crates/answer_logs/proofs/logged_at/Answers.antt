@@ -1,5 +1,4 @@
 -- `answer_logs::logged_at` meets its contract. Assumes nothing.
-use borrow.Author.Rules.{rules}
 use native.Mathlib.Omega.{arith}
 use mathlib.Core.Path.{refl, ◌∙◌}
 use Rattle.answer_logs.proofs.LogLaws.{at-end, at_cut, at-reply}

@@ -1,5 +1,4 @@
 -- `answer_logs::replied` meets its contract. Assumes nothing.
-use borrow.Author.Rules.{rules}
 use Rattle.answer_logs.proofs.replied.Goals as goal
 
 pub returns-in-Outcome : goal.returns-in-Outcome

@@ -1,6 +1,5 @@
 -- `answer_logs::waits` meets its contract. Assumes nothing.
 use native.Mathlib.Omega.{arith}
-use borrow.Author.Rules.{rules}
 use Rattle.answer_logs.proofs.PartLaws.{waits-short, waits-overlong, waits-by-size}
 use Rattle.answer_logs.proofs.waits.Goals as goal
 

@@ -1,6 +1,6 @@
 -- `answer_records::judge_answer` meets its contract. Assumes nothing.
-use Rattle.std.proofs.Common.{sym, ◌∙◌, arith, rules, eq-eqb, ne_eqb, le-leb}
-use borrow.Author.Tests.{lt-leb, not-true, not-false}
+use Rattle.std.proofs.Common.{sym, ◌∙◌, arith, eq-eqb, ne_eqb, le-leb}
+use borrow.Author.Tests.{lt-leb}
 use Rattle.answer_records.specs.Replies.{answer_fault}
 use Rattle.answer_records.proofs.ReplyLaws.{has_code}
 use Rattle.answer_records.proofs.judge_answer.Goals as goal

@@ -32,13 +32,13 @@ returns-in_default-3 c =
       lt-leb k 5 (omega arith),
       le-leb 129 k (omega arith),
       lt-leb k 138 (omega arith),
-      ne_eqb k 142 (λ e. c.in-129-to-138.rest.1 e),
+      ne_eqb k 142 (λ e. omega arith),
     )
 
 pub returns-in-129-to-138 : goal.returns-in-129-to-138
 unfolding length_of_code if◌then◌else◌
 returns-in-129-to-138 c =
-    let same : c.args.code ≡ 142 = c.in-129-to-138.keys1 in
+    let same : c.args.code ≡ 142 = omega arith in
     rw same
 
 pub returns-in-129-to-138-2 : goal.returns-in-129-to-138-2

@@ -1,5 +1,4 @@
 -- `answer_records::outcome_in` meets its contract. Assumes nothing.
-use Rattle.std.proofs.Common.{rules}
 use Rattle.answer_records.specs.Replies.{outcome_in}
 use Rattle.answer_records.proofs.outcome_in.Goals as goal
 

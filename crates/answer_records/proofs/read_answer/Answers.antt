@@ -1,5 +1,5 @@
 -- `answer_records::read_answer` meets its contract. Assumes nothing.
-use Rattle.std.proofs.Common.{sym, ◌∙◌, arith, rules, eq-eqb, ne_eqb}
+use Rattle.std.proofs.Common.{sym, ◌∙◌, arith, eq-eqb, ne_eqb}
 use Rattle.arithmetic.specs.Binary32.{if◌then◌else◌}
 use Rattle.answer_records.specs.Replies.{answer_in}
 use Rattle.answer_records.proofs.ReplyLaws.{code-there, refusal-coded}

@@ -1,5 +1,5 @@
 -- `answer_records::write_answer` meets its contract. Assumes nothing.
-use Rattle.std.proofs.Common.{arith, length-set, rules}
+use Rattle.std.proofs.Common.{arith, length-set}
 use Rattle.answer_records.proofs.WrittenLaws.{no_room, stored}
 use Rattle.answer_records.proofs.write_answer.Goals as goal
 
@@ -13,11 +13,11 @@ pub shape_of-buffer : goal.shape_of-buffer
 shape_of-buffer c =
     omega (
       arith,
-      c.put_word-3.auto.0,
-      c.put_pair-2.auto.0,
-      c.put_word-2.auto.0,
-      simp length-set at c.put_word.auto.0,
-      c.put_pair.auto.0,
+      c.put_word-3.auto.s,
+      c.put_pair-2.auto.s,
+      c.put_word-2.auto.s,
+      simp length-set at c.put_word.auto.s,
+      c.put_pair.auto.s,
     )
 
 pub returns : goal.returns

@@ -1,5 +1,4 @@
 -- `answer_records::write_refusal` meets its contract. Assumes nothing.
-use Rattle.std.proofs.Common.{rules}
 use Rattle.answer_records.proofs.WrittenLaws.{no-room-for-refusal, stored-refusal}
 use Rattle.answer_records.proofs.write_refusal.Goals as goal
 
@@ -8,4 +7,4 @@ returns-then-buffer-lt-REFUSAL_BYTES c = no-room-for-refusal _ _ c.if-buffer-lt-
 
 pub returns : goal.returns
 returns c = stored-refusal _ _ _ _ c.if-buffer-lt-REFUSAL_BYTES.false
-    c.put_pair.ensures c.wrapping_add_u8.ensures
+    c.put_pair.ensures c.wrapping_add_u8.ensures.value

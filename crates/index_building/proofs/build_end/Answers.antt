@@ -1,5 +1,4 @@
 -- `index_building::build_end` meets its contract. Assumes nothing.
-use borrow.Author.Rules.{rules}
 use Rattle.index_building.specs.Builds.{end_over}
 use Rattle.index_building.proofs.build_end.Goals as goal
 

@@ -1,6 +1,5 @@
 -- `index_building::build_index` meets its contract. Assumes nothing.
 use native.Mathlib.Omega.{arith}
-use borrow.Author.Rules.{rules}
 use Rattle.index_building.specs.Builds.{built_over}
 use Rattle.index_building.proofs.WholeLaws.{start_fits, ends_there, build-bad, build-left}
 use Rattle.index_building.proofs.build_index.Goals as goal
@@ -16,13 +15,13 @@ returns-then-used-log c = build-left _ _ _ _ _ (rw (
 ) at c.walk_part-progress.ensures) c.if-used-log.true
 
 pub store_whole-requires : goal.store_whole-requires
-store_whole-requires c = (
-  omega arith,
-  ends_there _ _ _ (rw (
+store_whole-requires c = record {
+  most_le_greatest = omega arith;
+  log_value = ends_there _ _ _ (rw (
     c.in-Whole.is,
     c.at_start.ensures,
-  ) at c.walk_part-progress.ensures) c.if-used-log.false,
-)
+  ) at c.walk_part-progress.ensures) c.if-used-log.false;
+}
 
 pub returns-in-Fault : goal.returns-in-Fault
 unfolding built_over

@@ -1,7 +1,6 @@
 -- `index_building::build_part` meets its contract. Assumes nothing.
 use native.Mathlib.Omega.{arith}
 use mathlib.Core.Path.{sym, ap, ◌∙◌}
-use borrow.Author.Rules.{rules}
 use Rattle.admission.specs.Faults.{fault_of}
 use Rattle.log_walks.specs.Parts.{wholes_of}
 use Rattle.index_building.proofs.BuildLaws.{part-whole, part-over, part-refused, part-short, part-done}
@@ -23,10 +22,11 @@ pub fill-requires : goal.fill-requires
 fill-requires c =
     let a = c.args in
     let w = part-whole a.before (wholes_of a.part.now) c.in-Whole.used
-    c.in-Whole.after (rw c.in-Whole.is at c.walk_part-progress.ensures) in (
-      sym (sym (ap fault_of c.in_default.is) ∙ c.judge_extent-judged.ensures),
-      (w.0, omega (arith, w.1, c.if-buffer-needed.false, c.entry_bytes-needed.ensures)),
-    )
+    c.in-Whole.after (rw c.in-Whole.is at c.walk_part-progress.ensures) in record {
+      before_value = sym (sym (ap fault_of c.in_default.is) ∙ c.judge_extent-judged.ensures);
+      part_value = w.0;
+      part_in_bounds = omega (arith, w.1, c.if-buffer-needed.false, c.entry_bytes-needed.ensures);
+    }
 
 pub returns-in-Fault-progress : goal.returns-in-Fault-progress
 returns-in-Fault-progress c =

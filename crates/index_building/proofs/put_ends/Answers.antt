@@ -1,6 +1,5 @@
 -- `index_building::put_ends` meets its contract. Assumes nothing.
 use native.Mathlib.Omega.{arith}
-use borrow.Author.Rules.{rules}
 use Rattle.index_building.proofs.StoredLaws.{new-short, ends-long, ends-many, ends-short, ends-done}
 use Rattle.index_building.proofs.put_ends.Goals as goal
 
@@ -17,11 +16,11 @@ returns-then-buffer-lt-START_BYTES c = ends-short _ _ _ _ (omega (arith, c.if-to
 pub put_new_entry-end-requires : goal.put_new_entry-end-requires
 put_new_entry-end-requires c =
     let a = c.args in
-    omega (arith, new-short a.count a.total a.before, c.put_head.auto.0, c.if-buffer-lt-START_BYTES.false)
+    omega (arith, new-short a.count a.total a.before, c.put_head.auto.buffer, c.if-buffer-lt-START_BYTES.false)
 
 pub shape_of-buffer : goal.shape_of-buffer
 shape_of-buffer c =
-    omega (arith, c.put_new_entry-end.auto.0, c.put_head.auto.0)
+    omega (arith, c.put_new_entry-end.auto.buffer, c.put_head.auto.buffer)
 
 pub returns : goal.returns
 returns c =

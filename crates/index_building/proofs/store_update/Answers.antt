@@ -1,6 +1,5 @@
 -- `index_building::store_update` meets its contract. Assumes nothing.
 use native.Mathlib.Omega.{arith}
-use borrow.Author.Rules.{rules}
 use Rattle.index_building.proofs.StoredLaws.{new-length, stored-long, stored-many, stored_short, stored-done}
 use Rattle.index_building.proofs.store_update.Goals as goal
 
@@ -22,14 +21,14 @@ put_new_entry-requires c =
       arith,
       c.entry_at.ensures,
       new-length a.count a.total a.before,
-      c.put_head.auto.0,
+      c.put_head.auto.buffer,
       c.if-buffer-whole.false,
       c.entry_at-whole.ensures,
     )
 
 pub shape_of-buffer : goal.shape_of-buffer
 shape_of-buffer c =
-    omega (arith, c.put_new_entry.auto.0, c.put_head.auto.0)
+    omega (arith, c.put_new_entry.auto.buffer, c.put_head.auto.buffer)
 
 pub returns : goal.returns
 returns c =

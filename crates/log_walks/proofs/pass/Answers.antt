@@ -1,5 +1,4 @@
 -- `log_walks::pass` meets its contract. Assumes nothing.
-use borrow.Author.Rules.{rules}
 use Rattle.log_walks.proofs.pass.Goals as goal
 
 pub returns-in-Outcome : goal.returns-in-Outcome

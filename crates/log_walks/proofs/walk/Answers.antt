@@ -1,7 +1,5 @@
-use Prim.Native.Nat.{◌-◌}
 use native.Mathlib.Omega.{arith}
-use borrow.Author.Rules.{rules}
-use Rattle.log_walks.proofs.WalkLaws.{Going, begins, goes_on, stops, ends, goes_through}
+use Rattle.log_walks.proofs.WalkLaws.{begins, goes_on, stops, ends, goes_through}
 use Rattle.log_walks.proofs.walk.Goals as goal
 
 pub loop-i-init : goal.loop-i-init

@@ -1,8 +1,6 @@
 -- `log_walks::walk` meets its contract. Assumes nothing.
 use Prim.Native.Nat.{◌-◌}
-use native.Mathlib.Omega.{arith}
-use borrow.Author.Rules.{rules}
-use Rattle.log_walks.proofs.WalkLaws.{Going, begins, goes_on, stops, ends, goes_through}
+use Rattle.log_walks.proofs.WalkLaws.{Going}
 use Rattle.log_walks.proofs.walk.Given as goal
 
 abbrev pub invariant-loop-i : goal.invariant-loop-i

@@ -1,10 +1,7 @@
 -- `index_building::builds::fill` meets its contract. Assumes nothing.
 use Prim.Native.Nat.{◌-◌}
-use native.Mathlib.Omega.{arith}
-use mathlib.Core.Path.{refl}
-use borrow.Author.Rules.{rules}
 use lib.ListN.{length}
-use Rattle.index_building.proofs.BuildLaws.{Filling, none-grown, step, step-on, step_fits, entry-room, fills-on, fills-through, fills-length, fills-no-bad}
+use Rattle.index_building.proofs.BuildLaws.{Filling}
 use Rattle.index_building.proofs.builds.fill.Given as goal
 
 abbrev pub invariant-loop-behind : goal.invariant-loop-behind

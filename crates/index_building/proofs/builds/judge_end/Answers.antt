@@ -1,6 +1,5 @@
 -- `index_building::builds::judge_end` meets its contract. Assumes nothing.
 use native.Mathlib.Omega.{arith}
-use borrow.Author.Rules.{rules}
 use borrow.Author.Tests.{lt-leb, le-leb, eq-eqb, ne_eqb}
 use Rattle.index_building.specs.Builds.{end_fault}
 use Rattle.index_building.proofs.builds.judge_end.Goals as goal

@@ -1,6 +1,5 @@
 -- `index_building::builds::judge_extent` meets its contract. Assumes nothing.
 use native.Mathlib.Omega.{arith}
-use borrow.Author.Rules.{rules}
 use borrow.Author.Tests.{lt-leb, le-leb}
 use Rattle.index_building.specs.Builds.{extent_fault}
 use Rattle.index_building.proofs.BuildLaws.{room-test}

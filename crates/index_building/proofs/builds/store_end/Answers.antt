@@ -1,7 +1,6 @@
 -- `index_building::builds::store_end` meets its contract. Assumes nothing.
 use native.Mathlib.Omega.{arith}
 use mathlib.Core.Path.{sym, ap, ◌∙◌}
-use borrow.Author.Rules.{rules}
 use Rattle.admission.specs.Faults.{fault_of}
 use Rattle.index_building.proofs.WholeLaws.{end_refused, end_fits, end_short, end-done}
 use Rattle.index_building.proofs.builds.store_end.Goals as goal
@@ -17,7 +16,7 @@ pub overflow_cast-extent : goal.overflow_cast-extent
 overflow_cast-extent c =
     omega (
       arith,
-      end_fits _ _ c.args.extent c.args.buffer_1.now (sym (ap fault_of c.in_default.is)
+      end_fits _ _ c.args.extent c.args.buffer.now (sym (ap fault_of c.in_default.is)
           ∙ c.judge_end-judged.ensures),
       c.requires,
     )
@@ -26,7 +25,7 @@ pub overflow_cast-extent-2 : goal.overflow_cast-extent-2
 overflow_cast-extent-2 c =
     omega (
       arith,
-      end_fits _ _ c.args.extent c.args.buffer_1.now (sym (ap fault_of c.in_default.is)
+      end_fits _ _ c.args.extent c.args.buffer.now (sym (ap fault_of c.in_default.is)
           ∙ c.judge_end-judged.ensures),
       c.requires,
     )

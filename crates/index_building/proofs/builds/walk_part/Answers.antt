@@ -1,11 +1,6 @@
-use Prim.Native.Nat.{◌-◌, ◌≤◌}
 use native.Mathlib.Omega.{arith}
-use mathlib.Core.Path.{◌≡◌, refl, sym, ◌∙◌}
-use borrow.Author.Rules.{rules}
-use lib.ListN.{length, drop}
-use Rattle.log_walks.specs.Parts.{wholes_of}
-use Rattle.index_building.specs.Builds.{progress_by}
-use Rattle.index_building.proofs.BuildLaws.{Grown, none-grown, step, step-on, step_fits, step-grown, walks-on, walked-bad, walked_through}
+use mathlib.Core.Path.{refl, sym, ◌∙◌}
+use Rattle.index_building.proofs.BuildLaws.{none-grown, step, step-on, step_fits, step-grown, walks-on, walked-bad, walked_through}
 use Rattle.index_building.proofs.builds.walk_part.Goals as goal
 
 pub loop-number-init : goal.loop-number-init
@@ -34,7 +29,7 @@ pub extended-extent-requires : goal.extended-extent-requires
 extended-extent-requires c =
     let f = step_fits _ _ c.requires c.loop-number.invariant.1 _ _
     (rw (c.in-Record.is, c.whole_at.ensures) at c.pass-passed.ensures) in
-    (f.0, (f.1, f.2))
+    record { size_bound = f.0; records_bound = f.1; more_bound = f.2 }
 
 pub loop-number-smaller : goal.loop-number-smaller
 loop-number-smaller c =

@@ -1,5 +1,4 @@
 -- `index_building::puts::put_entry` meets its contract. Assumes nothing.
-use borrow.Author.Rules.{rules}
 use Rattle.index_building.proofs.PutLaws.{two-words}
 use Rattle.index_building.proofs.puts.put_entry.Goals as goal
 

@@ -31,9 +31,9 @@ pub shape_of-buffer : goal.shape_of-buffer
 shape_of-buffer c =
     omega (
       arith,
-      c.put_word-3.auto.0,
-      simp length-set at c.put_word-2.auto.0,
-      c.put_word.auto.0,
+      c.put_word-3.auto.s,
+      simp length-set at c.put_word-2.auto.s,
+      c.put_word.auto.s,
     )
 
 pub returns : goal.returns

@@ -1,6 +1,5 @@
 -- `index_building::puts::put_new_entry` meets its contract. Assumes nothing.
 use native.Mathlib.Omega.{arith}
-use borrow.Author.Rules.{rules}
 use Rattle.index_building.proofs.PutLaws.{entry_new, entry-new-length, none-new}
 use Rattle.index_building.proofs.puts.put_new_entry.Goals as goal
 

@@ -1,5 +1,4 @@
 -- `index_building::puts::put_start` meets its contract. Assumes nothing.
-use borrow.Author.Rules.{rules}
 use Rattle.index_building.proofs.PutLaws.{start-put}
 use Rattle.index_building.proofs.puts.put_start.Goals as goal
 
