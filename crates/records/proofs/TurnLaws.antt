@@ -3,7 +3,7 @@
 use Prim.Native.Nat.{ℕ, ◌+◌, ◌-◌, ◌*◌, ◌≤◌}
 use native.Mathlib.Omega.{arith}
 use native.Mathlib.Nat.{zero-add, sub-zero}
-use mathlib.Core.Path.{◌≡◌, refl, sym, ap, ◌∙◌}
+use mathlib.Core.Path.{◌≡◌, refl, sym, ap, ◌∙◌, subst}
 use mathlib.Core.Bool.{true, false, false≢true}
 use mathlib.Core.List.{List, [], ◌∷◌, ◌++◌}
 use lib.Dec.{leb}
@@ -214,7 +214,9 @@ module _ (input output held out part : List ℕ) (before t : Stream) (read : ℕ
         answers = rw stays at p.0;
         kept = rw stays at p.1;
         skip = rw stays at p.2;
-        more = λ on. rw stays at (sym p.3) ∙ on;
+        more =
+            λ on. subst (λ (x : List ℕ). (turned x before.skip (take read (drop before.kept filled))).more ≡ true) stays
+            (sym p.3 ∙ on);
       }
 
   -- so it does where the output failed, but that there is no more

@@ -8,7 +8,7 @@ use Rattle.daily_tally.proofs.advance_within.Given as goal
 
 -- the answer from the start is the answer from here, and its probes are small where those from here are
 abbrev pub invariant-loop-number : goal.invariant-loop-number
-invariant-loop-number l =     (l.at ≤ length l.part)
+invariant-loop-number l = (l.at ≤ length l.part)
     × (advanced l.most l.part l.initial.next l.initial.sum ≡ progress l.at l.next l.sum (wholes_from (l.most - l.next) l.next (drop l.at l.part)))
     × (largest_in (wholes_from (l.most - l.next) l.next (drop l.at l.part)) < 2 ^ 32 →
     largest_in (wholes_from (l.most - l.initial.next) l.initial.next l.part) < 2 ^ 32)

@@ -18,11 +18,11 @@ loop-n-preserved c =
     let l = c.loop-n in
     let a = c.args in
     let long = lines_long l.numbers in
-    let size : length a.t1 ≡ 256 = search rules in (
+    let size : length a.lines ≡ 256 = search rules in (
       omega arith,
       c.put_line.auto.numbers ∙ l.invariant.1,
       rw (c.put_line.ensures, stored-line l.numbers l.n _ (omega arith))
-          (filled_next (lines_of l.numbers) a.t1 l.n off_line (omega arith) (omega arith) l.invariant.2 refl),
+          (filled_next (lines_of l.numbers) a.lines l.n off_line (omega arith) (omega arith) l.invariant.2 refl),
     )
 
 pub returns : goal.returns
@@ -30,6 +30,6 @@ returns c =
     let l = c.loop-n in
     let a = c.args in
     let long = lines_long l.numbers in
-    let size : length a.t1 ≡ 256 = search rules in
+    let size : length a.lines ≡ 256 = search rules in
     sym (numbers-back l.numbers (omega arith))
-    ∙ ap numbers_of (filled (lines_of l.numbers) a.t1 l.n (omega arith) (omega arith) l.invariant.2)
+    ∙ ap numbers_of (filled (lines_of l.numbers) a.lines l.n (omega arith) (omega arith) l.invariant.2)

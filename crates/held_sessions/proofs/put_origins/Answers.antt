@@ -18,17 +18,17 @@ loop-n-preserved c =
     let l = c.loop-n in
     let a = c.args in
     let long = origins-long l.numbers in
-    let size : length a.t1 ≡ 256 = search rules in (
+    let size : length a.origins ≡ 256 = search rules in (
       omega arith,
       c.put_origin.auto.numbers ∙ l.invariant.1,
       rw (c.put_origin.ensures, stored-origin l.numbers l.n _ (omega arith))
-          (filled_next (origins_of l.numbers) a.t1 l.n unknown (omega arith) (omega arith) l.invariant.2 refl),
+          (filled_next (origins_of l.numbers) a.origins l.n unknown (omega arith) (omega arith) l.invariant.2 refl),
     )
 
 pub returns : goal.returns
 returns c =
     let l = c.loop-n in
     let a = c.args in
-    let size : length a.t1 ≡ 256 = search rules in
+    let size : length a.origins ≡ 256 = search rules in
     sym (take_all 768 l.numbers (omega arith))
-    ∙ laid-origins l.numbers l.n 768 a.t1 (omega arith) (omega arith) (l.invariant.2 ∙ take_all l.n a.t1 (omega arith))
+    ∙ laid-origins l.numbers l.n 768 a.origins (omega arith) (omega arith) (l.invariant.2 ∙ take_all l.n a.origins (omega arith))

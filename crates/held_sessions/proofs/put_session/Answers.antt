@@ -8,6 +8,6 @@ unfolding block_of
 returns c = rw (
   c.put_lines.ensures,
   c.put_origins.ensures,
-  c.Numbers-of.ensures,
+  c.numbers_of.ensures,
   c.words_of.ensures,
 )

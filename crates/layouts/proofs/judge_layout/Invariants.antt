@@ -11,7 +11,7 @@ use borrow.Author.Rules.{rules}
 use Rattle.layouts.proofs.judge_layout.Given as goal
 
 abbrev pub invariant-loop-i : goal.invariant-loop-i
-invariant-loop-i l =     (l.i ≤ l.obstacles) × (l.total ≤ 192)
+invariant-loop-i l = (l.i ≤ l.obstacles) × (l.total ≤ 192)
     × (lent_fault 0 l.obstacles l.kinds l.counts l.vertices ≡ lent_fault l.total (l.obstacles - l.i) (drop l.i l.kinds) (drop l.i l.counts)
     (drop (2 * l.total) l.vertices))
     × (vertex_total l.obstacles l.counts ≡ l.total + vertex_total (l.obstacles - l.i) (drop l.i l.counts))

@@ -14,6 +14,6 @@ returns-in-Fault c = refused-solved _ _ c.if-buffer-lt-BYTES.false _
 
 pub returns : goal.returns
 returns c =
-    let size : length c.read_scene-read.result.scene-1.lines ≡ 256 = search rules in
+    let size : length c.read_scene-read.result.scene.lines ≡ 256 = search rules in
     outcome-solved _ _ c.if-buffer-lt-BYTES.false _ c.read_scene-read.ensures c.in_default.is size _
     (rw c.bare-bare.ensures at c.solve_admitted_scene-answer.ensures) _ c.write_outcome.ensures

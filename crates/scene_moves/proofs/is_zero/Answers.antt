@@ -18,8 +18,7 @@ returns-then-numbers-i-ne0 c =
 
 pub loop-i-preserved : goal.loop-i-preserved
 loop-i-preserved c =
-    let l = c.loop-i in
-    (
+    let l = c.loop-i in (
       omega arith,
       l.invariant.1 ∙ zero-next c.args.numbers.now c.args.count l.i c.requires
           c.loop-i-test.true c.if-numbers-i-ne0.false,

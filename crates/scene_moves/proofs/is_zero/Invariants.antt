@@ -9,7 +9,7 @@ use borrow.Author.Rules.{rules}
 use Rattle.scene_moves.proofs.is_zero.Given as goal
 
 abbrev pub invariant-loop-i : goal.invariant-loop-i
-invariant-loop-i l =     (l.i ≤ l.count) × (all_zero (take l.count l.numbers) ≡ all_zero (drop l.i (take l.count l.numbers)))
+invariant-loop-i l = (l.i ≤ l.count) × (all_zero (take l.count l.numbers) ≡ all_zero (drop l.i (take l.count l.numbers)))
 
 abbrev pub decreases-loop-i : goal.decreases-loop-i
 decreases-loop-i l = l.count - l.i

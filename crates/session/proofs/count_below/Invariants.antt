@@ -5,7 +5,7 @@ use Rattle.session.proofs.ChangeWork.{below_on, below-done, at_most_one}
 use Rattle.session.proofs.count_below.Given as goal
 
 abbrev pub invariant-loop-k : goal.invariant-loop-k
-invariant-loop-k l =     (l.k ≤ length l.withdrawn) × (l.below ≤ l.k) × (below_in l.rigid l.withdrawn ≡ l.below + below_in l.rigid (drop l.k l.withdrawn))
+invariant-loop-k l = (l.k ≤ length l.withdrawn) × (l.below ≤ l.k) × (below_in l.rigid l.withdrawn ≡ l.below + below_in l.rigid (drop l.k l.withdrawn))
 
 abbrev pub decreases-loop-k : goal.decreases-loop-k
 decreases-loop-k l = length l.withdrawn - l.k

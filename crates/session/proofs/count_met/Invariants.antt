@@ -9,7 +9,7 @@ use Rattle.session.proofs.MeetingWork.{counted-on, counted_stop, counted-done}
 use Rattle.session.proofs.count_met.Given as goal
 
 abbrev pub invariant-loop-i : goal.invariant-loop-i
-invariant-loop-i l =     (l.i ≤ length l.numbers / 4) × (first_unmet l.point (lines_of l.numbers) ≡ l.i + first_unmet l.point (drop l.i (lines_of l.numbers)))
+invariant-loop-i l = (l.i ≤ length l.numbers / 4) × (first_unmet l.point (lines_of l.numbers) ≡ l.i + first_unmet l.point (drop l.i (lines_of l.numbers)))
 
 abbrev pub decreases-loop-i : goal.decreases-loop-i
 decreases-loop-i l = length l.numbers / 4 - l.i

@@ -7,7 +7,7 @@ use Rattle.session.proofs.WithdrawalWork.{laid_next}
 use Rattle.session.proofs.lay_lines.Given as goal
 
 abbrev pub invariant-loop-n : goal.invariant-loop-n
-invariant-loop-n l =     (l.n ≤ l.count - length l.withdrawn) × (length l.numbers ≡ 1024)
+invariant-loop-n l = (l.n ≤ l.count - length l.withdrawn) × (length l.numbers ≡ 1024)
     × (take l.n (lines_of l.numbers) ≡ take l.n (without_all l.withdrawn (take l.count l.lines)))
 
 abbrev pub decreases-loop-n : goal.decreases-loop-n

@@ -9,7 +9,7 @@ use Rattle.session.proofs.WithdrawalWork.{laid_next}
 use Rattle.session.proofs.lay_origins.Given as goal
 
 abbrev pub invariant-loop-n : goal.invariant-loop-n
-invariant-loop-n l =     (l.n ≤ l.count - length l.withdrawn) × (length l.numbers ≡ 768)
+invariant-loop-n l = (l.n ≤ l.count - length l.withdrawn) × (length l.numbers ≡ 768)
     × (take l.n (origins_of l.numbers) ≡ take l.n (without_all l.withdrawn (take l.count l.origins)))
 
 abbrev pub decreases-loop-n : goal.decreases-loop-n

@@ -6,7 +6,7 @@ use Rattle.session.proofs.WithdrawalWork.{source-on, source-none}
 use Rattle.session.proofs.source_in.Given as goal
 
 abbrev pub invariant-loop-k : goal.invariant-loop-k
-invariant-loop-k l =     (l.k ≤ length l.withdrawn) × (l.from ≤ l.n + l.k) × (source_in l.withdrawn l.n ≡ source_in (drop l.k l.withdrawn) l.from)
+invariant-loop-k l = (l.k ≤ length l.withdrawn) × (l.from ≤ l.n + l.k) × (source_in l.withdrawn l.n ≡ source_in (drop l.k l.withdrawn) l.from)
 
 abbrev pub decreases-loop-k : goal.decreases-loop-k
 decreases-loop-k l = length l.withdrawn - l.k

@@ -13,7 +13,7 @@ use borrow.Author.Rules.{rules}
 use Rattle.wall_check.proofs.check_edges.Given as goal
 
 abbrev pub invariant-loop-i : goal.invariant-loop-i
-invariant-loop-i l =     (l.i ≤ length l.vertices / 2) × (count_in l.known ≤ count_in l.initial.known + l.i)
+invariant-loop-i l = (l.i ≤ length l.vertices / 2) × (count_in l.known ≤ count_in l.initial.known + l.i)
     × (behind l.initial.known (crossed_in l.from l.to (own_walls l.obstacle l.kind l.vertices))
     ≡ behind l.known (crossed_in l.from l.to (walls_from l.obstacle l.kind l.vertices l.i (edge_count l.kind (length l.vertices / 2) - l.i))))
 

@@ -15,7 +15,7 @@ use borrow.Author.Rules.{rules}
 use Rattle.wall_check.proofs.check_obstacles.Given as goal
 
 abbrev pub invariant-loop-i : goal.invariant-loop-i
-invariant-loop-i l =     (l.i ≤ l.obstacles) × (l.total ≤ 192) × (2 * l.total ≤ length l.vertices) × (count_in l.known ≤ l.total)
+invariant-loop-i l = (l.i ≤ l.obstacles) × (l.total ≤ 192) × (2 * l.total ≤ length l.vertices) × (count_in l.known ≤ l.total)
     × (lent_fault l.total (l.obstacles - l.i) (drop l.i l.kinds) (drop l.i l.counts) (drop (2 * l.total) l.vertices) ≡ fine)
     × (found_in (crossed_in l.from l.to (walls_of 0 l.obstacles l.kinds l.counts l.vertices))
     ≡ behind l.known (crossed_in l.from l.to (walls_of l.i (l.obstacles - l.i) (drop l.i l.kinds) (drop l.i l.counts) (drop (2 * l.total) l.vertices))))

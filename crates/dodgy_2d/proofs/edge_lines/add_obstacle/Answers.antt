@@ -136,41 +136,60 @@ returns c =
 
 pub overflow_mul-count : goal.overflow_mul-count
 overflow_mul-count c = omega arith
+
 pub overflow_add-count : goal.overflow_add-count
 overflow_add-count c = omega arith
+
 pub overflow_mul-count-in-loop-i : goal.overflow_mul-count-in-loop-i
 overflow_mul-count-in-loop-i c = omega arith
+
 pub offset_bounds-numbers-count : goal.offset_bounds-numbers-count
 offset_bounds-numbers-count c = omega arith
+
 pub slice_bounds-get_line_alone-count : goal.slice_bounds-get_line_alone-count
 slice_bounds-get_line_alone-count c = omega arith
+
 pub slice_bounds-get_line_alone-start : goal.slice_bounds-get_line_alone-start
 slice_bounds-get_line_alone-start c = omega arith
+
 pub slice_bounds-get_line_alone-end : goal.slice_bounds-get_line_alone-end
 slice_bounds-get_line_alone-end c = omega arith
+
 pub overflow_add-i : goal.overflow_add-i
 overflow_add-i c = omega arith
+
 pub overflow_add-count-in-Kept : goal.overflow_add-count-in-Kept
 overflow_add-count-in-Kept c = omega arith
+
 pub overflow_mul-walls : goal.overflow_mul-walls
 overflow_mul-walls c = omega arith
+
 pub overflow_sub-walls : goal.overflow_sub-walls
 overflow_sub-walls c = omega arith
+
 pub overflow_add-walls : goal.overflow_add-walls
 overflow_add-walls c = omega arith
+
 pub overflow_cast-walls : goal.overflow_cast-walls
 overflow_cast-walls c = omega arith
+
 pub overflow_add-walls-in-Kept : goal.overflow_add-walls-in-Kept
 overflow_add-walls-in-Kept c = omega arith
+
 pub offset_bounds-walls-count : goal.offset_bounds-walls-count
 offset_bounds-walls-count c = omega arith
+
 pub bounds-walls-count : goal.bounds-walls-count
 bounds-walls-count c = omega arith
+
 pub overflow_add-own : goal.overflow_add-own
 overflow_add-own c = omega arith
+
 pub loop-i-smaller-in-Kept : goal.loop-i-smaller-in-Kept
 loop-i-smaller-in-Kept c = omega arith
+
 pub loop-i-smaller : goal.loop-i-smaller
 loop-i-smaller c = omega arith
+
 pub overflow_add-result : goal.overflow_add-result
 overflow_add-result c = omega arith

@@ -19,7 +19,7 @@ use borrow.Author.Rules.{rules}
 use Rattle.dodgy_2d.proofs.edge_lines.add_obstacle.Given as goal
 
 abbrev pub invariant-loop-i : goal.invariant-loop-i
-invariant-loop-i l =     (l.own ≤ l.i) × (l.i ≤ l.all) × (l.all ≤ length l.vertices / 2) × (l.count + length l.vertices / 2 ≤ 192) × (l.place < 16)
+invariant-loop-i l = (l.own ≤ l.i) × (l.i ≤ l.all) × (l.all ≤ length l.vertices / 2) × (l.count + length l.vertices / 2 ≤ 192) × (l.place < 16)
     × (length l.numbers ≡ 1024) × (length l.walls ≡ 192) × (take (4 * l.count) l.numbers ≡ take (4 * l.count) l.initial.numbers)
     × (lines_up_to l.agent l.kind (length l.vertices / 2) (vertices_of l.vertices) l.margin l.horizon l.i
     ≡ standing (lines_of (take (4 * l.own) (drop (4 * l.count) l.numbers))))

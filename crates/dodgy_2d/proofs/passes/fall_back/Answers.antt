@@ -20,22 +20,19 @@ returns-in-Refused c = (
 )
 
 pub returns-in-Solving : goal.returns-in-Solving
-returns-in-Solving c =
-    (
-      simp (c.in-Solving.is, c.in-Stands.is, ← c.pass-passed.ensures.0),
-      c.pass-passed.ensures.1,
-    )
+returns-in-Solving c = (
+  simp (c.in-Solving.is, c.in-Stands.is, ← c.pass-passed.ensures.0),
+  c.pass-passed.ensures.1,
+)
 
 pub returns-in-Relaxing : goal.returns-in-Relaxing
-returns-in-Relaxing c =
-    (
-      simp (c.in-Relaxing.is, c.in-Stands.is, ← c.pass-passed.ensures.0),
-      c.pass-passed.ensures.1,
-    )
+returns-in-Relaxing c = (
+  simp (c.in-Relaxing.is, c.in-Stands.is, ← c.pass-passed.ensures.0),
+  c.pass-passed.ensures.1,
+)
 
 pub returns-in-RigidFailure : goal.returns-in-RigidFailure
-returns-in-RigidFailure c =
-    (
-      simp (c.in-RigidFailure.is, c.in-Stands.is, ← c.pass-passed.ensures.0),
-      c.pass-passed.ensures.1,
-    )
+returns-in-RigidFailure c = (
+  simp (c.in-RigidFailure.is, c.in-Stands.is, ← c.pass-passed.ensures.0),
+  c.pass-passed.ensures.1,
+)

@@ -11,7 +11,7 @@ use borrow.Author.Rules.{rules}
 use Rattle.edges.proofs.cover.is_edge_covered.Given as goal
 
 abbrev pub invariant-loop-i : goal.invariant-loop-i
-invariant-loop-i l =     (l.i ≤ length l.existing_lines / 4) × (is_edge_covered l.left_vertex l.right_vertex l.horizon l.margin (lines_of l.existing_lines)
+invariant-loop-i l = (l.i ≤ length l.existing_lines / 4) × (is_edge_covered l.left_vertex l.right_vertex l.horizon l.margin (lines_of l.existing_lines)
     ≡ is_edge_covered l.left_vertex l.right_vertex l.horizon l.margin (drop l.i (lines_of l.existing_lines)))
 
 abbrev pub decreases-loop-i : goal.decreases-loop-i

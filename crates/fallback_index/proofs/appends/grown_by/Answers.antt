@@ -27,6 +27,6 @@ returns-in-Outcome c = simp (
 
 pub overflow_add-before : goal.overflow_add-before
 overflow_add-before c = let f = one-fallback (outcome c.in-Outcome.answer) in omega (
-      arith,
-      c.fallback.ensures,
-    )
+  arith,
+  c.fallback.ensures,
+)

@@ -17,7 +17,7 @@ use borrow.Author.Rules.{rules}
 use Rattle.obstacles.proofs.obstacle.add_edges.Given as goal
 
 abbrev pub invariant-loop-i : goal.invariant-loop-i
-invariant-loop-i l =     (l.count ≤ l.i) × (l.i ≤ l.edges) × (l.edges ≤ 64) × (l.edges ≤ length l.vertices / 2) × Filled l.count l.lines
+invariant-loop-i l = (l.count ≤ l.i) × (l.i ≤ l.edges) × (l.edges ≤ 64) × (l.edges ≤ length l.vertices / 2) × Filled l.count l.lines
     × (lines_up_to l.agent l.kind (length l.vertices / 2) (vertices_of l.vertices) l.margin l.horizon l.i
     ≡ standing (lines_of (take (4 * l.count) l.lines)))
 

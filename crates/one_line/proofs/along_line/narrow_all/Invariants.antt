@@ -14,7 +14,7 @@ use borrow.Author.Rules.{rules}
 use Rattle.one_line.proofs.along_line.narrow_all.Given as goal
 
 abbrev pub invariant-loop-i : goal.invariant-loop-i
-invariant-loop-i l =     (l.i ≤ l.count) × (l.looked ≡ l.i) × (foldl (narrow l.line) (between l.left l.right 0) (take l.count (lines_of l.lines))
+invariant-loop-i l = (l.i ≤ l.count) × (l.looked ≡ l.i) × (foldl (narrow l.line) (between l.left l.right 0) (take l.count (lines_of l.lines))
     ≡ foldl (narrow l.line) (between l.t_left l.t_right l.looked) (drop l.i (take l.count (lines_of l.lines))))
 
 abbrev pub decreases-loop-i : goal.decreases-loop-i

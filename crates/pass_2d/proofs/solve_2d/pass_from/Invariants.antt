@@ -17,7 +17,7 @@ use borrow.Author.Rules.{rules}
 use Rattle.pass_2d.proofs.solve_2d.pass_from.Given as goal
 
 abbrev pub invariant-loop-i : goal.invariant-loop-i
-invariant-loop-i l =     (l.probes ≤ 256 * l.i)
+invariant-loop-i l = (l.probes ≤ 256 * l.i)
     × (walk (pass_line (objective_of l.optimal_value) l.radius) (take l.from (lines_of l.lines))
     (drop l.from (take l.count (lines_of l.lines))) (feasible l.initial.best_value 0)
     ≡ walk (pass_line (objective_of l.optimal_value) l.radius) (take l.i (lines_of l.lines)) (drop l.i (take l.count (lines_of l.lines)))

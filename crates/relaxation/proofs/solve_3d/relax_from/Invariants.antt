@@ -16,7 +16,7 @@ use borrow.Author.Rules.{rules}
 use Rattle.relaxation.proofs.solve_3d.relax_from.Given as goal
 
 abbrev pub invariant-loop-i : goal.invariant-loop-i
-invariant-loop-i l =     (l.counted ≤ 32896 * l.i)
+invariant-loop-i l = (l.counted ≤ 32896 * l.i)
     × (walk (relax_line l.rigid l.radius) (take l.from (lines_of l.lines)) (drop l.from (take l.count (lines_of l.lines)))
     (relaxed l.initial.best_value l.initial.depth 0)
     ≡ walk (relax_line l.rigid l.radius) (take l.i (lines_of l.lines)) (drop l.i (take l.count (lines_of l.lines)))

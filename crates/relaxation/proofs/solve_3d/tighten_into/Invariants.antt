@@ -16,7 +16,7 @@ use borrow.Author.Rules.{rules}
 use Rattle.relaxation.proofs.solve_3d.tighten_into.Given as goal
 
 abbrev pub invariant-loop-i : goal.invariant-loop-i
-invariant-loop-i l =     (l.n ≤ l.i) × (l.i ≤ l.index) × (length l.tight ≡ 1020)
+invariant-loop-i l = (l.n ≤ l.i) × (l.i ≤ l.index) × (length l.tight ≡ 1020)
     × (tightened l.rigid l.constraint (take l.index (lines_of l.lines))
     ≡ foldl (tighten_next l.constraint) (take l.n (lines_of l.tight)) (drop l.i (take l.index (lines_of l.lines))))
 

@@ -13,9 +13,9 @@ use borrow.Author.Rules.{rules}
 use Rattle.scene_records.proofs.neighbours.store_lines.Given as goal
 
 abbrev pub invariant-loop-i : goal.invariant-loop-i
-invariant-loop-i l =     (l.i ≤ l.count) × (length l.lines ≡ length l.initial.lines) × (length l.numbers ≡ length l.initial.numbers)
+invariant-loop-i l = (l.i ≤ l.count) × (length l.lines ≡ length l.initial.lines) × (length l.numbers ≡ length l.initial.numbers)
     × (stored_rows (rows l.initial.lines l.initial.numbers) 0 (from l.initial.next (numbered_lines l.version l.bytes l.count))
     ≡ stored_rows (rows l.lines l.numbers) l.i (from l.next (numbered_lines l.version l.bytes (l.count - l.i))))
 
 abbrev pub decreases-loop-i : goal.decreases-loop-i
-decreases-loop-i l =     l.count - l.i
+decreases-loop-i l = l.count - l.i

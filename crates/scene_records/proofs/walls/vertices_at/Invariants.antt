@@ -14,9 +14,9 @@ use borrow.Author.Rules.{rules}
 use Rattle.scene_records.proofs.walls.vertices_at.Given as goal
 
 abbrev pub invariant-loop-i : goal.invariant-loop-i
-invariant-loop-i l =     (l.i ≤ l.count) × (length l.vertices ≡ length l.initial.vertices)
+invariant-loop-i l = (l.i ≤ l.count) × (length l.vertices ≡ length l.initial.vertices)
     × (stored coordinates l.initial.vertices (2 * l.start) (from l.initial.next (vertices_at l.bytes none_before l.count))
     ≡ stored coordinates l.vertices (2 * (l.start + l.i)) (from l.next (vertices_at l.bytes (outer_of l.previous) (l.count - l.i))))
 
 abbrev pub decreases-loop-i : goal.decreases-loop-i
-decreases-loop-i l =     l.count - l.i
+decreases-loop-i l = l.count - l.i

@@ -10,7 +10,7 @@ use borrow.Author.Rules.{rules}
 use Rattle.scene_writer.proofs.judge.judge_neighbours.Given as goal
 
 abbrev pub invariant-loop-i : goal.invariant-loop-i
-invariant-loop-i l =     (l.i ≤ l.neighbours) × (lent_lines_fault l.neighbours l.lines ≡ lent_lines_fault (l.neighbours - l.i) (drop (4 * l.i) l.lines))
+invariant-loop-i l = (l.i ≤ l.neighbours) × (lent_lines_fault l.neighbours l.lines ≡ lent_lines_fault (l.neighbours - l.i) (drop (4 * l.i) l.lines))
 
 abbrev pub decreases-loop-i : goal.decreases-loop-i
 decreases-loop-i l = l.neighbours - l.i

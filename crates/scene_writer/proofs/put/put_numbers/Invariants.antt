@@ -10,7 +10,7 @@ use borrow.Author.Rules.{rules}
 use Rattle.scene_writer.proofs.put.put_numbers.Given as goal
 
 abbrev pub invariant-loop-k : goal.invariant-loop-k
-invariant-loop-k l =     (l.k ≤ l.n) × (length l.buffer ≡ length l.initial.buffer)
+invariant-loop-k l = (l.k ≤ l.n) × (length l.buffer ≡ length l.initial.buffer)
     × (sets l.initial.buffer l.at (run l.numbers l.from l.n) ≡ sets l.buffer (l.at + 4 * l.k) (run l.numbers (l.from + l.k) (l.n - l.k)))
 
 abbrev pub decreases-loop-k : goal.decreases-loop-k

@@ -13,7 +13,7 @@ use borrow.Author.Rules.{rules}
 use Rattle.scene_writer.proofs.put.put_obstacles.Given as goal
 
 abbrev pub invariant-loop-i : goal.invariant-loop-i
-invariant-loop-i l =     (l.i ≤ l.obstacles) × (length l.buffer ≡ length l.initial.buffer) × (2 * l.total + 2 * vertex_total (l.obstacles - l.i) (drop l.i l.counts)
+invariant-loop-i l = (l.i ≤ l.obstacles) × (length l.buffer ≡ length l.initial.buffer) × (2 * l.total + 2 * vertex_total (l.obstacles - l.i) (drop l.i l.counts)
     ≡ length l.vertices)
     × (sets l.initial.buffer 40 (wall_bytes l.kinds l.counts l.vertices 0 0 0 0)
     ≡ sets l.buffer (wall_place l.kinds l.counts l.vertices 0 0 l.i l.total) (wall_bytes l.kinds l.counts l.vertices 0 0 l.i l.total))

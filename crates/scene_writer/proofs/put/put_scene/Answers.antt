@@ -14,7 +14,7 @@ returns c =
     let a = c.args in
     let fits : Fits a.obstacles a.kinds.now a.counts.now a.vertices.now a.neighbours
     a.lines.now = record {
-      c.before.before.before.before.before.before.before.before.before.before = record {
+      walls = record {
         few = c.requires.4;
         kinds = c.requires.0;
         counts = c.requires.1;
@@ -22,7 +22,7 @@ returns c =
         most = omega (arith, c.requires.2, c.requires.6);
       };
       few = c.requires.5;
-      c.before.before = c.requires.3;
+      lines = c.requires.3;
     } in
     scene-put a.cart a.obstacles a.kinds.now a.counts.now a.vertices.now a.neighbours
     a.lines.now fits (40 + 2 * a.obstacles + 4 * length a.vertices.now) _ a.buffer.now _ _ _ _ _ _
