@@ -1,5 +1,4 @@
 -- `fallback_index::appends::grown_by` meets its contract. Assumes nothing.
-use borrow.Author.Rules.{rules}
 use native.Mathlib.Omega.{arith}
 use native.Mathlib.Nat.{add-zero}
 use Rattle.answer_logs.specs.Logs.{outcome}
@@ -27,6 +26,6 @@ returns-in-Outcome c = simp (
 
 pub overflow_add-before : goal.overflow_add-before
 overflow_add-before c = let f = one-fallback (outcome c.in-Outcome.answer) in omega (
-      arith,
-      c.fallback.ensures,
-    )
+  arith,
+  c.fallback.ensures,
+)
