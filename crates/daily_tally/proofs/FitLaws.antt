@@ -1,5 +1,5 @@
 -- No figure of a log of bytes overflows, and the places of numbers that no answer has stay 0. Assumes nothing.
-use Rattle.std.proofs.Common.{◌≡◌, ℕ, ◌+◌, ◌-◌, ◌*◌, ◌^◌, ◌<◌, ◌≤◌, Bool, true, false, eqb, ltb, List, [], ◌∷◌, length, get_or, sym, refl, ap, ◌∙◌, zero-add, arith, ne_eqb}
+use Rattle.std.proofs.Common.{◌≡◌, ℕ, ◌+◌, ◌*◌, ◌^◌, ◌<◌, ◌≤◌, Bool, false, ltb, List, [], ◌∷◌, length, get_or, sym, refl, ap, ◌∙◌, zero-add, arith, ne_eqb}
 use Rattle.arithmetic.specs.Binary32.{if◌then◌else◌}
 use Rattle.arithmetic.proofs.Choice.{if-all}
 use Rattle.arithmetic.proofs.Lists.{All, none, more}

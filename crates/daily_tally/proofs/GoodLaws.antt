@@ -1,5 +1,5 @@
 -- What the records of a log have: a code of their length, and, where the log is one of bytes, probes of 32 bits. Assumes nothing.
-use Rattle.std.proofs.Common.{◌≡◌, ℕ, zero, suc, ◌+◌, ◌-◌, ◌^◌, ◌<◌, ◌≤◌, max, eqb, List, [], ◌∷◌, length, get_or, take, drop, refl, arith, get_or-drop}
+use Rattle.std.proofs.Common.{◌≡◌, ℕ, zero, suc, ◌+◌, ◌-◌, ◌^◌, ◌<◌, ◌≤◌, eqb, List, [], ◌∷◌, length, get_or, take, drop, arith, get_or-drop}
 use native.Mathlib.Nat.{le-max_left, le-max_right}
 use Rattle.arithmetic.specs.Binary32.{if◌then◌else◌}
 use Rattle.arithmetic.proofs.Choice.{if-all}

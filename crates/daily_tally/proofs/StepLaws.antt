@@ -1,5 +1,5 @@
 -- The walk over a part of a log, one step after the other, in the code's words. Assumes nothing.
-use Rattle.std.proofs.Common.{◌≡◌, ℕ, zero, suc, ◌+◌, ◌-◌, ◌^◌, ◌<◌, ◌≤◌, max, Bool, true, false, ltb, List, [], length, drop, sym, refl, ap, ◌∙◌, arith, ltb-false, ltb-true, lt-ltb}
+use Rattle.std.proofs.Common.{◌≡◌, ℕ, zero, suc, ◌+◌, ◌-◌, ◌^◌, ◌<◌, ◌≤◌, Bool, true, false, ltb, List, [], length, drop, sym, refl, ap, ◌∙◌, arith, ltb-false, ltb-true, lt-ltb}
 use native.Mathlib.Nat.{max-le}
 use mathlib.Core.Bool.{false≢true}
 use mathlib.Core.List.{foldl}

@@ -7,7 +7,6 @@ use Rattle.answer_logs.specs.declared.Logged.{Logged}
 use Rattle.answer_logs.specs.declared.Logged.TheVariants as logged
 use Rattle.answer_logs.specs.Parts.{whole_at, Wholes, reached, stopped, wholes_from}
 use Rattle.daily_tally.specs.declared.DayTally.{DayTally}
-use Rattle.daily_tally.specs.declared.Met.{Met}
 use Rattle.daily_tally.specs.declared.Met.TheVariants as met
 use Rattle.daily_tally.specs.declared.Step.{Step}
 use Rattle.daily_tally.specs.declared.Walked.{Walked}

@@ -1,7 +1,7 @@
 -- Small logs and their indexes, computed: questions and appends of the readings' examples, each refusal and its order,
 -- the limit 4 at a small one (02, T-10). Assumes nothing.
 use mathlib.Core.Path.{◌≡◌, refl}
-use mathlib.Core.List.{List, [], ◌∷◌, ◌++◌}
+use mathlib.Core.List.{[], ◌∷◌, ◌++◌}
 use lib.ListN.{take, replicate}
 use Rattle.answer_logs.proofs.Worked.{refused_scene}
 use Rattle.log_walks.specs.Walks.{walked}

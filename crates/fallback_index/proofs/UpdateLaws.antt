@@ -1,5 +1,5 @@
 -- Laws of an append in the code's steps: the question, the numbers, the stores. Assumes nothing.
-use Prim.Native.Nat.{ℕ, ◌+◌, ◌-◌, ◌*◌, ◌/◌, ◌%◌, ◌≤◌, ◌<◌}
+use Prim.Native.Nat.{ℕ, ◌+◌, ◌-◌, ◌%◌, ◌≤◌, ◌<◌}
 use native.Mathlib.Omega.{arith}
 use native.Mathlib.Nat.{sub-zero}
 use native.Mathlib.Decide.{dec_le}
@@ -10,7 +10,6 @@ use lib.ListN.{length, take, drop, get_or, length-drop, length-append, take-appe
 use lib.Seq.{sets, length-take-le, drop-append-le}
 use borrow.Author.Tests.{le-leb, lt-leb, leb-true, eqb-true}
 use Rattle.words.specs.Words.{word_of}
-use Rattle.arithmetic.specs.Binary32.{if◌then◌else◌}
 use Rattle.admission.specs.Faults.{Fault, fine, fault, must, ◌⊳◌, unless_fault}
 use Rattle.admission.proofs.FaultLaws.{⊳-fine, must-fine}
 use Rattle.answer_records.specs.Replies as said

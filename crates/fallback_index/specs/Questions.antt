@@ -1,6 +1,6 @@
 -- The question as a function of just the parts that it rests on, and of a whole log and index, which hand those parts over
 -- (02, T-10). Definitions only. Assumes nothing.
-use Rattle.std.specs.Prelude.{ℕ, ◌+◌, ◌-◌, ◌*◌, ◌/◌, ◌%◌, List, eqb, leb, ltb, length, take, drop, get_or}
+use Rattle.std.specs.Prelude.{ℕ, ◌+◌, ◌-◌, ◌*◌, ◌%◌, List, eqb, leb, ltb, length, take, drop, get_or}
 use Rattle.arithmetic.specs.Binary32.{if◌then◌else◌}
 use Rattle.words.specs.Words.{word_of}
 use Rattle.admission.specs.Faults.{Fault, must, ◌⊳◌, unless_fault}

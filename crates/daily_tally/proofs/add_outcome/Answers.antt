@@ -1,14 +1,13 @@
 -- `daily_tally::add_outcome` meets its contract. Assumes nothing.
-use Rattle.std.proofs.Common.{rules}
 use Rattle.daily_tally.specs.Adding.{with_outcome}
 use Rattle.daily_tally.proofs.add_outcome.Goals as goal
 
 pub returns : goal.returns
 unfolding with_outcome
 returns c = simp (
-  ← c.wrapping_add_u64-3.ensures,
+  ← c.wrapping_add_u64-3.ensures.value,
   ← c.names_line.ensures,
   ← c.larger.ensures,
-  ← c.wrapping_add_u64-2.ensures,
-  ← c.wrapping_add_u64.ensures,
+  ← c.wrapping_add_u64-2.ensures.value,
+  ← c.wrapping_add_u64.ensures.value,
 )

@@ -1,8 +1,7 @@
 -- `daily_tally::add_refusal` meets its contract. Assumes nothing.
-use Rattle.std.proofs.Common.{rules}
 use Rattle.daily_tally.specs.Adding.{with_refusal}
 use Rattle.daily_tally.proofs.add_refusal.Goals as goal
 
 pub returns : goal.returns
 unfolding with_refusal
-returns c = simp (← c.wrapping_add_u64.ensures)
+returns c = simp (← c.wrapping_add_u64.ensures.value)

@@ -1,5 +1,4 @@
 -- `daily_tally::advance` meets its contract. Assumes nothing.
-use Rattle.std.proofs.Common.{rules}
 use Rattle.daily_tally.proofs.advance.Goals as goal
 
 pub returns : goal.returns

@@ -1,7 +1,6 @@
-use Rattle.std.proofs.Common.{◌≡◌, ◌-◌, ◌^◌, ◌<◌, ◌≤◌, length, drop, sym, refl, ap, ◌∙◌, arith, rules}
-use Rattle.answer_logs.specs.Parts.{Wholes, wholes_from}
+use Rattle.std.proofs.Common.{◌-◌, sym, refl, ap, ◌∙◌, arith}
 use Rattle.daily_tally.specs.Figures.{largest_of}
-use Rattle.daily_tally.specs.Steps.{progress, advanced, largest_in}
+use Rattle.daily_tally.specs.Steps.{progress, advanced}
 use Rattle.daily_tally.proofs.StepLaws.{met-end, met-fault, met-record, progress-none, goes_on, stays-small}
 use Rattle.daily_tally.proofs.advance_within.Goals as goal
 
@@ -16,7 +15,7 @@ returns-in-End c =
     let step = rw c.left.ensures at c.count_at-step.ensures in
     let none = met-end (a.most - c.loop-number.next) c.loop-number.next a.part.now c.loop-number.at c.loop-number.sum step.0
     c.in-End.is in (
-      c.Going-on.ensures ∙ sym (c.loop-number.invariant.1 ∙ ap (progress c.loop-number.at c.loop-number.next c.loop-number.sum) none
+      c.going_on.ensures ∙ sym (c.loop-number.invariant.1 ∙ ap (progress c.loop-number.at c.loop-number.next c.loop-number.sum) none
           ∙ progress-none c.loop-number.at c.loop-number.next c.loop-number.sum),
       c.loop-number.invariant.2 (rw none (omega arith)),
     )

@@ -1,9 +1,7 @@
 -- `daily_tally::advance_within` meets its contract. Assumes nothing.
-use Rattle.std.proofs.Common.{◌≡◌, ◌-◌, ◌^◌, ◌<◌, ◌≤◌, length, drop, sym, refl, ap, ◌∙◌, arith, rules}
-use Rattle.answer_logs.specs.Parts.{Wholes, wholes_from}
-use Rattle.daily_tally.specs.Figures.{largest_of}
+use Rattle.std.proofs.Common.{◌≡◌, ◌-◌, ◌^◌, ◌<◌, ◌≤◌, length, drop}
+use Rattle.answer_logs.specs.Parts.{wholes_from}
 use Rattle.daily_tally.specs.Steps.{progress, advanced, largest_in}
-use Rattle.daily_tally.proofs.StepLaws.{met-end, met-fault, met-record, progress-none, goes_on, stays-small}
 use Rattle.daily_tally.proofs.advance_within.Given as goal
 
 -- the answer from the start is the answer from here, and its probes are small where those from here are

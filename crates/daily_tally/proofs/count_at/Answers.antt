@@ -1,5 +1,5 @@
 -- `daily_tally::count_at` meets its contract. Assumes nothing.
-use Rattle.std.proofs.Common.{arith, rules}
+use Rattle.std.proofs.Common.{arith}
 use Rattle.daily_tally.proofs.StepLaws.{code-within, number-within, step_by_lem}
 use Rattle.daily_tally.proofs.count_at.Goals as goal
 
@@ -26,7 +26,6 @@ returns-in-Fault c =
 pub returns-in-Outcome : goal.returns-in-Outcome
 returns-in-Outcome c =
     let a = c.args in
-    let small = c.in-Outcome.known_told-in-Outcome-1-own.given in
     rw c.add_outcome.ensures (step_by_lem a.left a.part.now a.at a.tally
     (rw c.in-Outcome.is at c.whole_within.ensures) (omega arith))
 

@@ -1,5 +1,4 @@
 -- `daily_tally::finish` meets its contract. Assumes nothing.
-use Rattle.std.proofs.Common.{rules}
 use Rattle.daily_tally.proofs.finish.Goals as goal
 
 pub returns : goal.returns

@@ -1,5 +1,5 @@
 -- `daily_tally::finish_within` meets its contract. Assumes nothing.
-use Rattle.std.proofs.Common.{rules, le-ltb, lt-ltb}
+use Rattle.std.proofs.Common.{le-ltb, lt-ltb}
 use Rattle.daily_tally.specs.Steps.{finished}
 use Rattle.daily_tally.proofs.finish_within.Goals as goal
 

@@ -1,5 +1,5 @@
 -- `daily_tally::tally_log` meets its contract. Assumes nothing.
-use Rattle.std.proofs.Common.{◌∙◌, arith, rules}
+use Rattle.std.proofs.Common.{◌∙◌, arith}
 use Rattle.answer_logs.specs.Logs.{most_records}
 use Rattle.daily_tally.proofs.PageLaws.{whole-told}
 use Rattle.daily_tally.proofs.tally_log.Goals as goal

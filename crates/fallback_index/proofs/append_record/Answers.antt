@@ -1,5 +1,4 @@
 -- `fallback_index::append_record` meets its contract. Assumes nothing.
-use borrow.Author.Rules.{rules}
 use Rattle.fallback_index.proofs.UpdateLaws.{append-long, append-refused, append-done}
 use Rattle.fallback_index.proofs.append_record.Goals as goal
 

@@ -1,5 +1,4 @@
 -- `fallback_index::appends::grown_by` meets its contract. Assumes nothing.
-use borrow.Author.Rules.{rules}
 use native.Mathlib.Omega.{arith}
 use native.Mathlib.Nat.{add-zero}
 use Rattle.answer_logs.specs.Logs.{outcome}

@@ -1,5 +1,4 @@
 -- `fallback_index::appends::judge_grown` meets its contract. Assumes nothing.
-use borrow.Author.Rules.{rules}
 use borrow.Author.Tests.{lt-leb, le-leb, eq-eqb, ne_eqb}
 use Rattle.arithmetic.specs.Binary32.{if◌then◌else◌}
 use Rattle.fallback_index.specs.Appends.{new_entry_fits, grown_fault}
@@ -12,9 +11,6 @@ returns-then-total-most c = simp (lt-leb _ _ c.if-total-most.true)
 pub returns-then-count-most : goal.returns-then-count-most
 unfolding grown_fault new_entry_fits if◌then◌else◌
 returns-then-count-most c = simp (le-leb _ _ c.if-total-most.false, lt-leb _ _ c.if-count-most.true)
-
-pub fault_unless-requires : goal.fault_unless-requires
-fault_unless-requires c = search rules
 
 pub returns-then-count-eq0 : goal.returns-then-count-eq0
 unfolding grown_fault new_entry_fits if◌then◌else◌

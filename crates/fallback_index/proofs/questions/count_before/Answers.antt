@@ -1,22 +1,9 @@
 -- `fallback_index::questions::count_before` meets its contract. Assumes nothing.
-use borrow.Author.Rules.{rules}
 use native.Mathlib.Omega.{arith}
 use mathlib.Core.Path.{sym}
 use Rattle.fallback_index.specs.Questions.{before}
 use Rattle.log_walks.proofs.WalkLaws.{walked-few}
 use Rattle.fallback_index.proofs.questions.count_before.Goals as goal
-
-pub walk-met-requires : goal.walk-met-requires
-walk-met-requires c = search rules
-
-pub enum_known-met : goal.enum_known-met
-enum_known-met c = search rules
-
-pub word_at-requires : goal.word_at-requires
-word_at-requires c = search rules
-
-pub overflow_cast-result : goal.overflow_cast-result
-overflow_cast-result c = search rules
 
 pub overflow_add-result : goal.overflow_add-result
 overflow_add-result c =
@@ -24,9 +11,6 @@ overflow_add-result c =
     walked-few _ _ _
     (sym (rw c.in-Count.is at c.walk-met.ensures)) in
     omega arith
-
-pub enum_known-met-in-Fault-1 : goal.enum_known-met-in-Fault-1
-enum_known-met-in-Fault-1 c = search rules
 
 pub returns-in-Count : goal.returns-in-Count
 unfolding before

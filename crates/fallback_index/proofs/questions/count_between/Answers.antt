@@ -1,20 +1,7 @@
 -- `fallback_index::questions::count_between` meets its contract. Assumes nothing.
 use Rattle.arithmetic.specs.Binary32.{if◌then◌else◌}
 use borrow.Author.Tests.{lt-ltb, le-ltb}
-use borrow.Author.Rules.{rules}
 use Rattle.fallback_index.proofs.questions.count_between.Goals as goal
-
-pub enum_known-first : goal.enum_known-first
-enum_known-first c = search rules
-
-pub enum_known-first-in-Count-1 : goal.enum_known-first-in-Count-1
-enum_known-first-in-Count-1 c = search rules
-
-pub enum_known-second : goal.enum_known-second
-enum_known-second c = search rules
-
-pub enum_known-second-in-Count : goal.enum_known-second-in-Count
-enum_known-second-in-Count c = search rules
 
 pub returns-then-before_b-before_a : goal.returns-then-before_b-before_a
 unfolding if◌then◌else◌

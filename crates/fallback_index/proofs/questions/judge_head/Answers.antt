@@ -1,21 +1,11 @@
 -- `fallback_index::questions::judge_head` meets its contract. Assumes nothing.
 use borrow.Author.Tests.{lt-leb, le-leb, eq-eqb, ne_eqb}
 use Rattle.fallback_index.specs.Questions.{head_fault}
-use borrow.Author.Rules.{rules}
 use Rattle.fallback_index.proofs.questions.judge_head.Goals as goal
 
 pub returns-then-n-lt4 : goal.returns-then-n-lt4
 unfolding head_fault
 returns-then-n-lt4 c = simp (lt-leb 4 _ c.if-n-lt4.true)
-
-pub word_at-requires : goal.word_at-requires
-word_at-requires c = search rules
-
-pub overflow_cast-word_at : goal.overflow_cast-word_at
-overflow_cast-word_at c = search rules
-
-pub overflow_add-word_at : goal.overflow_add-word_at
-overflow_add-word_at c = search rules
 
 pub returns-then-n-word_at : goal.returns-then-n-word_at
 unfolding head_fault
@@ -29,9 +19,6 @@ returns-then-n-lt5 c = simp (
   eq-eqb _ _ c.if-n-word_at.false,
   lt-leb 5 _ c.if-n-lt5.true,
 )
-
-pub version_of-requires : goal.version_of-requires
-version_of-requires c = search rules
 
 pub returns-then-version_of-ne-VERSION : goal.returns-then-version_of-ne-VERSION
 unfolding head_fault
@@ -55,24 +42,6 @@ returns-then-n-lt-HEAD_BYTES c = simp (
   eq-eqb _ _ c.if-version_of-ne-VERSION.false,
   lt-leb 13 _ c.if-n-lt-HEAD_BYTES.true,
 )
-
-pub word_at-count-requires : goal.word_at-count-requires
-word_at-count-requires c = search rules
-
-pub overflow_cast-count : goal.overflow_cast-count
-overflow_cast-count c = search rules
-
-pub overflow_add-count : goal.overflow_add-count
-overflow_add-count c = search rules
-
-pub overflow_mul-count : goal.overflow_mul-count
-overflow_mul-count c = search rules
-
-pub overflow_add-count-2 : goal.overflow_add-count-2
-overflow_add-count-2 c = search rules
-
-pub fault_unless-requires : goal.fault_unless-requires
-fault_unless-requires c = search rules
 
 pub returns : goal.returns
 unfolding head_fault

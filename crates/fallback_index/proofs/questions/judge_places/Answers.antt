@@ -1,5 +1,4 @@
 -- `fallback_index::questions::judge_places` meets its contract. Assumes nothing.
-use borrow.Author.Rules.{rules}
 use Rattle.fallback_index.specs.Questions.{places_fault}
 use Rattle.fallback_index.proofs.questions.judge_places.Goals as goal
 

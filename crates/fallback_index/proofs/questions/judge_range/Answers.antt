@@ -1,5 +1,4 @@
 -- `fallback_index::questions::judge_range` meets its contract. Assumes nothing.
-use borrow.Author.Rules.{rules}
 use borrow.Author.Tests.{lt-leb, le-leb}
 use Rattle.fallback_index.specs.Questions.{range_fault}
 use Rattle.fallback_index.proofs.questions.judge_range.Goals as goal

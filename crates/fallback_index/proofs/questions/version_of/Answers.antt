@@ -1,5 +1,4 @@
 -- `fallback_index::questions::version_of` meets its contract. Assumes nothing.
-use borrow.Author.Rules.{rules}
 use native.Mathlib.Omega.{arith}
 use mathlib.Core.Path.{sym}
 use lib.ListN.{get_or-eq_default}
@@ -7,9 +6,3 @@ use Rattle.fallback_index.proofs.questions.version_of.Goals as goal
 
 pub returns-then-head-lt5 : goal.returns-then-head-lt5
 returns-then-head-lt5 c = sym (get_or-eq_default c.args.head.now 0 {n = 4} (omega arith))
-
-pub bounds-head-4 : goal.bounds-head-4
-bounds-head-4 c = search rules
-
-pub returns : goal.returns
-returns c = search rules
