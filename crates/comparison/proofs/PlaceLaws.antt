@@ -140,6 +140,7 @@ module _ (place : ℕ) (next : ℕ → ℕ → Compared) where
   ours-ends (log.bad m) log.ended p = refl
   ours-ends log.ended (log.entry b k) p = refl
   ours-ends (log.bad m) (log.entry b k) p = refl
+  ours-ends (log.entry _ _) g p = elim p [ ]
 
   theirs-ends : (f g : log.Found) → Ends g → continued place next (turn_of f g) ≡ told_in place (turn_of f g)
   unfolding told_in
@@ -149,6 +150,9 @@ module _ (place : ℕ) (next : ℕ → ℕ → Compared) where
   theirs-ends log.ended log.ended p = refl
   theirs-ends (log.bad m) log.ended p = refl
   theirs-ends (log.entry a j) log.ended p = refl
+  theirs-ends log.ended (log.entry _ _) p = elim p [ ]
+  theirs-ends (log.bad m) (log.entry _ _) p = elim p [ ]
+  theirs-ends (log.entry a j) (log.entry _ _) p = elim p [ ]
 
 -- Where a side has no record at a place, that place is told.
 pub last-place : (place : ℕ) (o t : List ℕ) → Ends (found_in o) ⊎ Ends (found_in t) → compared_from place o t

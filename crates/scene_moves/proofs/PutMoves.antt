@@ -20,29 +20,17 @@ use Rattle.scene_moves.specs.Moves.{moved_bytes}
 
 -- ---- a part of a list copied to a place of another
 
-rest_of : (at : ℕ) (l : List ℕ) → take (length l - at) (drop at l) ≡ drop at l
-rest_of at l = rw (← length-drop at l) (take-length (drop at l))
-
-pub part-put : (l r part : List ℕ) (at from count : ℕ) → at + count ≤ length l → from + count ≤ length r
-    → part ≡ take (length (take (from + count - from) (drop from r))) (take (from + count - from) (drop from r))
-    ++ drop (length (take (from + count - from) (drop from r))) (take (length l - at) (drop at l))
-    → put_mid at (length l - at) l part ≡ sets l at (take count (drop from r))
+pub part-put : (l r part : List ℕ) (at from count : ℕ) → at + count ≤ length l → from + count ≤ length r →
+    part ≡ take (from + count - from) (drop from r) → put_mid at (at + count - at) l part ≡ sets l at (take count (drop from r))
 part-put l r part at from count room there e =
     let same : from + count - from ≡ count = omega arith in
-    let size : length (take count (drop from r)) ≡ count =
-    length-take-le count (drop from r) (rw length-drop (omega arith)) in
-    let short : length (drop at l) ≤ length l - at = rw length-drop (omega arith) in
-    let none : post_of at (length l - at) l ≡ [] = drop_of_length-le (drop at l) short in
-    let held : part ≡ take count (drop from r) ++ drop (at + length (take count (drop from r))) l =
-    rw (
-      same,
-      rest_of at l,
-      take-length (take count (drop from r)),
-      drop-drop (length (take count (drop from r))) at l,
-    ) at e in
-    rw (none, append-nil, held)
-    (sym (append_assoc (take at l) (take count (drop from r)) (drop (at + length (take count (drop from r))) l))
-    ∙ sym (sets-eq (take count (drop from r)) l at (rw size room)))
+    let own : at + count - at ≡ count = omega arith in
+    let moved = take count (drop from r) in
+    let size : length moved ≡ count = length-take-le count (drop from r) (rw length-drop (omega arith)) in
+    let held : part ≡ moved = rw same at e in
+    let rest : drop count (drop at l) ≡ drop (at + length moved) l = rw size (drop-drop count at l) in
+    rw (own, held, rest)
+    (sym (append_assoc (take at l) moved (drop (at + length moved) l)) ∙ sym (sets-eq moved l at (rw size room)))
 
 -- ---- the start
 

@@ -11,7 +11,7 @@ returns-then-ours-theirs c = simp (ne_eqb _ _ c.if-ours-theirs.true)
 pub returns-then-not-same_number : goal.returns-then-not-same_number
 unfolding matched_outcomes
 returns-then-not-same_number c = simp (
-  not-true c.same_number.result c.if-not-same_number.true,
+  c.if-not-same_number.true,
   ← c.same_number.ensures,
   eq-eqb _ _ c.if-ours-theirs.false,
 )
@@ -19,9 +19,9 @@ returns-then-not-same_number c = simp (
 pub returns-then-not-same_number-2 : goal.returns-then-not-same_number-2
 unfolding matched_outcomes
 returns-then-not-same_number-2 c = simp (
-  not-true c.same_number-2.result c.if-not-same_number-2.true,
+  c.if-not-same_number-2.true,
   ← c.same_number-2.ensures,
-  not-false c.same_number.result c.if-not-same_number.false,
+  c.if-not-same_number.false,
   ← c.same_number.ensures,
   eq-eqb _ _ c.if-ours-theirs.false,
 )
@@ -31,9 +31,9 @@ unfolding matched_outcomes
 returns-then-ours-theirs-2 c =
     simp (
       ne_eqb _ _ c.if-ours-theirs-2.true,
-      not-false c.same_number-2.result c.if-not-same_number-2.false,
+      c.if-not-same_number-2.false,
       ← c.same_number-2.ensures,
-      not-false c.same_number.result c.if-not-same_number.false,
+      c.if-not-same_number.false,
       ← c.same_number.ensures,
       eq-eqb _ _ c.if-ours-theirs.false,
     )
@@ -44,9 +44,9 @@ returns-then-ours-theirs-3 c =
     simp (
       ne_eqb _ _ c.if-ours-theirs-3.true,
       eq-eqb _ _ c.if-ours-theirs-2.false,
-      not-false c.same_number-2.result c.if-not-same_number-2.false,
+      c.if-not-same_number-2.false,
       ← c.same_number-2.ensures,
-      not-false c.same_number.result c.if-not-same_number.false,
+      c.if-not-same_number.false,
       ← c.same_number.ensures,
       eq-eqb _ _ c.if-ours-theirs.false,
     )
@@ -57,9 +57,9 @@ returns c =
     simp (
       eq-eqb _ _ c.if-ours-theirs-3.false,
       eq-eqb _ _ c.if-ours-theirs-2.false,
-      not-false c.same_number-2.result c.if-not-same_number-2.false,
+      c.if-not-same_number-2.false,
       ← c.same_number-2.ensures,
-      not-false c.same_number.result c.if-not-same_number.false,
+      c.if-not-same_number.false,
       ← c.same_number.ensures,
       eq-eqb _ _ c.if-ours-theirs.false,
     )

@@ -31,7 +31,7 @@ is_zero-requires c =
     let r = c.read_scene_of_version-read.result in
     let known = reads Two c.args.source.now r c.read_scene_of_version-read.ensures
     c.in_default.is in
-    let fits : r.scene.neighbours ≤ length r.numbers-1 = omega (arith, known.few, known.long) in
+    let fits : r.scene.neighbours ≤ length r.numbers = omega (arith, known.few, known.long) in
     fits
 
 pub returns-in-Fault-first : goal.returns-in-Fault-first
@@ -44,7 +44,7 @@ returns-in-Fault-first c =
       c.fault_unless-lost.ensures,
       c.fault_unless-short.ensures,
       c.is_zero.ensures,
-      known.numbers-1,
+      known.numbers,
     )
     at c.first_of-first.ensures)
 
@@ -112,7 +112,7 @@ returns c =
       c.fault_unless-lost.ensures,
       c.fault_unless-short.ensures,
     ) at c.first_of-first.ensures) in
-    let kept : keeps One known.parts ≡ true = rw (← known.numbers-1)
+    let kept : keeps One known.parts ≡ true = rw (← known.numbers)
     (sym c.is_zero.ensures ∙ passed.0) in
     told_moved Two One a.source.now a.buffer.now r known kept _ size passed.1 _
     (moved-put Two One r.scene.neighbours a.source.now known.room a.buffer.now _ _
