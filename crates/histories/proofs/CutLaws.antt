@@ -22,7 +22,7 @@ use Rattle.lines.proofs.JudgeLaws.{faults-append}
 use Rattle.linear_programming.proofs.JudgeLaws.{⟫-stands}
 use Rattle.lines.proofs.Rows.{lines-append}
 use Rattle.histories.specs.Cuts.{Batch, Admitted, WholeLines, none, more, joined, arriving, arrived}
-use Rattle.histories.specs.Histories.{Standing, nothing_yet, standing_after_all, batch-fits, AllFit, no_more, and_then, batches}
+use Rattle.histories.specs.Histories.{Standing, nothing_yet, standing_after, standing_after_all, batch, batch-fits, AllFit, no_more, and_then, batches}
 use Rattle.histories.specs.Demand3.{CutStands}
 use Rattle.histories.proofs.StandLaws.{stands-judged, called, start-over}
 use Rattle.histories.proofs.HistoryLaws.{last-over, history-stands}
@@ -61,7 +61,7 @@ cut_fits g (more {b} {bs} four theirs ws) l room =
     rw (parts, length-append) refl in
     let longer = length-append g.lines (lines_of xs) in
     let admitted : Admitted b = record { four = four; theirs = theirs; lines = faults.0 } in
-    and_then (batch-fits {g = g} {b = b} admitted (omega arith)) (cut_fits _ ws faults.1 (omega arith))
+    and_then (batch-fits {g = g} {b = b} admitted (omega arith)) (cut_fits (standing_after g (batch b)) ws faults.1 (omega arith))
 
 joined-whole : {bs : List Batch} → WholeLines bs → length (joined bs) % 4 ≡ 0
 joined-whole none = refl

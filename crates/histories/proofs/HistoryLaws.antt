@@ -68,13 +68,14 @@ module _ (wish : Vec2) (limit : Float) where
 
   pub each_stands : {s : Session} {g : Standing} {os : List Operation} → Over wish limit g s → AllFit g os →
       EachStands wish limit g s os
-  each_stands o no_more = all_done
-  each_stands o (and_then fits rest) = done_on (one-stands o fits) (each_stands (one-over o fits) rest)
+  each_stands {s = s} o no_more = all_done
+  each_stands {s = s} o (and_then {o = o'} fits rest) =
+      done_on (one-stands o fits) (each_stands {s = (done_by s o').session} (one-over o fits) rest)
 
   pub last-over : {s : Session} {g : Standing} {os : List Operation} → Over wish limit g s → AllFit g os →
       Over wish limit (standing_after_all g os) (done_all s os)
-  last-over o no_more = o
-  last-over o (and_then fits rest) = last-over (one-over o fits) rest
+  last-over {s = s} o no_more = o
+  last-over {s = s} o (and_then {o = o'} fits rest) = last-over {s = (done_by s o').session} (one-over o fits) rest
 
   -- DEMAND 3: from a start with an admitted wish and limit, calls that fit what then stands
   pub history-stands : (rigid : ℕ) (os : List Operation) → wish_fault wish limit ≡ fine →

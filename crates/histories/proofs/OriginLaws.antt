@@ -26,7 +26,7 @@ use Rattle.session.specs.Sessions.{origins_in}
 use Rattle.session.specs.Batches.{origins_for, origins_fault, batch_fault, settled, worked, fed_with}
 use Rattle.session.specs.Handed.{Handed}
 use Rattle.session.specs.Withdrawals.{or_given, withdrawn_as}
-use Rattle.session.specs.Changes.{change_fault}
+use Rattle.session.specs.Changes.{changed_as, change_fault}
 use Rattle.session.proofs.StoreLaws.{origins-each}
 use Rattle.session.proofs.HandedLaws.{continues}
 use Rattle.histories.specs.Cuts.{Batch, fed_by, arriving}
@@ -130,14 +130,16 @@ change-alike h k (alike {s} qs) is b c same theirs others = go (change_fault s.c
 
 pub all_alike : {s t : Session} {os ps : List Operation} → Handed s → Handed t → Alike s t → SameLines os ps →
     Alike (done_all s os) (done_all t ps)
-all_alike h k a no_call = a
-all_alike {s} {t} h k a (batch-each {b} {c} e theirs others same) =
-    all_alike (continues s h b.numbers b.brought).handed (continues t k c.numbers c.brought).handed
+all_alike {s = s} {t = t} h k a no_call = a
+all_alike {s = s} {t = t} h k a (batch-each {b} {c} e theirs others same) =
+    all_alike {s = (fed_with s b.numbers b.brought).session} {t = (fed_with t c.numbers c.brought).session}
+    (continues s h b.numbers b.brought).handed (continues t k c.numbers c.brought).handed
     (alike-by b c e theirs others a).sessions same
-all_alike {s} {t} h k a (withdrawal-each {i} same) =
-    all_alike (withdrawn-handed s h i) (withdrawn-handed t k i) (withdrawal-alike h k a i).sessions same
-all_alike {s} {t} h k a (change-each {is} {b} {c} e theirs others same) =
-    all_alike (change-handed s h is b) (change-handed t k is c) (change-alike h k a is b c e theirs others).sessions same
+all_alike {s = s} {t = t} h k a (withdrawal-each {i} same) =
+    all_alike {s = (withdrawn_as s i).session} {t = (withdrawn_as t i).session} (withdrawn-handed s h i) (withdrawn-handed t k i) (withdrawal-alike h k a i).sessions same
+all_alike {s = s} {t = t} h k a (change-each {is} {b} {c} e theirs others same) =
+    all_alike {s = (changed_as s is b.numbers b.brought).session} {t = (changed_as t is c.numbers c.brought).session}
+    (change-handed s h is b) (change-handed t k is c) (change-alike h k a is b c e theirs others).sessions same
 
 -- ---- each line's own
 

@@ -64,4 +64,4 @@ returns-in-Length c =
     let a = c.args in
     moved-step a.to a.input.now a.output.now a.at _ c.next_part-part.ensures _ c.in-Whole.is
     c.requires.2 c.requires.1 _ _ _
-    (rw c.in-Length.is at c.move_record-written.ensures) refl _ c.wrapping_add_u64-next.ensures
+    (rw c.in-Length.is at c.move_record-written.ensures) refl _ c.wrapping_add_u64-next.ensures.value
