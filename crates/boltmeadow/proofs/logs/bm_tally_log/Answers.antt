@@ -8,11 +8,11 @@ use Rattle.boltmeadow.proofs.logs.bm_tally_log.Goals as goal
 pub returns-in-Whole : goal.returns-in-Whole
 returns-in-Whole c =
     let read = c.tally_log-tallied in
-    c.paged.ensures ∙ ap (λ (w : Walked). page_by w read.result.tally-1) (sym c.in-Whole.is)
+    c.paged.ensures ∙ ap (λ (w : Walked). page_by w read.result.tally) (sym c.in-Whole.is)
     ∙ ap tally_told read.ensures
 
 pub returns-in-Refused : goal.returns-in-Refused
 returns-in-Refused c =
     let read = c.tally_log-tallied in
-    c.paged-in-Refused.ensures ∙ ap (λ (w : Walked). page_by w read.result.tally-1) (sym c.in-Refused.is)
+    c.paged-in-Refused.ensures ∙ ap (λ (w : Walked). page_by w read.result.tally) (sym c.in-Refused.is)
     ∙ ap tally_told read.ensures

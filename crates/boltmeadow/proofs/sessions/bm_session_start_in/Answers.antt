@@ -4,4 +4,4 @@ use Rattle.boltmeadow.proofs.sessions.bm_session_start_in.Goals as goal
 
 pub returns : goal.returns
 returns c =
-    rw (← c.new.ensures, ← c.start-fed.ensures.0) c.leave.ensures
+    rw (← c.new.ensures, ← c.start-fed.ensures.value) c.leave.ensures
