@@ -1,10 +1,6 @@
-use borrow.Author.Rules.{rules}
-use Prim.Native.Nat.{◌-◌}
 use native.Mathlib.Omega.{arith}
-use mathlib.Core.Path.{◌≡◌, sym, ap, ◌∙◌}
-use lib.ListN.{length}
-use Rattle.comparison.specs.Comparing.{advanced}
-use Rattle.comparison.proofs.TurnLaws.{is_onward, advanced_at, from_start, part-reach, goes_on, stops}
+use mathlib.Core.Path.{sym, ap, ◌∙◌}
+use Rattle.comparison.proofs.TurnLaws.{is_onward, from_start, part-reach, goes_on, stops}
 use Rattle.comparison.proofs.advance.Goals as goal
 
 pub loop-j-init : goal.loop-j-init

@@ -1,11 +1,9 @@
 -- `comparison::advance` meets its contract. Assumes nothing.
-use borrow.Author.Rules.{rules}
 use Prim.Native.Nat.{◌-◌}
-use native.Mathlib.Omega.{arith}
-use mathlib.Core.Path.{◌≡◌, sym, ap, ◌∙◌}
+use mathlib.Core.Path.{◌≡◌}
 use lib.ListN.{length}
 use Rattle.comparison.specs.Comparing.{advanced}
-use Rattle.comparison.proofs.TurnLaws.{is_onward, advanced_at, from_start, part-reach, goes_on, stops}
+use Rattle.comparison.proofs.TurnLaws.{advanced_at}
 use Rattle.comparison.proofs.advance.Given as goal
 
 abbrev pub invariant-loop-j : goal.invariant-loop-j

@@ -1,5 +1,4 @@
 -- `comparison::against_end` meets its contract. Assumes nothing.
-use borrow.Author.Rules.{rules}
 use Rattle.comparison.specs.Turns.{against_end}
 use Rattle.comparison.proofs.against_end.Goals as goal
 

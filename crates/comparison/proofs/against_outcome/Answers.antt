@@ -1,5 +1,4 @@
 -- `comparison::against_outcome` meets its contract. Assumes nothing.
-use borrow.Author.Rules.{rules}
 use Rattle.comparison.specs.Turns.{against_outcome}
 use Rattle.comparison.proofs.against_outcome.Goals as goal
 

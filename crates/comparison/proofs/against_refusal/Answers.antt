@@ -1,5 +1,4 @@
 -- `comparison::against_refusal` meets its contract. Assumes nothing.
-use borrow.Author.Rules.{rules}
 use Rattle.comparison.specs.Turns.{against_refusal}
 use Rattle.comparison.proofs.against_refusal.Goals as goal
 

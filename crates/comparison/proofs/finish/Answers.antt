@@ -1,5 +1,4 @@
 -- `comparison::finish` meets its contract. Assumes nothing.
-use borrow.Author.Rules.{rules}
 use mathlib.Core.Path.{ap, ◌∙◌}
 use Rattle.comparison.specs.Comparing.{told_in}
 use Rattle.comparison.proofs.TurnLaws.{ended-told, going-told}

@@ -1,5 +1,4 @@
 -- `comparison::found_by` meets its contract. Assumes nothing.
-use borrow.Author.Rules.{rules}
 use Rattle.comparison.specs.Comparing.{found_by}
 use Rattle.comparison.proofs.found_by.Goals as goal
 

@@ -1,5 +1,4 @@
 -- `comparison::judged` meets its contract. Assumes nothing.
-use borrow.Author.Rules.{rules}
 use Rattle.comparison.specs.Turns.{turn_in}
 use Rattle.comparison.proofs.judged.Goals as goal
 

@@ -1,6 +1,5 @@
 -- `comparison::matched_outcomes` meets its contract. Assumes nothing.
-use borrow.Author.Rules.{rules}
-use borrow.Author.Tests.{eq-eqb, ne_eqb, not-true, not-false}
+use borrow.Author.Tests.{eq-eqb, ne_eqb}
 use Rattle.comparison.specs.Agreeing.{matched_outcomes}
 use Rattle.comparison.proofs.matched_outcomes.Goals as goal
 

@@ -1,5 +1,4 @@
 -- `comparison::onward` meets its contract. Assumes nothing.
-use borrow.Author.Rules.{rules}
 use Rattle.comparison.specs.Turns.{turn_by}
 use Rattle.comparison.proofs.onward.Goals as goal
 

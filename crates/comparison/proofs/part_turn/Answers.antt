@@ -1,5 +1,4 @@
 -- `comparison::part_turn` meets its contract. Assumes nothing.
-use borrow.Author.Rules.{rules}
 use Rattle.comparison.specs.Turns.{part_turn}
 use Rattle.comparison.proofs.part_turn.Goals as goal
 

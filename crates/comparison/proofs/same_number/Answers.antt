@@ -1,5 +1,4 @@
 -- `comparison::same_number` meets its contract. Assumes nothing.
-use borrow.Author.Rules.{rules}
 use borrow.Author.Tests.{eq-eqb, ne_eqb}
 use Rattle.comparison.specs.Agreeing.{same_number}
 use Rattle.comparison.proofs.same_number.Goals as goal

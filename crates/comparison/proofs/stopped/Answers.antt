@@ -1,5 +1,4 @@
 -- `comparison::stopped` meets its contract. Assumes nothing.
-use borrow.Author.Rules.{rules}
 use Rattle.comparison.proofs.stopped.Goals as goal
 
 pub returns : goal.returns

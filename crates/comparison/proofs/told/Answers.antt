@@ -1,5 +1,4 @@
 -- `comparison::told` meets its contract. Assumes nothing.
-use borrow.Author.Rules.{rules}
 use Rattle.comparison.specs.Comparing.{told_in}
 use Rattle.comparison.proofs.told.Goals as goal
 

@@ -1,5 +1,4 @@
 -- `comparison::whole_turn` meets its contract. Assumes nothing.
-use borrow.Author.Rules.{rules}
 use Rattle.comparison.specs.Turns.{whole_turn}
 use Rattle.comparison.proofs.whole_turn.Goals as goal
 

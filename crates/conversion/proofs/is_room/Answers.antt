@@ -1,5 +1,5 @@
 -- `conversion::is_room` meets its contract. Assumes nothing.
-use Rattle.std.proofs.Common.{◌*◌, arith, rules, le-leb}
+use Rattle.std.proofs.Common.{◌*◌, arith, le-leb}
 use borrow.Author.Tests.{lt-leb}
 use Rattle.conversion.specs.Turns.{has_room}
 use Rattle.conversion.proofs.is_room.Goals as goal

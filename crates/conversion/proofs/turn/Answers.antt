@@ -1,6 +1,5 @@
 -- `conversion::turn` meets its contract. Assumes nothing.
-use Rattle.std.proofs.Common.{sym, ap, ◌∙◌, arith, rules}
-use borrow.Author.Tests.{not-true, not-false}
+use Rattle.std.proofs.Common.{sym, ap, ◌∙◌, arith}
 use Rattle.kept.specs.Kept.{Kept}
 use Rattle.kept.proofs.KeptLaws.{kept_there}
 use Rattle.conversion.proofs.TurnLaws.{has_room_lem, walk-room, not-open, no-turn, last_turn, used-there}

@@ -2,7 +2,6 @@
 use mathlib.Core.Path.{sym}
 use Rattle.dodgy_2d.specs.Admitted.{admitted_outcome, admitted_origin}
 use Rattle.dodgy_2d.proofs.Agreement.{said}
-use borrow.Author.Rules.{rules}
 use Rattle.dodgy_2d.proofs.solve_admitted_scene.Goals as goal
 
 pub returns-in-Fault : goal.returns-in-Fault

@@ -1,5 +1,4 @@
 -- `held_sessions::leave` meets its contract. Assumes nothing.
-use borrow.Author.Rules.{rules}
 use Rattle.held_sessions.specs.Blocks.{left_by}
 use Rattle.held_sessions.proofs.leave.Goals as goal
 

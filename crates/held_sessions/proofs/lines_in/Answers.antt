@@ -1,7 +1,6 @@
-use Prim.Native.Nat.{◌-◌, ◌≤◌}
-use mathlib.Core.Path.{◌≡◌, refl}
+use mathlib.Core.Path.{refl}
 use native.Mathlib.Omega.{arith}
-use lib.ListN.{length, take, length-set}
+use lib.ListN.{length-set}
 use Rattle.lines.specs.Lines.{lines_of, off_line}
 use Rattle.lines.proofs.Rows.{lines_long}
 use Rattle.held_sessions.proofs.FillLaws.{filled_next, filled}

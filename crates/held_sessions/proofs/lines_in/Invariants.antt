@@ -1,12 +1,8 @@
 -- `held_sessions::lines_in` meets its contract. The invariant: the first i lines are read. Assumes nothing.
 use Prim.Native.Nat.{◌-◌, ◌≤◌}
-use mathlib.Core.Path.{◌≡◌, refl}
-use native.Mathlib.Omega.{arith}
-use lib.ListN.{length, take, length-set}
-use Rattle.lines.specs.Lines.{lines_of, off_line}
-use Rattle.lines.proofs.Rows.{lines_long}
-use Rattle.held_sessions.proofs.FillLaws.{filled_next, filled}
-use borrow.Author.Rules.{rules}
+use mathlib.Core.Path.{◌≡◌}
+use lib.ListN.{length, take}
+use Rattle.lines.specs.Lines.{lines_of}
 use Rattle.held_sessions.proofs.lines_in.Given as goal
 
 abbrev pub invariant-loop-i : goal.invariant-loop-i

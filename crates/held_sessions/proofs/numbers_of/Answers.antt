@@ -1,5 +1,4 @@
 -- `held_sessions::numbers_of` meets its contract. Assumes nothing.
-use borrow.Author.Rules.{rules}
 use Rattle.held_sessions.proofs.numbers_of.Goals as goal
 
 pub returns-in-Solving : goal.returns-in-Solving

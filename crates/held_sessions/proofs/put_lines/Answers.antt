@@ -1,7 +1,6 @@
-use Prim.Native.Nat.{◌-◌, ◌≤◌}
 use mathlib.Core.Path.{◌≡◌, refl, sym, ap, ◌∙◌}
 use native.Mathlib.Omega.{arith}
-use lib.ListN.{length, take}
+use lib.ListN.{length}
 use Rattle.lines.specs.Lines.{lines_of, numbers_of, off_line}
 use Rattle.lines.proofs.Rows.{lines_long}
 use Rattle.lines.proofs.Stored.{stored-line}

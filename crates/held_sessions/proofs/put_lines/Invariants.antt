@@ -1,14 +1,8 @@
 -- `held_sessions::put_lines` meets its contract. The invariant: the first n lines are laid out. Assumes nothing.
 use Prim.Native.Nat.{◌-◌, ◌≤◌}
-use mathlib.Core.Path.{◌≡◌, refl, sym, ap, ◌∙◌}
-use native.Mathlib.Omega.{arith}
+use mathlib.Core.Path.{◌≡◌}
 use lib.ListN.{length, take}
-use Rattle.lines.specs.Lines.{lines_of, numbers_of, off_line}
-use Rattle.lines.proofs.Rows.{lines_long}
-use Rattle.lines.proofs.Stored.{stored-line}
-use Rattle.lines.proofs.Numbers.{numbers-back}
-use Rattle.held_sessions.proofs.FillLaws.{filled_next, filled}
-use borrow.Author.Rules.{rules}
+use Rattle.lines.specs.Lines.{lines_of}
 use Rattle.held_sessions.proofs.put_lines.Given as goal
 
 abbrev pub invariant-loop-n : goal.invariant-loop-n

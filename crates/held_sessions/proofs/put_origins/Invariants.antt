@@ -1,14 +1,8 @@
 -- `held_sessions::put_origins` meets its contract. The invariant: the first n origins are laid out. Assumes nothing.
 use Prim.Native.Nat.{◌-◌, ◌≤◌}
-use mathlib.Core.Path.{◌≡◌, refl, sym, ◌∙◌}
-use native.Mathlib.Omega.{arith}
+use mathlib.Core.Path.{◌≡◌}
 use lib.ListN.{length, take}
-use lib.Seq.{take_all}
-use Rattle.lines.specs.Origins.{origins_of, unknown}
-use Rattle.lines.proofs.OriginRows.{origins-long, stored-origin}
-use Rattle.session.proofs.WithdrawalWork.{laid-origins}
-use Rattle.held_sessions.proofs.FillLaws.{filled_next}
-use borrow.Author.Rules.{rules}
+use Rattle.lines.specs.Origins.{origins_of}
 use Rattle.held_sessions.proofs.put_origins.Given as goal
 
 abbrev pub invariant-loop-n : goal.invariant-loop-n

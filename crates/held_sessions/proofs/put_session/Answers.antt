@@ -1,5 +1,4 @@
 -- `held_sessions::put_session` meets its contract. Assumes nothing.
-use borrow.Author.Rules.{rules}
 use Rattle.held_sessions.specs.Blocks.{block_of}
 use Rattle.held_sessions.proofs.put_session.Goals as goal
 

@@ -1,5 +1,4 @@
 -- `held_sessions::put_unless_refused` meets its contract. Assumes nothing.
-use borrow.Author.Rules.{rules}
 use Rattle.held_sessions.proofs.put_unless_refused.Goals as goal
 
 pub returns-in_default : goal.returns-in_default

@@ -1,5 +1,4 @@
 -- `held_sessions::session_in` meets its contract. Assumes nothing.
-use borrow.Author.Rules.{rules}
 use Rattle.held_sessions.specs.Blocks.{session_in}
 use Rattle.held_sessions.proofs.session_in.Goals as goal
 

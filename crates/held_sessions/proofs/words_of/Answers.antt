@@ -1,5 +1,4 @@
 -- `held_sessions::words_of` meets its contract. Assumes nothing.
-use borrow.Author.Rules.{rules}
 use Rattle.held_sessions.proofs.words_of.Goals as goal
 
 pub returns : goal.returns

@@ -1,7 +1,6 @@
 -- `layouts::byte_at` meets its contract. Assumes nothing.
 use lib.ListN.{get_or-eq_default}
 use mathlib.Core.Path.{sym}
-use borrow.Author.Rules.{rules}
 use Rattle.layouts.proofs.byte_at.Goals as goal
 
 pub returns : goal.returns

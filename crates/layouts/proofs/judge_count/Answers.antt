@@ -1,7 +1,6 @@
 -- `layouts::judge_count` meets its contract. Assumes nothing.
 use mathlib.Core.Path.{sym}
 use Rattle.layouts.proofs.LentInOrder.{count-there, count-missing}
-use borrow.Author.Rules.{rules}
 use Rattle.layouts.proofs.judge_count.Goals as goal
 
 pub returns-then-i-counts : goal.returns-then-i-counts

@@ -1,7 +1,6 @@
 -- `layouts::judge_kind` meets its contract. Assumes nothing.
 use mathlib.Core.Path.{sym}
 use Rattle.layouts.proofs.LentInOrder.{kind-there, kind-missing}
-use borrow.Author.Rules.{rules}
 use Rattle.layouts.proofs.judge_kind.Goals as goal
 
 pub returns-then-i-kinds : goal.returns-then-i-kinds

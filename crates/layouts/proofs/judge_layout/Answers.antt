@@ -1,11 +1,8 @@
-use Prim.Native.Nat.{◌+◌, ◌-◌, ◌*◌, ◌≤◌}
-use mathlib.Core.Path.{◌≡◌, sym, ◌∙◌}
+use mathlib.Core.Path.{sym, ◌∙◌}
 use native.Mathlib.Omega.{arith}
 use native.Mathlib.Nat.{sub-zero, zero-add}
-use lib.ListN.{length, drop}
-use Rattle.layouts.specs.Layouts.{lent_fault, vertex_total}
+use lib.ListN.{drop}
 use Rattle.layouts.proofs.LentInOrder.{front_of, lent-on, lent-stop, lent-done, total-on, total-done, own_room, own-there, too_many, told-fault, told-total}
-use borrow.Author.Rules.{rules}
 use Rattle.layouts.proofs.judge_layout.Goals as goal
 
 pub returns-then-obstacles-gt-MOST_OBSTACLES : goal.returns-then-obstacles-gt-MOST_OBSTACLES

@@ -1,13 +1,9 @@
 -- `layouts::judge_layout` meets its contract. The invariant: the obstacles before i pass, and have `total` vertices.
 -- Assumes nothing.
 use Prim.Native.Nat.{◌+◌, ◌-◌, ◌*◌, ◌≤◌}
-use mathlib.Core.Path.{◌≡◌, sym, ◌∙◌}
-use native.Mathlib.Omega.{arith}
-use native.Mathlib.Nat.{sub-zero, zero-add}
+use mathlib.Core.Path.{◌≡◌}
 use lib.ListN.{length, drop}
 use Rattle.layouts.specs.Layouts.{lent_fault, vertex_total}
-use Rattle.layouts.proofs.LentInOrder.{front_of, lent-on, lent-stop, lent-done, total-on, total-done, own_room, own-there, too_many, told-fault, told-total}
-use borrow.Author.Rules.{rules}
 use Rattle.layouts.proofs.judge_layout.Given as goal
 
 abbrev pub invariant-loop-i : goal.invariant-loop-i

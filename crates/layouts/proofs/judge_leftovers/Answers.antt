@@ -1,7 +1,6 @@
 -- `layouts::judge_leftovers` meets its contract. Assumes nothing.
 use Rattle.layouts.specs.Layouts.{left_fault}
 use Rattle.layouts.proofs.LentInOrder.{halved}
-use borrow.Author.Rules.{rules}
 use Rattle.layouts.proofs.judge_leftovers.Goals as goal
 
 pub returns : goal.returns

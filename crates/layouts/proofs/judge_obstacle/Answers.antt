@@ -1,13 +1,10 @@
 -- `layouts::judge_obstacle` meets its contract. Assumes nothing.
-use Prim.Native.Nat.{ℕ, ◌-◌, ◌*◌}
-use mathlib.Core.Path.{◌≡◌, ap, ◌∙◌}
+use Prim.Native.Nat.{◌-◌, ◌*◌}
+use mathlib.Core.Path.{◌≡◌, ◌∙◌}
 use lib.ListN.{length, take, drop, length-drop}
 use lib.Seq.{take-length}
-use Rattle.admission.specs.Heads.{head_of}
-use Rattle.obstacles.specs.ObstacleFaults.{outline_fault}
 use Rattle.layouts.specs.Layouts.{own_fault}
 use Rattle.layouts.proofs.LentInOrder.{front_of}
-use borrow.Author.Rules.{rules}
 use Rattle.layouts.proofs.judge_obstacle.Goals as goal
 
 pub returns-in_default : goal.returns-in_default

@@ -1,7 +1,6 @@
 -- `linear_programming::resume_linear_program` meets its contract. Assumes nothing.
 use borrow.Author.Tests.{le-leb, lt-leb}
 use Rattle.linear_programming.specs.Resume.{resumed_call}
-use borrow.Author.Rules.{rules}
 use Rattle.linear_programming.proofs.resume_linear_program.Goals as goal
 
 pub returns-then-count-gt-MOST : goal.returns-then-count-gt-MOST

@@ -3,7 +3,6 @@ use mathlib.Core.Path.{sym}
 use Rattle.lines.proofs.Rows.{lines-take-all}
 use Rattle.linear_programming.specs.Admit.{admitted_call}
 use Rattle.linear_programming.proofs.JudgeLaws.{few-counted}
-use borrow.Author.Rules.{rules}
 use Rattle.linear_programming.proofs.solve_admitted_lines.Goals as goal
 
 pub returns-in-Fault : goal.returns-in-Fault

@@ -2,7 +2,6 @@
 use mathlib.Core.Path.{sym}
 use Rattle.lines.proofs.Rows.{lines-take-all}
 use Rattle.linear_programming.proofs.JudgeLaws.{counted-first, few-counted}
-use borrow.Author.Rules.{rules}
 use Rattle.linear_programming.proofs.solve_linear_program.Goals as goal
 
 pub returns-in-Fault : goal.returns-in-Fault

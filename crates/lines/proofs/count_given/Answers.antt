@@ -2,7 +2,6 @@
 use native.Mathlib.Omega.{arith}
 use lib.ListN.{length-take}
 use Rattle.lines.proofs.Rows.{lines_long}
-use borrow.Author.Rules.{rules}
 use Rattle.lines.proofs.count_given.Goals as goal
 
 pub returns-then-count-given : goal.returns-then-count-given

@@ -1,6 +1,5 @@
 -- `lines::judge_line` meets its contract. Assumes nothing.
 use Rattle.lines.specs.LineFaults.{line_fault}
-use borrow.Author.Rules.{rules}
 use Rattle.lines.proofs.judge_line.Goals as goal
 
 pub returns : goal.returns

@@ -1,12 +1,11 @@
-use Prim.Native.Nat.{◌-◌, ◌/◌, ◌≤◌}
-use mathlib.Core.Path.{◌≡◌, sym, ap, ◌∙◌}
+use Prim.Native.Nat.{◌/◌}
+use mathlib.Core.Path.{sym, ap, ◌∙◌}
 use native.Mathlib.Omega.{arith}
-use lib.ListN.{length, take, drop}
+use lib.ListN.{length}
 use Rattle.lines.specs.Lines.{lines_of, off_line}
 use Rattle.lines.specs.LineFaults.{lines_fault}
 use Rattle.lines.proofs.Rows.{lines_fit, lines-take-all}
 use Rattle.lines.proofs.JudgeLaws.{judged-on, judged-stop, judged-done}
-use borrow.Author.Rules.{rules}
 use Rattle.lines.proofs.judge_lines.Goals as goal
 
 pub loop-i-init : goal.loop-i-init

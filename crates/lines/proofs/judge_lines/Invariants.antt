@@ -1,13 +1,9 @@
 -- `lines::judge_lines` meets its contract. The invariant: the lines before i pass. Assumes nothing.
-use Prim.Native.Nat.{◌-◌, ◌/◌, ◌≤◌}
-use mathlib.Core.Path.{◌≡◌, sym, ap, ◌∙◌}
-use native.Mathlib.Omega.{arith}
-use lib.ListN.{length, take, drop}
-use Rattle.lines.specs.Lines.{lines_of, off_line}
+use Prim.Native.Nat.{◌-◌, ◌≤◌}
+use mathlib.Core.Path.{◌≡◌}
+use lib.ListN.{take, drop}
+use Rattle.lines.specs.Lines.{lines_of}
 use Rattle.lines.specs.LineFaults.{lines_fault}
-use Rattle.lines.proofs.Rows.{lines_fit, lines-take-all}
-use Rattle.lines.proofs.JudgeLaws.{judged-on, judged-stop, judged-done}
-use borrow.Author.Rules.{rules}
 use Rattle.lines.proofs.judge_lines.Given as goal
 
 abbrev pub invariant-loop-i : goal.invariant-loop-i

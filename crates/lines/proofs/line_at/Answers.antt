@@ -5,7 +5,6 @@ use lib.ListN.{get_or-eq_default}
 use lib.Ieee.{div, of_bits}
 use Rattle.lines.specs.Lines.{lines_of, off_line}
 use Rattle.lines.proofs.Rows.{lines_long, four-get}
-use borrow.Author.Rules.{rules}
 use Rattle.lines.proofs.line_at.Goals as goal
 
 pub returns-then-i-numbers : goal.returns-then-i-numbers

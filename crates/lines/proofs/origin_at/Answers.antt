@@ -4,7 +4,6 @@ use native.Mathlib.Omega.{arith}
 use lib.ListN.{get_or-eq_default}
 use Rattle.lines.specs.Origins.{unknown, origins_of}
 use Rattle.lines.proofs.OriginRows.{origins-long, three-get}
-use borrow.Author.Rules.{rules}
 use Rattle.lines.proofs.origin_at.Goals as goal
 
 pub returns-then-i-numbers : goal.returns-then-i-numbers

@@ -4,7 +4,6 @@ use native.Mathlib.Omega.{arith}
 use native.Mathlib.Numerals.{add-one, add-two}
 use lib.ListN.{length-set}
 use Rattle.lines.proofs.OriginRows.{origin-sets, origin-not}
-use borrow.Author.Rules.{rules}
 use Rattle.lines.proofs.put_origin.Goals as goal
 
 pub returns-then-i-numbers : goal.returns-then-i-numbers

@@ -6,7 +6,6 @@ use lib.ListN.{length}
 use Rattle.admission.specs.Heads.{head_of}
 use Rattle.obstacles.specs.Obstacles.{obstacle_call}
 use Rattle.obstacles.proofs.ObstacleFaults.{just-lent}
-use borrow.Author.Rules.{rules}
 use Rattle.obstacles.proofs.get_lines_for_agent_to_obstacle.Goals as goal
 
 pub returns-in-Fault : goal.returns-in-Fault

@@ -1,7 +1,6 @@
 -- `obstacles::is_doubled` meets its contract. Assumes nothing.
 use Rattle.common.specs.Vectors.{eq_of}
 use Rattle.obstacles.specs.Doubled.{doubled}
-use borrow.Author.Rules.{rules}
 use Rattle.obstacles.proofs.is_doubled.Goals as goal
 
 pub returns-then-u-v : goal.returns-then-u-v

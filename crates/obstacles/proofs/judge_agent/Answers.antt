@@ -1,6 +1,5 @@
 -- `obstacles::judge_agent` meets its contract. Assumes nothing.
 use Rattle.obstacles.specs.ObstacleFaults.{agent_fault}
-use borrow.Author.Rules.{rules}
 use Rattle.obstacles.proofs.judge_agent.Goals as goal
 
 pub returns : goal.returns

@@ -1,6 +1,5 @@
 -- `obstacles::judge_head` meets its contract. Assumes nothing.
 use Rattle.obstacles.specs.ObstacleFaults.{head_fault}
-use borrow.Author.Rules.{rules}
 use Rattle.obstacles.proofs.judge_head.Goals as goal
 
 pub returns : goal.returns

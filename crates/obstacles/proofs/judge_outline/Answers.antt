@@ -7,7 +7,6 @@ use Rattle.admission.specs.Faults.{must}
 use Rattle.obstacles.specs.Doubled.{none_before}
 use Rattle.obstacles.specs.ObstacleFaults.{outline_fault}
 use Rattle.obstacles.proofs.ObstacleFaults.{vertices-lent}
-use borrow.Author.Rules.{rules}
 use Rattle.obstacles.proofs.judge_outline.Goals as goal
 
 pub returns-in_default : goal.returns-in_default

@@ -1,6 +1,5 @@
 -- `obstacles::judge_vector` meets its contract. Assumes nothing.
 use Rattle.obstacles.specs.ObstacleFaults.{vector_fault}
-use borrow.Author.Rules.{rules}
 use Rattle.obstacles.proofs.judge_vector.Goals as goal
 
 pub returns : goal.returns

@@ -1,13 +1,11 @@
 -- `obstacles::may_close` meets its contract. Assumes nothing.
 use Prim.Native.Nat.{◌/◌}
-use mathlib.Core.Path.{sym}
 use native.Mathlib.Omega.{arith}
 use lib.ListN.{length}
 use borrow.Author.Tests.{eq-eqb, ne_eqb}
 use Rattle.obstacles.specs.Vertices.{vertices_of}
 use Rattle.obstacles.proofs.VertexNumbers.{vertices-many}
 use Rattle.obstacles.proofs.DoubledLaws.{closes-none, closes-pair}
-use borrow.Author.Rules.{rules}
 use Rattle.obstacles.proofs.may_close.Goals as goal
 
 pub returns-then-count-lt1 : goal.returns-then-count-lt1

@@ -1,6 +1,5 @@
 -- `obstacles::may_follow` meets its contract. Assumes nothing.
 use Rattle.obstacles.specs.Doubled.{follows}
-use borrow.Author.Rules.{rules}
 use Rattle.obstacles.proofs.may_follow.Goals as goal
 
 pub returns-in-At : goal.returns-in-At

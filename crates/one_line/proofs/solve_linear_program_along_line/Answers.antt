@@ -6,7 +6,6 @@ use Rattle.lines.proofs.Fold.{count-taken}
 use Rattle.lines.proofs.Rows.{count_fits}
 use Rattle.one_line.specs.OneLine.{choose}
 use Rattle.one_line.proofs.OneLineLaws.{missed, narrowed}
-use borrow.Author.Rules.{rules}
 use Rattle.one_line.proofs.solve_linear_program_along_line.Goals as goal
 
 pub returns-in_default : goal.returns-in_default

@@ -1,6 +1,5 @@
 -- `pass_2d::is_finite_point` meets its contract. Assumes nothing.
 use Rattle.pass_2d.specs.Pass.{finite_point}
-use borrow.Author.Rules.{rules}
 use Rattle.pass_2d.proofs.is_finite_point.Goals as goal
 
 pub returns-then-is_finite : goal.returns-then-is_finite

@@ -1,5 +1,4 @@
 -- `records::answer_record` meets its contract. Assumes nothing.
-use borrow.Author.Rules.{rules}
 use Rattle.records.proofs.AnsweredLaws.{forgotten}
 use Rattle.records.proofs.answer_record.Goals as goal
 

@@ -1,8 +1,6 @@
 -- `records::turn` meets its contract. Assumes nothing.
-use borrow.Author.Rules.{rules}
 use native.Mathlib.Omega.{arith}
 use mathlib.Core.Path.{sym, ap, ◌∙◌}
-use borrow.Author.Tests.{not-true, not-false}
 use Rattle.kept.specs.Kept.{Kept}
 use Rattle.kept.proofs.KeptLaws.{kept_there}
 use Rattle.records.proofs.TurnLaws.{has_room, no-turn, last_turn, used-there, whole-turn}

@@ -1,16 +1,14 @@
 -- `relaxation::solve_linear_program_3d` meets its contract. In each need `s` is where the lines have been counted.
 -- Assumes nothing.
-use mathlib.Core.Path.{◌≡◌, sym, ◌∙◌}
+use mathlib.Core.Path.{sym, ◌∙◌}
 use lib.ListN.{take}
 use borrow.Author.Tests.{lt-leb}
-use Rattle.arithmetic.specs.Binary32.{if◌then◌else◌}
-use Rattle.lines.specs.Lines.{most_lines, lines_of}
+use Rattle.lines.specs.Lines.{lines_of}
 use Rattle.lines.proofs.Fold.{count-taken}
 use Rattle.lines.proofs.Rows.{count_fits}
 use Rattle.pass_2d.proofs.WalkLaws.{walk_first}
 use Rattle.relaxation.specs.Calls.{resumed_relaxation}
 use Rattle.relaxation.proofs.CallLaws.{few-relaxed}
-use borrow.Author.Rules.{rules}
 use Rattle.relaxation.proofs.solve_linear_program_3d.Goals as goal
 
 pub returns-then-given-gt-MOST : goal.returns-then-given-gt-MOST

@@ -1,10 +1,6 @@
-use Prim.Native.Nat.{◌-◌, ◌≤◌}
-use mathlib.Core.Path.{◌≡◌, refl, sym, ◌∙◌}
+use mathlib.Core.Path.{refl, sym, ◌∙◌}
 use native.Mathlib.Omega.{arith}
-use lib.ListN.{take, drop}
-use Rattle.scene_moves.specs.Moves.{all_zero}
 use Rattle.scene_moves.proofs.ZeroLaws.{zero-next, zero-not, zero-done}
-use borrow.Author.Rules.{rules}
 use Rattle.scene_moves.proofs.is_zero.Goals as goal
 
 pub loop-i-init : goal.loop-i-init

@@ -1,11 +1,8 @@
 -- `scene_moves::is_zero` meets its contract. Assumes nothing.
 use Prim.Native.Nat.{◌-◌, ◌≤◌}
-use mathlib.Core.Path.{◌≡◌, refl, sym, ◌∙◌}
-use native.Mathlib.Omega.{arith}
+use mathlib.Core.Path.{◌≡◌}
 use lib.ListN.{take, drop}
 use Rattle.scene_moves.specs.Moves.{all_zero}
-use Rattle.scene_moves.proofs.ZeroLaws.{zero-next, zero-not, zero-done}
-use borrow.Author.Rules.{rules}
 use Rattle.scene_moves.proofs.is_zero.Given as goal
 
 abbrev pub invariant-loop-i : goal.invariant-loop-i

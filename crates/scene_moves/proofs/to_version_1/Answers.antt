@@ -1,6 +1,6 @@
 -- `scene_moves::to_version_1` meets its contract. Assumes nothing.
 use Prim.Native.Nat.{◌-◌, ◌*◌, ◌≤◌}
-use mathlib.Core.Path.{◌≡◌, refl, sym, ap, ◌∙◌}
+use mathlib.Core.Path.{◌≡◌, sym, ◌∙◌}
 use native.Mathlib.Omega.{arith}
 use lib.ListN.{length}
 use mathlib.Core.Bool.{true}
@@ -8,7 +8,6 @@ use Rattle.scene_records.specs.declared.Version.TheVariants.{One, Two}
 use Rattle.scene_moves.specs.Moves.{moved_length, keeps}
 use Rattle.scene_moves.proofs.PutMoves.{moved-put}
 use Rattle.scene_moves.proofs.ToldMoves.{reads, told-fault, told-refused, both-pass, told_moved}
-use borrow.Author.Rules.{rules}
 use Rattle.scene_moves.proofs.to_version_1.Goals as goal
 
 pub returns-in-Fault : goal.returns-in-Fault

@@ -7,7 +7,6 @@ use Rattle.scene_records.specs.declared.Version.TheVariants.{One, Two}
 use Rattle.scene_moves.specs.Moves.{moved_length}
 use Rattle.scene_moves.proofs.PutMoves.{moved-put}
 use Rattle.scene_moves.proofs.ToldMoves.{reads, told-fault, told-short, told_moved}
-use borrow.Author.Rules.{rules}
 use Rattle.scene_moves.proofs.to_version_2.Goals as goal
 
 pub returns-in-Fault : goal.returns-in-Fault

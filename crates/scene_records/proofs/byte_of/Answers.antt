@@ -1,5 +1,4 @@
 -- `scene_records::byte_of` meets its contract. Assumes nothing.
-use borrow.Author.Rules.{rules}
 use Rattle.scene_records.proofs.byte_of.Goals as goal
 
 pub returns-in-One : goal.returns-in-One

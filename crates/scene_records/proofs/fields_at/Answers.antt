@@ -5,7 +5,6 @@ use Rattle.scene_records.specs.Versions.{numbered_as}
 use Rattle.scene_records.proofs.RecordLaws.{count-few, count-known}
 use Rattle.scene_records.proofs.RowLaws.{numbered-fields-read}
 use Rattle.scene_records.proofs.Cursors.{made-here, made_fault}
-use borrow.Author.Rules.{rules}
 use Rattle.scene_records.proofs.fields_at.Goals as goal
 
 pub obstacles_at-next-requires : goal.obstacles_at-next-requires

@@ -1,6 +1,5 @@
 -- `scene_records::length_of` meets its contract. Assumes nothing.
 use Rattle.scene_records.proofs.RecordLaws.{length-missing, length_over, length-other, length-right}
-use borrow.Author.Rules.{rules}
 use Rattle.scene_records.proofs.length_of.Goals as goal
 
 pub returns-then-bytes-lt2 : goal.returns-then-bytes-lt2

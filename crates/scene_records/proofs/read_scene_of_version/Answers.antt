@@ -2,7 +2,6 @@
 use mathlib.Core.Path.{ap, ◌∙◌}
 use Rattle.scene_records.specs.Versions.{numbered_as}
 use Rattle.scene_records.proofs.RowLaws.{record-given}
-use borrow.Author.Rules.{rules}
 use Rattle.scene_records.proofs.read_scene_of_version.Goals as goal
 
 pub returns : goal.returns

@@ -1,6 +1,5 @@
 -- `scene_records::read_scene_version_1` meets its contract. Assumes nothing.
 use Rattle.scene_records.proofs.VersionLaws.{version-1-given}
-use borrow.Author.Rules.{rules}
 use Rattle.scene_records.proofs.read_scene_version_1.Goals as goal
 
 pub returns : goal.returns

@@ -1,5 +1,4 @@
 -- `scene_records::refused` meets its contract. Assumes nothing.
-use borrow.Author.Rules.{rules}
 use Rattle.scene_records.proofs.refused.Goals as goal
 
 pub returns : goal.returns

@@ -1,7 +1,6 @@
 -- `scene_writer::judge_parts` meets its contract. Assumes nothing.
 use Rattle.layouts.proofs.LentInOrder.{layout-fault, layout-total}
 use Rattle.scene_writer.specs.Writing.{parts_fault}
-use borrow.Author.Rules.{rules}
 use Rattle.scene_writer.proofs.judge_parts.Goals as goal
 
 pub returns-in_default : goal.returns-in_default

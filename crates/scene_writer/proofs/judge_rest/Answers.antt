@@ -3,7 +3,6 @@ use mathlib.Core.Path.{sym}
 use native.Mathlib.Omega.{arith}
 use Rattle.scene_writer.specs.Writing.{rest_fault}
 use Rattle.scene_writer.proofs.LinesInOrder.{few-passed}
-use borrow.Author.Rules.{rules}
 use Rattle.scene_writer.proofs.judge_rest.Goals as goal
 
 pub returns-in_default : goal.returns-in_default

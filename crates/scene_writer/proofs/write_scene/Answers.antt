@@ -2,7 +2,6 @@
 use mathlib.Core.Path.{sym}
 use native.Mathlib.Omega.{arith}
 use Rattle.scene_writer.proofs.Accepted.{passed, told-refused, told-short, told-written}
-use borrow.Author.Rules.{rules}
 use Rattle.scene_writer.proofs.write_scene.Goals as goal
 
 pub returns-in-Fault : goal.returns-in-Fault

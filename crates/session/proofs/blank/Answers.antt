@@ -1,6 +1,5 @@
 -- `session::blank` meets its contract. Assumes nothing.
 use Rattle.session.specs.Sessions.{blank_session}
-use Rattle.std.proofs.Common.{rules}
 use Rattle.session.proofs.blank.Goals as goal
 
 pub returns : goal.returns

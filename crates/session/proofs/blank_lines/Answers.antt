@@ -1,6 +1,5 @@
 -- `session::blank_lines` meets its contract. Assumes nothing.
 use Rattle.session.specs.Sessions.{blank_lines}
-use Rattle.std.proofs.Common.{rules}
 use Rattle.session.proofs.blank_lines.Goals as goal
 
 pub returns : goal.returns

@@ -1,5 +1,4 @@
-use Rattle.std.proofs.Common.{◌≡◌, ◌+◌, ◌-◌, ◌≤◌, ltb, length, get_or, drop, sym, refl, ap, ◌∙◌, zero-add, arith, rules}
-use Rattle.session.specs.Changes.{below_in}
+use Rattle.std.proofs.Common.{ltb, get_or, sym, zero-add, arith}
 use Rattle.session.proofs.ChangeWork.{below_on, below-done, at_most_one}
 use Rattle.session.proofs.count_below.Goals as goal
 

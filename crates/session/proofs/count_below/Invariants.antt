@@ -1,7 +1,6 @@
 -- `session::count_below` meets its contract. The invariant: the indices from k on are still to be counted. Assumes nothing.
-use Rattle.std.proofs.Common.{◌≡◌, ◌+◌, ◌-◌, ◌≤◌, ltb, length, get_or, drop, sym, refl, ap, ◌∙◌, zero-add, arith, rules}
+use Rattle.std.proofs.Common.{◌≡◌, ◌+◌, ◌-◌, ◌≤◌, length, drop}
 use Rattle.session.specs.Changes.{below_in}
-use Rattle.session.proofs.ChangeWork.{below_on, below-done, at_most_one}
 use Rattle.session.proofs.count_below.Given as goal
 
 abbrev pub invariant-loop-k : goal.invariant-loop-k

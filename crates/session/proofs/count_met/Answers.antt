@@ -1,8 +1,6 @@
-use Rattle.std.proofs.Common.{◌≡◌, ◌+◌, ◌-◌, ◌/◌, ◌≤◌, length, drop, sym, ◌∙◌, zero-add, arith, rules}
-use borrow.Author.Tests.{not-true, not-false}
+use Rattle.std.proofs.Common.{sym, ◌∙◌, zero-add, arith}
 use Rattle.lines.specs.Lines.{lines_of}
 use Rattle.lines.proofs.Rows.{lines_long}
-use Rattle.session.specs.Meeting.{first_unmet}
 use Rattle.session.proofs.MeetingWork.{counted-on, counted_stop, counted-done}
 use Rattle.session.proofs.count_met.Goals as goal
 

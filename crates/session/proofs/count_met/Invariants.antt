@@ -1,11 +1,8 @@
 -- `session::count_met` meets its contract. The invariant: the first i lines are met, and the count goes on from there.
 -- Assumes nothing.
-use Rattle.std.proofs.Common.{◌≡◌, ◌+◌, ◌-◌, ◌/◌, ◌≤◌, length, drop, sym, ◌∙◌, zero-add, arith, rules}
-use borrow.Author.Tests.{not-true, not-false}
+use Rattle.std.proofs.Common.{◌≡◌, ◌+◌, ◌-◌, ◌/◌, ◌≤◌, length, drop}
 use Rattle.lines.specs.Lines.{lines_of}
-use Rattle.lines.proofs.Rows.{lines_long}
 use Rattle.session.specs.Meeting.{first_unmet}
-use Rattle.session.proofs.MeetingWork.{counted-on, counted_stop, counted-done}
 use Rattle.session.proofs.count_met.Given as goal
 
 abbrev pub invariant-loop-i : goal.invariant-loop-i

@@ -1,5 +1,4 @@
-use Rattle.std.proofs.Common.{◌≡◌, ◌-◌, ◌<◌, ◌≤◌, ◌++◌, length, take, drop, refl, ◌∙◌, arith, rules}
-use Rattle.session.specs.Changes.{indices_from}
+use Rattle.std.proofs.Common.{◌≡◌, ◌<◌, length, take, refl, ◌∙◌, arith, rules}
 use Rattle.session.proofs.ChangeWork.{found-next, found_all}
 use Rattle.session.proofs.find.Goals as goal
 

@@ -1,7 +1,6 @@
 -- `session::find` meets its contract. The invariant: those found, and those of the origins from i on. Assumes nothing.
-use Rattle.std.proofs.Common.{◌≡◌, ◌-◌, ◌<◌, ◌≤◌, ◌++◌, length, take, drop, refl, ◌∙◌, arith, rules}
+use Rattle.std.proofs.Common.{◌≡◌, ◌-◌, ◌≤◌, ◌++◌, length, take, drop}
 use Rattle.session.specs.Changes.{indices_from}
-use Rattle.session.proofs.ChangeWork.{found-next, found_all}
 use Rattle.session.proofs.find.Given as goal
 
 abbrev pub invariant-loop-i : goal.invariant-loop-i

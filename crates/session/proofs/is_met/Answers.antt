@@ -1,6 +1,5 @@
 -- `session::is_met` meets its contract. Assumes nothing.
 use Rattle.session.specs.Meeting.{is_met}
-use Rattle.std.proofs.Common.{rules}
 use Rattle.session.proofs.is_met.Goals as goal
 
 pub returns : goal.returns

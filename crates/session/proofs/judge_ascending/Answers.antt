@@ -1,5 +1,4 @@
-use Rattle.std.proofs.Common.{◌≡◌, ◌-◌, ◌≤◌, length, drop, sym, refl, ◌∙◌, arith, rules}
-use Rattle.session.specs.Changes.{ascending_fault}
+use Rattle.std.proofs.Common.{sym, refl, ◌∙◌, arith}
 use Rattle.session.proofs.ChangeWork.{ascending-on, ascending-low, ascending-high, ascending-done}
 use Rattle.session.proofs.judge_ascending.Goals as goal
 

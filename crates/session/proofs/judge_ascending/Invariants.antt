@@ -1,7 +1,6 @@
 -- `session::judge_ascending` meets its contract. The invariant: the indices from k on are judged from `low` on. Assumes nothing.
-use Rattle.std.proofs.Common.{◌≡◌, ◌-◌, ◌≤◌, length, drop, sym, refl, ◌∙◌, arith, rules}
+use Rattle.std.proofs.Common.{◌≡◌, ◌-◌, ◌≤◌, length, drop}
 use Rattle.session.specs.Changes.{ascending_fault}
-use Rattle.session.proofs.ChangeWork.{ascending-on, ascending-low, ascending-high, ascending-done}
 use Rattle.session.proofs.judge_ascending.Given as goal
 
 abbrev pub invariant-loop-k : goal.invariant-loop-k

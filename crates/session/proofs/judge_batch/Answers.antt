@@ -1,6 +1,6 @@
 -- `session::judge_batch` meets its contract. Assumes nothing.
-use Rattle.std.proofs.Common.{sym, ◌∙◌, rules, eq-eqb, ne_eqb, le-leb}
-use borrow.Author.Tests.{lt-leb, not-true, not-false}
+use Rattle.std.proofs.Common.{sym, ◌∙◌, eq-eqb, ne_eqb, le-leb}
+use borrow.Author.Tests.{lt-leb}
 use Rattle.lines.proofs.Rows.{lines_long}
 use Rattle.session.specs.Batches.{batch_fault}
 use Rattle.session.proofs.judge_batch.Goals as goal

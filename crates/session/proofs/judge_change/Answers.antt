@@ -1,5 +1,5 @@
 -- `session::judge_change` meets its contract. Assumes nothing.
-use Rattle.std.proofs.Common.{rules, le-leb}
+use Rattle.std.proofs.Common.{le-leb}
 use borrow.Author.Tests.{lt-leb}
 use Rattle.session.specs.Changes.{change_fault}
 use Rattle.session.proofs.judge_change.Goals as goal

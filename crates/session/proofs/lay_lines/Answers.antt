@@ -1,7 +1,6 @@
-use Rattle.std.proofs.Common.{◌≡◌, ◌-◌, ◌≤◌, length, get_or, take, sym, refl, ap, ◌∙◌, arith, rules}
-use Rattle.lines.specs.Lines.{lines_of, off_line}
+use Rattle.std.proofs.Common.{◌≡◌, ◌-◌, length, get_or, sym, refl, ap, ◌∙◌, arith, rules}
+use Rattle.lines.specs.Lines.{off_line}
 use Rattle.lines.proofs.Stored.{stored_next}
-use Rattle.session.specs.Withdrawals.{without_all}
 use Rattle.session.proofs.WithdrawalWork.{laid_next}
 use Rattle.session.proofs.lay_lines.Goals as goal
 

@@ -1,9 +1,7 @@
 -- `session::lay_lines` meets its contract. The invariant: the first n of the lines that are left are laid out. Assumes nothing.
-use Rattle.std.proofs.Common.{◌≡◌, ◌-◌, ◌≤◌, length, get_or, take, sym, refl, ap, ◌∙◌, arith, rules}
-use Rattle.lines.specs.Lines.{lines_of, off_line}
-use Rattle.lines.proofs.Stored.{stored_next}
+use Rattle.std.proofs.Common.{◌≡◌, ◌-◌, ◌≤◌, length, take}
+use Rattle.lines.specs.Lines.{lines_of}
 use Rattle.session.specs.Withdrawals.{without_all}
-use Rattle.session.proofs.WithdrawalWork.{laid_next}
 use Rattle.session.proofs.lay_lines.Given as goal
 
 abbrev pub invariant-loop-n : goal.invariant-loop-n

@@ -1,8 +1,7 @@
-use Rattle.std.proofs.Common.{◌≡◌, ◌-◌, ◌≤◌, length, get_or, take, sym, refl, ap, ◌∙◌, arith, rules}
+use Rattle.std.proofs.Common.{◌≡◌, ◌-◌, length, get_or, sym, refl, ap, ◌∙◌, arith, rules}
 use Rattle.lines.specs.Origins.{unknown, origins_of}
 use Rattle.lines.proofs.Fold.{take_set_next}
 use Rattle.lines.proofs.OriginRows.{origins-long, stored-origin}
-use Rattle.session.specs.Withdrawals.{without_all}
 use Rattle.session.proofs.WithdrawalWork.{laid_next}
 use Rattle.session.proofs.lay_origins.Goals as goal
 

@@ -1,11 +1,8 @@
 -- `session::lay_origins` meets its contract. The invariant: the first n of the origins that are left are laid out.
 -- Assumes nothing.
-use Rattle.std.proofs.Common.{◌≡◌, ◌-◌, ◌≤◌, length, get_or, take, sym, refl, ap, ◌∙◌, arith, rules}
-use Rattle.lines.specs.Origins.{unknown, origins_of}
-use Rattle.lines.proofs.Fold.{take_set_next}
-use Rattle.lines.proofs.OriginRows.{origins-long, stored-origin}
+use Rattle.std.proofs.Common.{◌≡◌, ◌-◌, ◌≤◌, length, take}
+use Rattle.lines.specs.Origins.{origins_of}
 use Rattle.session.specs.Withdrawals.{without_all}
-use Rattle.session.proofs.WithdrawalWork.{laid_next}
 use Rattle.session.proofs.lay_origins.Given as goal
 
 abbrev pub invariant-loop-n : goal.invariant-loop-n

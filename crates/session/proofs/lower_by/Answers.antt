@@ -1,6 +1,5 @@
 -- `session::lower_by` meets its contract. Assumes nothing.
 use Rattle.session.proofs.ChangeWork.{lowered-under, lowered-over}
-use Rattle.std.proofs.Common.{rules}
 use Rattle.session.proofs.lower_by.Goals as goal
 
 pub returns-then-below-rigid : goal.returns-then-below-rigid

@@ -1,6 +1,5 @@
 -- `session::name` meets its contract. Assumes nothing.
-use Rattle.std.proofs.Common.{rules, le-ltb, lt-ltb}
-use Rattle.arithmetic.specs.Binary32.{if◌then◌else◌}
+use Rattle.std.proofs.Common.{le-ltb, lt-ltb}
 use Rattle.session.specs.Meeting.{named}
 use Rattle.session.proofs.name.Goals as goal
 

@@ -1,5 +1,5 @@
 -- `session::note` meets its contract. Assumes nothing.
-use Rattle.std.proofs.Common.{◌∙◌, arith, rules}
+use Rattle.std.proofs.Common.{arith}
 use Rattle.session.proofs.ChangeWork.{noted, not_noted}
 use Rattle.session.proofs.note.Goals as goal
 

@@ -1,5 +1,4 @@
 -- `session::or_given` meets its contract. Assumes nothing.
-use Rattle.std.proofs.Common.{rules}
 use Rattle.session.proofs.or_given.Goals as goal
 
 pub returns-in-Fine : goal.returns-in-Fine

@@ -1,6 +1,5 @@
 -- `session::point_now` meets its contract. Assumes nothing.
 use Rattle.session.specs.Meeting.{point_now}
-use Rattle.std.proofs.Common.{rules}
 use Rattle.session.proofs.point_now.Goals as goal
 
 pub returns-in-Solving : goal.returns-in-Solving

@@ -1,5 +1,5 @@
 -- `session::refill` meets its contract. Assumes nothing.
-use Rattle.std.proofs.Common.{◌-◌, ◌*◌, length, arith, rules}
+use Rattle.std.proofs.Common.{◌-◌, ◌*◌, length, arith}
 use Rattle.session.specs.Withdrawals.{left_of}
 use Rattle.session.proofs.WithdrawalWork.{laid-lines, laid-origins, refilled}
 use Rattle.session.proofs.refill.Goals as goal

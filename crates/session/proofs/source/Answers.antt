@@ -1,5 +1,5 @@
 -- `session::source` meets its contract. Assumes nothing.
-use Rattle.std.proofs.Common.{sym, arith, rules}
+use Rattle.std.proofs.Common.{sym, arith}
 use Rattle.session.proofs.WithdrawalWork.{source-below, source-above}
 use Rattle.session.proofs.source.Goals as goal
 

@@ -1,4 +1,4 @@
-use Rattle.std.proofs.Common.{◌≡◌, ◌+◌, ◌-◌, ◌≤◌, length, drop, sym, refl, ap, ◌∙◌, arith, rules}
+use Rattle.std.proofs.Common.{◌+◌, drop, sym, refl, ap, ◌∙◌, arith}
 use Rattle.session.specs.Withdrawals.{source_in}
 use Rattle.session.proofs.WithdrawalWork.{source-on, source-none}
 use Rattle.session.proofs.source_in.Goals as goal

@@ -1,8 +1,7 @@
 -- `session::source_in` meets its contract. The invariant: the indices from k on take the place so far to the answer.
 -- Assumes nothing.
-use Rattle.std.proofs.Common.{◌≡◌, ◌+◌, ◌-◌, ◌≤◌, length, drop, sym, refl, ap, ◌∙◌, arith, rules}
+use Rattle.std.proofs.Common.{◌≡◌, ◌+◌, ◌-◌, ◌≤◌, length, drop}
 use Rattle.session.specs.Withdrawals.{source_in}
-use Rattle.session.proofs.WithdrawalWork.{source-on, source-none}
 use Rattle.session.proofs.source_in.Given as goal
 
 abbrev pub invariant-loop-k : goal.invariant-loop-k

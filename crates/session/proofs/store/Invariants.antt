@@ -1,10 +1,8 @@
 -- `session::store` meets its contract. The invariant: the lines from i on, stored behind those that are, give the same
 -- array. Assumes nothing.
-use Rattle.std.proofs.Common.{◌≡◌, ◌+◌, ◌-◌, ◌/◌, ◌≤◌, length, drop, sym, ◌∙◌, add-zero, arith, length-set, rules}
+use Rattle.std.proofs.Common.{◌≡◌, ◌+◌, ◌-◌, ◌/◌, ◌≤◌, length, drop}
 use lib.Seq.{sets}
-use Rattle.lines.specs.Lines.{lines_of, off_line}
-use Rattle.lines.proofs.Rows.{lines_long}
-use Rattle.session.proofs.StoreLaws.{store-on, store-done}
+use Rattle.lines.specs.Lines.{lines_of}
 use Rattle.session.proofs.store.Given as goal
 
 abbrev pub invariant-loop-i : goal.invariant-loop-i

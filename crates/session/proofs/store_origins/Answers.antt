@@ -1,5 +1,4 @@
-use Rattle.std.proofs.Common.{◌≡◌, ◌+◌, ◌-◌, ◌≤◌, length, drop, sym, ◌∙◌, add-zero, arith, length-set, rules}
-use lib.Seq.{sets}
+use Rattle.std.proofs.Common.{sym, ◌∙◌, add-zero, arith, length-set, rules}
 use Rattle.lines.specs.Origins.{unknown}
 use Rattle.session.specs.Batches.{origins_for}
 use Rattle.session.proofs.StoreLaws.{store-on, store-done, origins-many, origins-each}

@@ -1,10 +1,8 @@
 -- `session::store_origins` meets its contract. The invariant: the origins from i on, stored behind those that are, give
 -- the same array. Assumes nothing.
-use Rattle.std.proofs.Common.{◌≡◌, ◌+◌, ◌-◌, ◌≤◌, length, drop, sym, ◌∙◌, add-zero, arith, length-set, rules}
+use Rattle.std.proofs.Common.{◌≡◌, ◌+◌, ◌-◌, ◌≤◌, length, drop}
 use lib.Seq.{sets}
-use Rattle.lines.specs.Origins.{unknown}
 use Rattle.session.specs.Batches.{origins_for}
-use Rattle.session.proofs.StoreLaws.{store-on, store-done, origins-many, origins-each}
 use Rattle.session.proofs.store_origins.Given as goal
 
 abbrev pub invariant-loop-i : goal.invariant-loop-i

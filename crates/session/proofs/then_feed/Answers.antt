@@ -1,6 +1,5 @@
 -- `session::then_feed` meets its contract. Assumes nothing.
 use Rattle.session.proofs.WithdrawalWork.{not-fed, fed_then}
-use Rattle.std.proofs.Common.{rules}
 use Rattle.session.proofs.then_feed.Goals as goal
 
 pub returns-in-Fault : goal.returns-in-Fault

@@ -1,5 +1,4 @@
 -- `session::told_withdrawn` meets its contract. Assumes nothing.
-use Rattle.std.proofs.Common.{rules}
 use Rattle.session.proofs.told_withdrawn.Goals as goal
 
 pub returns-in-Fine : goal.returns-in-Fine

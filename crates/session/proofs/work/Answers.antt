@@ -1,5 +1,5 @@
 -- `session::work` meets its contract. Assumes nothing.
-use Rattle.std.proofs.Common.{refl, ◌∙◌, rules}
+use Rattle.std.proofs.Common.{refl, ◌∙◌}
 use Rattle.session.proofs.BatchWork.{unmap, worked-right}
 use Rattle.session.proofs.work.Goals as goal
 

@@ -1,6 +1,5 @@
 -- `wall_check::are_within` meets its contract. Assumes nothing.
 use Rattle.wall_check.specs.Crossings.{are_within}
-use borrow.Author.Rules.{rules}
 use Rattle.wall_check.proofs.are_within.Goals as goal
 
 pub returns-in_default : goal.returns-in_default

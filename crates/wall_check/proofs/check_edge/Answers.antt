@@ -1,5 +1,4 @@
 -- `wall_check::check_edge` meets its contract. Assumes nothing.
-use borrow.Author.Rules.{rules}
 use Rattle.wall_check.proofs.check_edge.Goals as goal
 
 pub returns : goal.returns

@@ -1,13 +1,11 @@
-use Prim.Native.Nat.{◌+◌, ◌-◌, ◌/◌, ◌≤◌}
-use mathlib.Core.Path.{◌≡◌, refl, sym, ◌∙◌}
+use Prim.Native.Nat.{◌/◌}
+use mathlib.Core.Path.{refl, sym, ◌∙◌}
 use native.Mathlib.Omega.{arith}
 use native.Mathlib.Nat.{sub-zero}
 use lib.ListN.{length}
-use Rattle.obstacles.specs.Obstacles.{edge_count}
 use Rattle.obstacles.proofs.EdgesInOrder.{few-edges}
-use Rattle.wall_check.specs.Crossings.{walls_from, own_walls, crossed_in, behind, count_in}
+use Rattle.wall_check.specs.Crossings.{own_walls}
 use Rattle.wall_check.proofs.CrossedInOrder.{edges-on, edges-done}
-use borrow.Author.Rules.{rules}
 use Rattle.wall_check.proofs.check_edges.Goals as goal
 
 pub loop-i-init : goal.loop-i-init

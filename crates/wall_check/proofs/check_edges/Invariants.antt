@@ -1,15 +1,10 @@
 -- `wall_check::check_edges` meets its contract. The invariant: behind what is known, the edges from that of the vertex
 -- i on make the answer. Assumes nothing.
 use Prim.Native.Nat.{◌+◌, ◌-◌, ◌/◌, ◌≤◌}
-use mathlib.Core.Path.{◌≡◌, refl, sym, ◌∙◌}
-use native.Mathlib.Omega.{arith}
-use native.Mathlib.Nat.{sub-zero}
+use mathlib.Core.Path.{◌≡◌}
 use lib.ListN.{length}
 use Rattle.obstacles.specs.Obstacles.{edge_count}
-use Rattle.obstacles.proofs.EdgesInOrder.{few-edges}
 use Rattle.wall_check.specs.Crossings.{walls_from, own_walls, crossed_in, behind, count_in}
-use Rattle.wall_check.proofs.CrossedInOrder.{edges-on, edges-done}
-use borrow.Author.Rules.{rules}
 use Rattle.wall_check.proofs.check_edges.Given as goal
 
 abbrev pub invariant-loop-i : goal.invariant-loop-i

@@ -2,7 +2,6 @@
 use mathlib.Core.Path.{sym}
 use Rattle.wall_check.specs.Crossings.{checked_move}
 use Rattle.wall_check.proofs.Accepted.{obstacles-pass}
-use borrow.Author.Rules.{rules}
 use Rattle.wall_check.proofs.check_move.Goals as goal
 
 pub returns-in-Fault : goal.returns-in-Fault

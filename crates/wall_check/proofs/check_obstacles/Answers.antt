@@ -1,15 +1,12 @@
-use Prim.Native.Nat.{◌+◌, ◌-◌, ◌*◌, ◌≤◌}
+use Prim.Native.Nat.{◌+◌, ◌-◌, ◌*◌}
 use mathlib.Core.Path.{◌≡◌, refl, sym, ◌∙◌}
 use native.Mathlib.Omega.{arith}
 use native.Mathlib.Nat.{sub-zero}
-use lib.ListN.{length, drop, get_or}
-use Rattle.admission.specs.Faults.{fine}
+use lib.ListN.{get_or}
 use Rattle.obstacles.proofs.VertexNumbers.{part-size}
-use Rattle.layouts.specs.Layouts.{lent_fault}
 use Rattle.layouts.proofs.LentHolds.{all-lent, next-passes}
-use Rattle.wall_check.specs.Crossings.{walls_of, crossed_in, found_in, behind, count_in}
+use Rattle.wall_check.specs.Crossings.{behind}
 use Rattle.wall_check.proofs.CrossedInOrder.{obstacles-on, obstacles-done}
-use borrow.Author.Rules.{rules}
 use Rattle.wall_check.proofs.check_obstacles.Goals as goal
 
 pub loop-i-init : goal.loop-i-init

@@ -1,17 +1,11 @@
 -- `wall_check::check_obstacles` meets its contract. The invariant: the obstacles from the i-th on pass, and behind what
 -- is known their edges make the answer. Assumes nothing.
-use Prim.Native.Nat.{◌+◌, ◌-◌, ◌*◌, ◌≤◌}
-use mathlib.Core.Path.{◌≡◌, refl, sym, ◌∙◌}
-use native.Mathlib.Omega.{arith}
-use native.Mathlib.Nat.{sub-zero}
-use lib.ListN.{length, drop, get_or}
+use Prim.Native.Nat.{◌-◌, ◌*◌, ◌≤◌}
+use mathlib.Core.Path.{◌≡◌}
+use lib.ListN.{length, drop}
 use Rattle.admission.specs.Faults.{fine}
-use Rattle.obstacles.proofs.VertexNumbers.{part-size}
 use Rattle.layouts.specs.Layouts.{lent_fault}
-use Rattle.layouts.proofs.LentHolds.{all-lent, next-passes}
 use Rattle.wall_check.specs.Crossings.{walls_of, crossed_in, found_in, behind, count_in}
-use Rattle.wall_check.proofs.CrossedInOrder.{obstacles-on, obstacles-done}
-use borrow.Author.Rules.{rules}
 use Rattle.wall_check.proofs.check_obstacles.Given as goal
 
 abbrev pub invariant-loop-i : goal.invariant-loop-i

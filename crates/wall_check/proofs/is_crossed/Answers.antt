@@ -1,6 +1,5 @@
 -- `wall_check::is_crossed` meets its contract. Assumes nothing.
 use Rattle.wall_check.specs.Crossings.{crosses}
-use borrow.Author.Rules.{rules}
 use Rattle.wall_check.proofs.is_crossed.Goals as goal
 
 pub returns-in_default : goal.returns-in_default

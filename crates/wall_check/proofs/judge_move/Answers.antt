@@ -1,7 +1,6 @@
 -- `wall_check::judge_move` meets its contract. Assumes nothing.
 use Rattle.layouts.proofs.LentInOrder.{layout-fault, layout-total}
 use Rattle.wall_check.specs.Crossings.{move_fault}
-use borrow.Author.Rules.{rules}
 use Rattle.wall_check.proofs.judge_move.Goals as goal
 
 pub returns-in_default : goal.returns-in_default

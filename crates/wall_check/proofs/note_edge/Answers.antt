@@ -1,7 +1,6 @@
 -- `wall_check::note_edge` meets its contract. Assumes nothing.
 use native.Mathlib.Omega.{arith}
 use Rattle.wall_check.specs.Crossings.{one_more}
-use borrow.Author.Rules.{rules}
 use Rattle.wall_check.proofs.note_edge.Goals as goal
 
 pub overflow_add-result : goal.overflow_add-result

@@ -1,6 +1,5 @@
 -- `boltmeadow::layouts::bm_check_move` meets its contract. Assumes nothing.
 use mathlib.Core.Path.{sym, ap, ◌∙◌}
-use borrow.Author.Rules.{rules}
 use Rattle.boltmeadow.specs.Layouts.{crossing_told}
 use Rattle.boltmeadow.proofs.layouts.bm_check_move.Goals as goal
 

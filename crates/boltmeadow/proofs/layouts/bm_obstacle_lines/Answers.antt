@@ -1,6 +1,5 @@
 -- `boltmeadow::layouts::bm_obstacle_lines` meets its contract. Assumes nothing.
 use mathlib.Core.Path.{ap}
-use borrow.Author.Rules.{rules}
 use Rattle.boltmeadow.specs.Layouts.{obstacle_told}
 use Rattle.boltmeadow.proofs.layouts.bm_obstacle_lines.Goals as goal
 

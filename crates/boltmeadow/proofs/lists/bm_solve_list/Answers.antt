@@ -1,6 +1,5 @@
 -- `boltmeadow::lists::bm_solve_list` meets its contract. Assumes nothing.
 use mathlib.Core.Path.{sym, ap, ◌∙◌}
-use borrow.Author.Rules.{rules}
 use Rattle.boltmeadow.specs.Lists.{standing_told}
 use Rattle.boltmeadow.proofs.LeftLaws.{answer-said}
 use Rattle.boltmeadow.proofs.lists.bm_solve_list.Goals as goal

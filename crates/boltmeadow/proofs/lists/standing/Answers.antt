@@ -1,5 +1,4 @@
 -- `boltmeadow::lists::standing` meets its contract. Assumes nothing.
-use borrow.Author.Rules.{rules}
 use Rattle.boltmeadow.specs.Lists.{standing_by}
 use Rattle.boltmeadow.proofs.lists.standing.Goals as goal
 

@@ -1,5 +1,4 @@
 -- `boltmeadow::lists::standing_with` meets its contract. Assumes nothing.
-use borrow.Author.Rules.{rules}
 use Rattle.boltmeadow.specs.Lists.{standing_with}
 use Rattle.boltmeadow.proofs.lists.standing_with.Goals as goal
 

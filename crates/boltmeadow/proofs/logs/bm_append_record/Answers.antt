@@ -1,5 +1,4 @@
 -- `boltmeadow::logs::bm_append_record` meets its contract. Assumes nothing.
-use borrow.Author.Rules.{rules}
 use Rattle.boltmeadow.proofs.LeftLaws.{index-left}
 use Rattle.boltmeadow.proofs.logs.bm_append_record.Goals as goal
 

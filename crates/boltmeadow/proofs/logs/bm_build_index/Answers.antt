@@ -1,5 +1,4 @@
 -- `boltmeadow::logs::bm_build_index` meets its contract. Assumes nothing.
-use borrow.Author.Rules.{rules}
 use Rattle.boltmeadow.proofs.LeftLaws.{index-left}
 use Rattle.boltmeadow.proofs.logs.bm_build_index.Goals as goal
 

@@ -1,6 +1,5 @@
 -- `boltmeadow::logs::bm_count_fallbacks` meets its contract. Assumes nothing.
 use mathlib.Core.Path.{sym, ap, ◌∙◌}
-use borrow.Author.Rules.{rules}
 use Rattle.boltmeadow.specs.Logs.{fallbacks_told}
 use Rattle.boltmeadow.proofs.logs.bm_count_fallbacks.Goals as goal
 

@@ -1,6 +1,5 @@
 -- `boltmeadow::logs::bm_read_answer` meets its contract. Assumes nothing.
 use mathlib.Core.Path.{sym, ap, ◌∙◌}
-use borrow.Author.Rules.{rules}
 use Rattle.answer_records.specs.Replies.{said_of}
 use Rattle.boltmeadow.specs.Logs.{reply_told}
 use Rattle.boltmeadow.proofs.logs.bm_read_answer.Goals as goal

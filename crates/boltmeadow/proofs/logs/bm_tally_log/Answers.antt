@@ -1,6 +1,5 @@
 -- `boltmeadow::logs::bm_tally_log` meets its contract. Assumes nothing.
 use mathlib.Core.Path.{sym, ap, ◌∙◌}
-use borrow.Author.Rules.{rules}
 use Rattle.daily_tally.specs.declared.Walked.{Walked}
 use Rattle.boltmeadow.specs.Logs.{page_by, tally_told}
 use Rattle.boltmeadow.proofs.logs.bm_tally_log.Goals as goal

@@ -1,6 +1,5 @@
 -- `boltmeadow::logs::indexed` meets its contract. Assumes nothing.
 use mathlib.Core.Path.{sym, ap}
-use borrow.Author.Rules.{rules}
 use Rattle.boltmeadow.specs.Logs.{index_told}
 use Rattle.boltmeadow.proofs.logs.indexed.Goals as goal
 

@@ -1,6 +1,5 @@
 -- `boltmeadow::scenes::bm_answer_record` meets its contract. Assumes nothing.
 use mathlib.Core.Path.{sym, ap, ◌∙◌}
-use borrow.Author.Rules.{rules}
 use Rattle.boltmeadow.specs.Scenes.{answer_told}
 use Rattle.boltmeadow.proofs.LeftLaws.{answer-left}
 use Rattle.boltmeadow.proofs.scenes.bm_answer_record.Goals as goal

@@ -1,6 +1,5 @@
 -- `boltmeadow::scenes::bm_read_scene` meets its contract. Assumes nothing.
 use mathlib.Core.Path.{ap}
-use borrow.Author.Rules.{rules}
 use Rattle.boltmeadow.specs.Scenes.{scene_told}
 use Rattle.boltmeadow.proofs.scenes.bm_read_scene.Goals as goal
 

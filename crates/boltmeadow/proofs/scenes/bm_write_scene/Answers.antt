@@ -1,5 +1,4 @@
 -- `boltmeadow::scenes::bm_write_scene` meets its contract. Assumes nothing.
-use borrow.Author.Rules.{rules}
 use Rattle.boltmeadow.proofs.LeftLaws.{written-left}
 use Rattle.boltmeadow.proofs.scenes.bm_write_scene.Goals as goal
 

@@ -1,5 +1,4 @@
 -- `boltmeadow::scenes::outcome_with` meets its contract. Assumes nothing.
-use borrow.Author.Rules.{rules}
 use Rattle.boltmeadow.specs.Scenes.{outcome_with}
 use Rattle.boltmeadow.proofs.scenes.outcome_with.Goals as goal
 

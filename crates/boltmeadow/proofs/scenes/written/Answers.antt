@@ -1,6 +1,5 @@
 -- `boltmeadow::scenes::written` meets its contract. Assumes nothing.
 use mathlib.Core.Path.{sym, ap}
-use borrow.Author.Rules.{rules}
 use Rattle.boltmeadow.specs.Scenes.{written_told}
 use Rattle.boltmeadow.proofs.scenes.written.Goals as goal
 

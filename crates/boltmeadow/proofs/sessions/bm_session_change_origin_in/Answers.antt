@@ -1,6 +1,5 @@
 -- `boltmeadow::bm_session_change_origin_in` meets its contract. Assumes nothing.
 use Rattle.boltmeadow.specs.Sessions.{left_changed}
-use borrow.Author.Rules.{rules}
 use Rattle.boltmeadow.proofs.sessions.bm_session_change_origin_in.Goals as goal
 
 pub returns : goal.returns

@@ -1,5 +1,4 @@
 -- `boltmeadow::bm_session_start_in` meets its contract. Assumes nothing.
-use borrow.Author.Rules.{rules}
 use Rattle.boltmeadow.proofs.sessions.bm_session_start_in.Goals as goal
 
 pub returns : goal.returns

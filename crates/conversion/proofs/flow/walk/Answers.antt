@@ -1,5 +1,5 @@
-use Rattle.std.proofs.Common.{◌-◌, length, arith, rules}
-use Rattle.conversion.proofs.LoopLaws.{Going, begins, advance, goes_on_lem, ends}
+use Rattle.std.proofs.Common.{arith}
+use Rattle.conversion.proofs.LoopLaws.{begins, advance, goes_on_lem, ends}
 use Rattle.conversion.proofs.flow.walk.Goals as goal
 
 pub loop-behind-init : goal.loop-behind-init

@@ -1,6 +1,6 @@
 -- `conversion::flow::walk` meets its contract. Assumes nothing.
-use Rattle.std.proofs.Common.{◌-◌, length, arith, rules}
-use Rattle.conversion.proofs.LoopLaws.{Going, begins, advance, goes_on_lem, ends}
+use Rattle.std.proofs.Common.{◌-◌, length}
+use Rattle.conversion.proofs.LoopLaws.{Going}
 use Rattle.conversion.proofs.flow.walk.Given as goal
 
 abbrev pub invariant-loop-behind : goal.invariant-loop-behind

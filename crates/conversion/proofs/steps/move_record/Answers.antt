@@ -1,5 +1,4 @@
 -- `conversion::steps::move_record` meets its contract. Assumes nothing.
-use Rattle.std.proofs.Common.{rules}
 use Rattle.conversion.proofs.steps.move_record.Goals as goal
 
 pub returns-in-One : goal.returns-in-One

@@ -1,5 +1,5 @@
 -- `conversion::steps::step` meets its contract. Assumes nothing.
-use Rattle.std.proofs.Common.{refl, arith, rules}
+use Rattle.std.proofs.Common.{refl, arith}
 use Rattle.conversion.specs.Streams.{next_place}
 use Rattle.conversion.proofs.StepLaws.{cut_step, skip_step, overlong-step, whole-fits, refused-step}
 use Rattle.conversion.proofs.StepLaws.{moved-fits, moved-step}

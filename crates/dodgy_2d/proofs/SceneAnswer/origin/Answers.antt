@@ -1,5 +1,4 @@
 -- `dodgy_2d::SceneAnswer::origin` meets its contract. Assumes nothing.
-use borrow.Author.Rules.{rules}
 use Rattle.dodgy_2d.proofs.SceneAnswer.origin.Goals as goal
 
 pub returns-in-Outcome : goal.returns-in-Outcome

@@ -1,14 +1,13 @@
 use Prim.Native.Nat.{◌+◌, ◌-◌, ◌*◌, ◌/◌, ◌≤◌, ◌<◌}
 use mathlib.Core.Path.{◌≡◌, refl, sym, ◌∙◌}
-use mathlib.Core.List.{◌++◌, map, append-nil}
+use mathlib.Core.List.{append-nil}
 use native.Mathlib.Omega.{arith}
 use native.Mathlib.Nat.{add-zero}
-use lib.ListN.{length, take, drop}
+use lib.ListN.{length}
 use Rattle.lines.specs.Lines.{lines_of}
-use Rattle.lines.specs.Origins.{edge_origin}
 use Rattle.lines.proofs.Stored.{stored-sets}
 use Rattle.obstacles.specs.Vertices.{vertices_of}
-use Rattle.obstacles.specs.Obstacles.{lines as standing, edge_count, obstacle_lines, obstacle_edges, lines_up_to, makers_up_to}
+use Rattle.obstacles.specs.Obstacles.{edge_count, obstacle_lines, obstacle_edges, lines_up_to, makers_up_to}
 use Rattle.obstacles.proofs.EdgesInOrder.{few-counted, alone-edge, add_kept, add_nothing, add-refused, maker-kept, maker-nothing}
 use Rattle.dodgy_2d.specs.Read.{walls_in, counted, none_told}
 use Rattle.dodgy_2d.proofs.EdgesJoined.{standing-own, others-stay, own-next}

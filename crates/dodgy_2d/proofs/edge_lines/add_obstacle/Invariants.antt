@@ -1,21 +1,14 @@
 -- `dodgy_2d::edge_lines::add_obstacle` meets its contract. The invariant: what its first i edges make stands behind the
 -- `count` lines, their walls are noted beside it, and the lines before it are as they were. Assumes nothing.
 use Prim.Native.Nat.{◌+◌, ◌-◌, ◌*◌, ◌/◌, ◌≤◌, ◌<◌}
-use mathlib.Core.Path.{◌≡◌, refl, sym, ◌∙◌}
-use mathlib.Core.List.{◌++◌, map, append-nil}
-use native.Mathlib.Omega.{arith}
-use native.Mathlib.Nat.{add-zero}
+use mathlib.Core.Path.{◌≡◌}
+use mathlib.Core.List.{◌++◌, map}
 use lib.ListN.{length, take, drop}
 use Rattle.lines.specs.Lines.{lines_of}
 use Rattle.lines.specs.Origins.{edge_origin}
-use Rattle.lines.proofs.Stored.{stored-sets}
 use Rattle.obstacles.specs.Vertices.{vertices_of}
-use Rattle.obstacles.specs.Obstacles.{lines as standing, edge_count, obstacle_lines, obstacle_edges, lines_up_to, makers_up_to}
-use Rattle.obstacles.proofs.EdgesInOrder.{few-counted, alone-edge, add_kept, add_nothing, add-refused, maker-kept, maker-nothing}
-use Rattle.dodgy_2d.specs.Read.{walls_in, counted, none_told}
-use Rattle.dodgy_2d.proofs.EdgesJoined.{standing-own, others-stay, own-next}
-use Rattle.dodgy_2d.proofs.OriginsNoted.{noted-on}
-use borrow.Author.Rules.{rules}
+use Rattle.obstacles.specs.Obstacles.{lines as standing, lines_up_to, makers_up_to}
+use Rattle.dodgy_2d.specs.Read.{walls_in}
 use Rattle.dodgy_2d.proofs.edge_lines.add_obstacle.Given as goal
 
 abbrev pub invariant-loop-i : goal.invariant-loop-i

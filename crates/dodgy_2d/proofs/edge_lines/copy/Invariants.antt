@@ -1,11 +1,7 @@
 -- `dodgy_2d::edge_lines::copy` meets its contract. The invariant: the first i numbers are copied. Assumes nothing.
 use Prim.Native.Nat.{◌-◌, ◌≤◌}
 use mathlib.Core.Path.{◌≡◌}
-use native.Mathlib.Omega.{arith}
-use native.Mathlib.Numerals.{add-one}
-use lib.Ieee.{nan}
-use lib.Seq.{paste, paste-zero, paste-suc, length-paste}
-use borrow.Author.Rules.{rules}
+use lib.Seq.{paste}
 use Rattle.dodgy_2d.proofs.edge_lines.copy.Given as goal
 
 abbrev pub invariant-loop-i : goal.invariant-loop-i

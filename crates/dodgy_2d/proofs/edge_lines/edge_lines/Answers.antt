@@ -1,19 +1,14 @@
-use Prim.Native.Nat.{◌+◌, ◌-◌, ◌*◌, ◌≤◌}
-use mathlib.Core.Path.{◌≡◌, refl, sym, ◌∙◌}
-use mathlib.Core.List.{◌++◌}
+use Prim.Native.Nat.{◌+◌, ◌*◌, ◌≤◌}
+use mathlib.Core.Path.{refl, sym, ◌∙◌}
 use native.Mathlib.Omega.{arith}
 use lib.ListN.{length, take, get_or}
 use Rattle.admission.specs.Heads.{head_of}
 use Rattle.lines.specs.Lines.{lines_of}
 use Rattle.obstacles.specs.Obstacles.{lines}
-use Rattle.dodgy_2d.specs.Outcomes.{joined, edge_lines}
-use Rattle.dodgy_2d.specs.Origins.{edge_origins}
 use Rattle.dodgy_2d.specs.Read.{walls_in, counted, none_told}
-use Rattle.dodgy_2d.specs.Admitted.{vertex_count}
-use Rattle.dodgy_2d.proofs.HeadsInOrder.{heads_from, own-left}
+use Rattle.dodgy_2d.proofs.HeadsInOrder.{own-left}
 use Rattle.dodgy_2d.proofs.EdgesJoined.{joined-none, edges-on, edges-done, part-many, part-lines, part-lefts}
 use Rattle.dodgy_2d.proofs.OriginsNoted.{origins-on, origins-done, walls-told}
-use borrow.Author.Rules.{rules}
 use Rattle.dodgy_2d.proofs.edge_lines.edge_lines.Goals as goal
 
 pub loop-i-init : goal.loop-i-init

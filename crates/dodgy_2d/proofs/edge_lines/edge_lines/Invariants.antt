@@ -1,21 +1,16 @@
 -- `dodgy_2d::edge_lines::edge_lines` meets its contract. The invariant: the lines of the obstacles before i, joined
 -- with what the rest makes, are all of them, and so are their origins. Assumes nothing.
 use Prim.Native.Nat.{◌+◌, ◌-◌, ◌*◌, ◌≤◌}
-use mathlib.Core.Path.{◌≡◌, refl, sym, ◌∙◌}
+use mathlib.Core.Path.{◌≡◌}
 use mathlib.Core.List.{◌++◌}
-use native.Mathlib.Omega.{arith}
-use lib.ListN.{length, take, get_or}
-use Rattle.admission.specs.Heads.{head_of}
+use lib.ListN.{length, take}
 use Rattle.lines.specs.Lines.{lines_of}
 use Rattle.obstacles.specs.Obstacles.{lines}
 use Rattle.dodgy_2d.specs.Outcomes.{joined, edge_lines}
 use Rattle.dodgy_2d.specs.Origins.{edge_origins}
-use Rattle.dodgy_2d.specs.Read.{walls_in, counted, none_told}
+use Rattle.dodgy_2d.specs.Read.{walls_in}
 use Rattle.dodgy_2d.specs.Admitted.{vertex_count}
-use Rattle.dodgy_2d.proofs.HeadsInOrder.{heads_from, own-left}
-use Rattle.dodgy_2d.proofs.EdgesJoined.{joined-none, edges-on, edges-done, part-many, part-lines, part-lefts}
-use Rattle.dodgy_2d.proofs.OriginsNoted.{origins-on, origins-done, walls-told}
-use borrow.Author.Rules.{rules}
+use Rattle.dodgy_2d.proofs.HeadsInOrder.{heads_from}
 use Rattle.dodgy_2d.proofs.edge_lines.edge_lines.Given as goal
 
 abbrev pub invariant-loop-i : goal.invariant-loop-i

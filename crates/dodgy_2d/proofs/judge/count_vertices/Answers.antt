@@ -1,9 +1,5 @@
-use Prim.Native.Nat.{◌+◌, ◌-◌, ◌*◌, ◌≤◌}
-use mathlib.Core.Path.{◌≡◌}
 use native.Mathlib.Omega.{arith}
-use Rattle.dodgy_2d.specs.Admitted.{vertex_count}
-use Rattle.dodgy_2d.proofs.HeadsInOrder.{heads_from, own-left, count_none}
-use borrow.Author.Rules.{rules}
+use Rattle.dodgy_2d.proofs.HeadsInOrder.{own-left, count_none}
 use Rattle.dodgy_2d.proofs.judge.count_vertices.Goals as goal
 
 pub loop-i-init : goal.loop-i-init

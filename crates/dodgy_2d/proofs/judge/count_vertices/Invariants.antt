@@ -2,10 +2,8 @@
 -- the rest, are all of them. Assumes nothing.
 use Prim.Native.Nat.{◌+◌, ◌-◌, ◌*◌, ◌≤◌}
 use mathlib.Core.Path.{◌≡◌}
-use native.Mathlib.Omega.{arith}
 use Rattle.dodgy_2d.specs.Admitted.{vertex_count}
-use Rattle.dodgy_2d.proofs.HeadsInOrder.{heads_from, own-left, count_none}
-use borrow.Author.Rules.{rules}
+use Rattle.dodgy_2d.proofs.HeadsInOrder.{heads_from}
 use Rattle.dodgy_2d.proofs.judge.count_vertices.Given as goal
 
 abbrev pub invariant-loop-i : goal.invariant-loop-i

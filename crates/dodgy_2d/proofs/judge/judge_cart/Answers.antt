@@ -1,6 +1,5 @@
 -- `dodgy_2d::judge::judge_cart` meets its contract. Assumes nothing.
 use Rattle.dodgy_2d.specs.Scenes.{cart_fault}
-use borrow.Author.Rules.{rules}
 use Rattle.dodgy_2d.proofs.judge.judge_cart.Goals as goal
 
 pub returns : goal.returns

@@ -4,7 +4,6 @@ use mathlib.Core.Path.{◌≡◌, ap, ◌∙◌}
 use lib.ListN.{length, take, drop, length-drop}
 use lib.Seq.{take-length}
 use Rattle.obstacles.specs.ObstacleFaults.{outline_fault}
-use borrow.Author.Rules.{rules}
 use Rattle.dodgy_2d.proofs.judge.judge_obstacle.Goals as goal
 
 pub returns-in_default : goal.returns-in_default

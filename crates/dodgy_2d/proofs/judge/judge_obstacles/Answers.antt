@@ -1,10 +1,6 @@
-use Rattle.dodgy_2d.proofs.HeadsInOrder.{heads_from, obstacle-on, obstacle-stop, obstacles-done, own_room}
-use Prim.Native.Nat.{◌-◌, ◌*◌, ◌≤◌}
-use mathlib.Core.Path.{◌≡◌, refl, sym, ◌∙◌}
+use Rattle.dodgy_2d.proofs.HeadsInOrder.{obstacle-on, obstacle-stop, obstacles-done, own_room}
+use mathlib.Core.Path.{refl, sym, ◌∙◌}
 use native.Mathlib.Omega.{arith}
-use lib.ListN.{drop}
-use Rattle.dodgy_2d.specs.Scenes.{obstacles_fault}
-use borrow.Author.Rules.{rules}
 use Rattle.dodgy_2d.proofs.judge.judge_obstacles.Goals as goal
 
 pub loop-i-init : goal.loop-i-init

@@ -1,12 +1,10 @@
 -- `dodgy_2d::judge::judge_obstacles` meets its contract. The invariant: the obstacles before i pass, and have `total`
 -- vertices. Assumes nothing.
-use Rattle.dodgy_2d.proofs.HeadsInOrder.{heads_from, obstacle-on, obstacle-stop, obstacles-done, own_room}
+use Rattle.dodgy_2d.proofs.HeadsInOrder.{heads_from}
 use Prim.Native.Nat.{◌-◌, ◌*◌, ◌≤◌}
-use mathlib.Core.Path.{◌≡◌, refl, sym, ◌∙◌}
-use native.Mathlib.Omega.{arith}
+use mathlib.Core.Path.{◌≡◌}
 use lib.ListN.{drop}
 use Rattle.dodgy_2d.specs.Scenes.{obstacles_fault}
-use borrow.Author.Rules.{rules}
 use Rattle.dodgy_2d.proofs.judge.judge_obstacles.Given as goal
 
 abbrev pub invariant-loop-i : goal.invariant-loop-i

@@ -1,7 +1,6 @@
 -- `dodgy_2d::judge::judge_sizes` meets its contract. Assumes nothing.
 use borrow.Author.Tests.{le-leb, lt-leb}
 use Rattle.dodgy_2d.specs.Admitted.{sizes_fault}
-use borrow.Author.Rules.{rules}
 use Rattle.dodgy_2d.proofs.judge.judge_sizes.Goals as goal
 
 pub returns-then-n-gt-MOST_OBSTACLES : goal.returns-then-n-gt-MOST_OBSTACLES

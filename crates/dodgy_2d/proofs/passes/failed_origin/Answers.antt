@@ -1,5 +1,4 @@
 -- `dodgy_2d::passes::failed_origin` meets its contract. Assumes nothing.
-use borrow.Author.Rules.{rules}
 use Rattle.dodgy_2d.proofs.passes.failed_origin.Goals as goal
 
 pub origin_at-requires : goal.origin_at-requires

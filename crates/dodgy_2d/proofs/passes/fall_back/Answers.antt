@@ -3,7 +3,6 @@ use native.Mathlib.Omega.{arith}
 use Rattle.dodgy_2d.specs.Outcomes.{at_rest}
 use Rattle.dodgy_2d.proofs.ScenePasses.{sized-fits}
 use Rattle.dodgy_2d.proofs.OriginsNoted.{refused-origin}
-use borrow.Author.Rules.{rules}
 use Rattle.dodgy_2d.proofs.passes.fall_back.Goals as goal
 
 pub overflow_add-all : goal.overflow_add-all

@@ -3,7 +3,6 @@ use Prim.Native.Nat.{◌-◌}
 use mathlib.Core.Path.{sym}
 use native.Mathlib.Omega.{arith}
 use Rattle.dodgy_2d.proofs.OriginsNoted.{edge_of, neighbour-of, none_of}
-use borrow.Author.Rules.{rules}
 use Rattle.dodgy_2d.proofs.passes.origin_at.Goals as goal
 
 pub bounds-walls-index : goal.bounds-walls-index

@@ -1,8 +1,7 @@
 -- `dodgy_2d::passes::pass` meets its contract. Assumes nothing.
-use Prim.Native.Nat.{◌+◌, ◌-◌, ◌*◌, ◌≤◌}
+use Prim.Native.Nat.{◌+◌, ◌-◌, ◌*◌}
 use mathlib.Core.Path.{◌≡◌, ◌∙◌}
 use native.Mathlib.Omega.{arith}
-use borrow.Author.Rules.{rules}
 use Rattle.linear_programming.specs.Whole.{refusal}
 use Rattle.linear_programming.specs.Read.{outcome_of as list_outcome_of}
 use Rattle.dodgy_2d.specs.Outcomes.{pass_at}

@@ -2,7 +2,6 @@
 use Rattle.dodgy_2d.specs.Admitted.{scene_from}
 use Rattle.dodgy_2d.proofs.ScenePasses.{sized-fits}
 use Rattle.dodgy_2d.proofs.OriginsNoted.{refused-origin}
-use borrow.Author.Rules.{rules}
 use Rattle.dodgy_2d.proofs.passes.solve.Goals as goal
 
 pub fall_back-requires : goal.fall_back-requires

@@ -1,7 +1,5 @@
 -- `edges::collision::corner_line` meets its contract. Assumes nothing.
-use Rattle.arithmetic.specs.Binary32.{if◌then◌else◌}
 use Rattle.edges.specs.Collision.{corner_line}
-use borrow.Author.Rules.{rules}
 use Rattle.edges.proofs.collision.corner_line.Goals as goal
 
 pub returns-then-convex : goal.returns-then-convex

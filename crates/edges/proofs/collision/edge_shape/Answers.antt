@@ -1,6 +1,5 @@
 -- `edges::collision::edge_shape` meets its contract. Assumes nothing.
 use Rattle.edges.specs.Collision.{shape_of}
-use borrow.Author.Rules.{rules}
 use Rattle.edges.proofs.collision.edge_shape.Goals as goal
 
 pub returns : goal.returns

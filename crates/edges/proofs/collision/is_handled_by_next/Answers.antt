@@ -1,6 +1,5 @@
 -- `edges::collision::is_handled_by_next` meets its contract. Assumes nothing.
 use Rattle.edges.specs.Collision.{next_handles}
-use borrow.Author.Rules.{rules}
 use Rattle.edges.proofs.collision.is_handled_by_next.Goals as goal
 
 pub returns-in_default : goal.returns-in_default

@@ -1,7 +1,5 @@
 -- `edges::collision::right_corner_line` meets its contract. Assumes nothing.
-use Rattle.arithmetic.specs.Binary32.{if◌then◌else◌}
 use Rattle.edges.specs.Collision.{right_corner_line}
-use borrow.Author.Rules.{rules}
 use Rattle.edges.proofs.collision.right_corner_line.Goals as goal
 
 pub returns-then-is_handled_by_next : goal.returns-then-is_handled_by_next

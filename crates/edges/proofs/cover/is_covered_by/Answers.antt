@@ -1,6 +1,5 @@
 -- `edges::cover::is_covered_by` meets its contract. Assumes nothing.
 use Rattle.edges.specs.Cover.{covers}
-use borrow.Author.Rules.{rules}
 use Rattle.edges.proofs.cover.is_covered_by.Goals as goal
 
 pub returns-then-is_deep : goal.returns-then-is_deep

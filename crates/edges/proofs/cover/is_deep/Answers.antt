@@ -1,6 +1,5 @@
 -- `edges::cover::is_deep` meets its contract. Assumes nothing.
 use Rattle.edges.specs.Cover.{is_deep}
-use borrow.Author.Rules.{rules}
 use Rattle.edges.proofs.cover.is_deep.Goals as goal
 
 pub returns : goal.returns

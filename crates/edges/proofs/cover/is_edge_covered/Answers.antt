@@ -1,12 +1,8 @@
-use Prim.Native.Nat.{◌/◌, ◌-◌, ◌≤◌}
-use mathlib.Core.Path.{◌≡◌, refl, sym, ◌∙◌}
+use mathlib.Core.Path.{refl, sym, ◌∙◌}
 use native.Mathlib.Omega.{arith}
-use lib.ListN.{length, drop}
 use Rattle.lines.specs.Lines.{lines_of, off_line}
 use Rattle.lines.proofs.Rows.{lines_long}
-use Rattle.edges.specs.Cover.{is_edge_covered}
 use Rattle.edges.proofs.Covered.{covered-at, covered-on, covered-done}
-use borrow.Author.Rules.{rules}
 use Rattle.edges.proofs.cover.is_edge_covered.Goals as goal
 
 pub loop-i-init : goal.loop-i-init

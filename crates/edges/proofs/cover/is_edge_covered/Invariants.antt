@@ -1,13 +1,9 @@
 -- `edges::cover::is_edge_covered` meets its contract. The invariant: the lines before i cover nothing. Assumes nothing.
 use Prim.Native.Nat.{◌/◌, ◌-◌, ◌≤◌}
-use mathlib.Core.Path.{◌≡◌, refl, sym, ◌∙◌}
-use native.Mathlib.Omega.{arith}
+use mathlib.Core.Path.{◌≡◌}
 use lib.ListN.{length, drop}
-use Rattle.lines.specs.Lines.{lines_of, off_line}
-use Rattle.lines.proofs.Rows.{lines_long}
+use Rattle.lines.specs.Lines.{lines_of}
 use Rattle.edges.specs.Cover.{is_edge_covered}
-use Rattle.edges.proofs.Covered.{covered-at, covered-on, covered-done}
-use borrow.Author.Rules.{rules}
 use Rattle.edges.proofs.cover.is_edge_covered.Given as goal
 
 abbrev pub invariant-loop-i : goal.invariant-loop-i

@@ -1,6 +1,5 @@
 -- `edges::cutoffs::cut_off` meets its contract. Assumes nothing.
 use Rattle.edges.specs.Cutoffs.{cutoff_of}
-use borrow.Author.Rules.{rules}
 use Rattle.edges.proofs.cutoffs.cut_off.Goals as goal
 
 pub returns : goal.returns

@@ -1,6 +1,5 @@
 -- `edges::cutoffs::cutoff_line` meets its contract. Assumes nothing.
 use Rattle.edges.specs.Cutoffs.{cutoff_line}
-use borrow.Author.Rules.{rules}
 use Rattle.edges.proofs.cutoffs.cutoff_line.Goals as goal
 
 pub returns : goal.returns

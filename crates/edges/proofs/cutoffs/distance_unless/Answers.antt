@@ -1,8 +1,6 @@
 -- `edges::cutoffs::distance_unless` meets its contract. Assumes nothing.
 use lib.Ieee.{div, of_bits}
-use Rattle.arithmetic.specs.Binary32.{if◌then◌else◌}
 use Rattle.edges.specs.Cutoffs.{distance_unless}
-use borrow.Author.Rules.{rules}
 use Rattle.edges.proofs.cutoffs.distance_unless.Goals as goal
 
 pub returns-then-missed : goal.returns-then-missed

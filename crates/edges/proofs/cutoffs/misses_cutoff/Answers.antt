@@ -1,6 +1,5 @@
 -- `edges::cutoffs::misses_cutoff` meets its contract. Assumes nothing.
 use Rattle.edges.specs.Cutoffs.{misses_cutoff}
-use borrow.Author.Rules.{rules}
 use Rattle.edges.proofs.cutoffs.misses_cutoff.Goals as goal
 
 pub returns-then-in_unit : goal.returns-then-in_unit

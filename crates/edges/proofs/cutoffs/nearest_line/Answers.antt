@@ -1,7 +1,5 @@
 -- `edges::cutoffs::nearest_line` meets its contract. Assumes nothing.
-use Rattle.arithmetic.specs.Binary32.{if◌then◌else◌}
 use Rattle.edges.specs.Cutoffs.{nearest_line}
-use borrow.Author.Rules.{rules}
 use Rattle.edges.proofs.cutoffs.nearest_line.Goals as goal
 
 pub returns-then-at_most_both : goal.returns-then-at_most_both

@@ -1,6 +1,5 @@
 -- `edges::cutoffs::projects_to_left` meets its contract. Assumes nothing.
 use Rattle.edges.specs.Cutoffs.{projects_left}
-use borrow.Author.Rules.{rules}
 use Rattle.edges.proofs.cutoffs.projects_to_left.Goals as goal
 
 pub returns-then-are_below : goal.returns-then-are_below

@@ -1,7 +1,5 @@
 -- `edges::cutoffs::t_cutoff_edge` meets its contract. Assumes nothing.
-use Rattle.arithmetic.specs.Binary32.{if◌then◌else◌}
 use Rattle.edges.specs.Cutoffs.{t_cutoff}
-use borrow.Author.Rules.{rules}
 use Rattle.edges.proofs.cutoffs.t_cutoff_edge.Goals as goal
 
 pub returns-then-is_degenerate_edge : goal.returns-then-is_degenerate_edge

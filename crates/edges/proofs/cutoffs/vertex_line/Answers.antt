@@ -1,6 +1,5 @@
 -- `edges::cutoffs::vertex_line` meets its contract. Assumes nothing.
 use Rattle.edges.specs.Cutoffs.{vertex_line}
-use borrow.Author.Rules.{rules}
 use Rattle.edges.proofs.cutoffs.vertex_line.Goals as goal
 
 pub returns : goal.returns

@@ -1,6 +1,5 @@
 -- `edges::in_front::alone` meets its contract. Assumes nothing.
 use Rattle.edges.specs.EdgeLines.{alone}
-use borrow.Author.Rules.{rules}
 use Rattle.edges.proofs.in_front.alone.Goals as goal
 
 pub returns-in-Left : goal.returns-in-Left

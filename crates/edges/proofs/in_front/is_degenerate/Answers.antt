@@ -1,6 +1,5 @@
 -- `edges::in_front::is_degenerate` meets its contract. Assumes nothing.
 use Rattle.edges.specs.EdgeLines.{is_degenerate}
-use borrow.Author.Rules.{rules}
 use Rattle.edges.proofs.in_front.is_degenerate.Goals as goal
 
 pub returns : goal.returns

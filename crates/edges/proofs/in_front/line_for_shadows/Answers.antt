@@ -1,6 +1,5 @@
 -- `edges::in_front::line_for_shadows` meets its contract. Assumes nothing.
 use Rattle.edges.specs.EdgeLines.{line_for_shadows}
-use borrow.Author.Rules.{rules}
 use Rattle.edges.proofs.in_front.line_for_shadows.Goals as goal
 
 pub returns : goal.returns

@@ -1,7 +1,5 @@
 -- `edges::in_front::line_in_front` meets its contract. Assumes nothing.
-use Rattle.arithmetic.specs.Binary32.{if◌then◌else◌}
 use Rattle.edges.specs.EdgeLines.{line_in_front}
-use borrow.Author.Rules.{rules}
 use Rattle.edges.proofs.in_front.line_in_front.Goals as goal
 
 pub returns-then-reaches : goal.returns-then-reaches

@@ -1,6 +1,5 @@
 -- `edges::in_front::line_of_edge` meets its contract. Assumes nothing.
 use Rattle.edges.specs.EdgeLines.{line_of_edge}
-use borrow.Author.Rules.{rules}
 use Rattle.edges.proofs.in_front.line_of_edge.Goals as goal
 
 pub returns : goal.returns

@@ -1,7 +1,5 @@
 -- `edges::in_front::line_of_vertex` meets its contract. Assumes nothing.
-use Rattle.arithmetic.specs.Binary32.{if◌then◌else◌}
 use Rattle.edges.specs.EdgeLines.{line_of_vertex}
-use borrow.Author.Rules.{rules}
 use Rattle.edges.proofs.in_front.line_of_vertex.Goals as goal
 
 pub returns-then-vertex : goal.returns-then-vertex

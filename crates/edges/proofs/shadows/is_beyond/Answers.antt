@@ -1,6 +1,5 @@
 -- `edges::shadows::is_beyond` meets its contract. Assumes nothing.
 use Rattle.edges.specs.Shadows.{is_beyond}
-use borrow.Author.Rules.{rules}
 use Rattle.edges.proofs.shadows.is_beyond.Goals as goal
 
 pub returns-in-Left : goal.returns-in-Left

@@ -1,7 +1,5 @@
 -- `edges::shadows::shadow_direction` meets its contract. Assumes nothing.
-use Rattle.arithmetic.specs.Binary32.{if◌then◌else◌}
 use Rattle.edges.specs.Shadows.{side_direction, extended}
-use borrow.Author.Rules.{rules}
 use Rattle.edges.proofs.shadows.shadow_direction.Goals as goal
 
 pub returns-then-convex : goal.returns-then-convex

@@ -1,6 +1,5 @@
 -- `edges::shadows::tangent_direction` meets its contract. Assumes nothing.
 use Rattle.edges.specs.Shadows.{tangent}
-use borrow.Author.Rules.{rules}
 use Rattle.edges.proofs.shadows.tangent_direction.Goals as goal
 
 pub returns-in-Left : goal.returns-in-Left

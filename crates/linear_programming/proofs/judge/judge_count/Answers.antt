@@ -1,7 +1,6 @@
 -- `linear_programming::judge::judge_count` meets its contract. Assumes nothing.
 use Rattle.lines.proofs.Rows.{lines_long}
 use Rattle.linear_programming.specs.Admit.{count_fault}
-use borrow.Author.Rules.{rules}
 use Rattle.linear_programming.proofs.judge.judge_count.Goals as goal
 
 pub returns : goal.returns

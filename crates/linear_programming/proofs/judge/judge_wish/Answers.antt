@@ -1,6 +1,5 @@
 -- `linear_programming::judge::judge_wish` meets its contract. Assumes nothing.
 use Rattle.linear_programming.specs.Admit.{wish_fault}
-use borrow.Author.Rules.{rules}
 use Rattle.linear_programming.proofs.judge.judge_wish.Goals as goal
 
 pub returns : goal.returns

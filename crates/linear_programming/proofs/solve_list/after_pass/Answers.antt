@@ -1,14 +1,11 @@
 -- `linear_programming::solve_list::after_pass` meets its contract. Assumes nothing.
 use mathlib.Core.Path.{◌∙◌}
 use borrow.Author.Tests.{lt-ltb, le-ltb}
-use Rattle.arithmetic.specs.Binary32.{if◌then◌else◌}
 use Rattle.lines.specs.Lines.{lines_of}
 use Rattle.lines.proofs.Fold.{taken-most}
-use Rattle.pass_2d.specs.Read.{failure_of}
 use Rattle.relaxation.proofs.CallLaws.{relaxed-most}
-use Rattle.linear_programming.specs.Whole.{failed_line, after_pass}
+use Rattle.linear_programming.specs.Whole.{after_pass}
 use Rattle.linear_programming.proofs.ResumeLaws.{relaxed-behind}
-use borrow.Author.Rules.{rules}
 use Rattle.linear_programming.proofs.solve_list.after_pass.Goals as goal
 
 pub returns-then-k-rigid : goal.returns-then-k-rigid

@@ -1,8 +1,6 @@
-use Prim.Native.Nat.{◌-◌, ◌≤◌}
 use mathlib.Core.Path.{◌≡◌, refl, ◌∙◌}
 use native.Mathlib.Omega.{arith}
-use lib.ListN.{length, take}
-use Rattle.lines.specs.Lines.{lines_of, off_line}
+use Rattle.lines.specs.Lines.{off_line}
 use Rattle.lines.proofs.Fold.{take_next}
 use Rattle.lines.proofs.Stored.{stored_next}
 use borrow.Author.Rules.{rules}

@@ -1,12 +1,8 @@
 -- `linear_programming::solve_list::lay` meets its contract. The invariant: the first n lines are laid out. Assumes nothing.
 use Prim.Native.Nat.{◌-◌, ◌≤◌}
-use mathlib.Core.Path.{◌≡◌, refl, ◌∙◌}
-use native.Mathlib.Omega.{arith}
+use mathlib.Core.Path.{◌≡◌}
 use lib.ListN.{length, take}
-use Rattle.lines.specs.Lines.{lines_of, off_line}
-use Rattle.lines.proofs.Fold.{take_next}
-use Rattle.lines.proofs.Stored.{stored_next}
-use borrow.Author.Rules.{rules}
+use Rattle.lines.specs.Lines.{lines_of}
 use Rattle.linear_programming.proofs.solve_list.lay.Given as goal
 
 abbrev pub invariant-loop-n : goal.invariant-loop-n

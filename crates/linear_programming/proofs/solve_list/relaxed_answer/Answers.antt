@@ -1,6 +1,5 @@
 -- `linear_programming::solve_list::relaxed_answer` meets its contract. Assumes nothing.
 use native.Mathlib.Omega.{arith}
-use borrow.Author.Rules.{rules}
 use Rattle.linear_programming.proofs.solve_list.relaxed_answer.Goals as goal
 
 pub returns-in-Relaxed : goal.returns-in-Relaxed

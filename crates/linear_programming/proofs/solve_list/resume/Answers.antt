@@ -8,7 +8,6 @@ use Rattle.relaxation.proofs.CallLaws.{relaxed-most}
 use Rattle.linear_programming.specs.Resume.{resumed}
 use Rattle.linear_programming.specs.Read.{failed_of}
 use Rattle.linear_programming.proofs.ResumeLaws.{relaxed-behind}
-use borrow.Author.Rules.{rules}
 use Rattle.linear_programming.proofs.solve_list.resume.Goals as goal
 
 pub after_pass-requires : goal.after_pass-requires

@@ -4,7 +4,6 @@ use Rattle.lines.specs.Lines.{lines_of}
 use Rattle.lines.proofs.Fold.{taken-most}
 use Rattle.pass_2d.proofs.CallLaws.{few-called, called-most}
 use Rattle.linear_programming.specs.Whole.{whole_list}
-use borrow.Author.Rules.{rules}
 use Rattle.linear_programming.proofs.solve_list.solve_from_start.Goals as goal
 
 pub after_pass-requires : goal.after_pass-requires

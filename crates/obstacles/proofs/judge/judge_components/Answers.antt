@@ -2,7 +2,6 @@
 use Prim.Native.Nat.{◌*◌}
 use lib.Seq.{drop-drop}
 use Rattle.obstacles.specs.ObstacleFaults.{components_fault}
-use borrow.Author.Rules.{rules}
 use Rattle.obstacles.proofs.judge.judge_components.Goals as goal
 
 pub returns : goal.returns

@@ -2,7 +2,6 @@
 use mathlib.Core.Path.{sym}
 use lib.Ieee.{nan}
 use Rattle.obstacles.proofs.ObstacleFaults.{number-there, number-missing}
-use borrow.Author.Rules.{rules}
 use Rattle.obstacles.proofs.judge.judge_number.Goals as goal
 
 pub returns-then-at-numbers : goal.returns-then-at-numbers

@@ -3,7 +3,6 @@ use mathlib.Core.Path.{sym}
 use native.Mathlib.Omega.{arith}
 use Rattle.obstacles.specs.ObstacleFaults.{obstacle_fault}
 use Rattle.obstacles.proofs.ObstacleFaults.{head-room}
-use borrow.Author.Rules.{rules}
 use Rattle.obstacles.proofs.judge.judge_obstacle.Goals as goal
 
 pub returns-in_default : goal.returns-in_default

@@ -1,12 +1,11 @@
 -- `obstacles::judge::judge_vertex` meets its contract. Assumes nothing.
-use Prim.Native.Nat.{◌*◌, ◌+◌, ◌≤◌}
-use mathlib.Core.Path.{◌≡◌, sym, ◌∙◌}
+use Prim.Native.Nat.{◌*◌}
+use mathlib.Core.Path.{◌≡◌, ◌∙◌}
 use native.Mathlib.Omega.{arith}
-use lib.ListN.{length, drop, length-drop}
+use lib.ListN.{drop}
 use Rattle.obstacles.specs.ObstacleFaults.{front_of, vertex_fault}
 use Rattle.obstacles.proofs.VertexNumbers.{front_at}
 use Rattle.obstacles.proofs.ObstacleFaults.{components-there}
-use borrow.Author.Rules.{rules}
 use Rattle.obstacles.proofs.judge.judge_vertex.Goals as goal
 
 pub returns-in_default : goal.returns-in_default

@@ -1,14 +1,9 @@
-use Prim.Native.Nat.{◌-◌, ◌*◌, ◌≤◌}
-use mathlib.Core.Path.{◌≡◌, sym, ◌∙◌}
+use mathlib.Core.Path.{sym, ◌∙◌}
 use native.Mathlib.Omega.{arith}
 use native.Mathlib.Nat.{sub-zero}
-use lib.ListN.{length, drop}
 use Rattle.edges.specs.Read.{outer_of}
-use Rattle.obstacles.specs.Doubled.{none_before}
-use Rattle.obstacles.specs.ObstacleFaults.{vertices_fault}
 use Rattle.obstacles.proofs.VertexNumbers.{front_at}
 use Rattle.obstacles.proofs.ObstacleFaults.{vertex-on, vertex-stop, vertices-done, next-lent}
-use borrow.Author.Rules.{rules}
 use Rattle.obstacles.proofs.judge.judge_vertices.Goals as goal
 
 pub loop-i-init : goal.loop-i-init

@@ -1,16 +1,11 @@
 -- `obstacles::judge::judge_vertices` meets its contract. The invariant: the vertices before i pass, and so are there.
 -- Assumes nothing.
 use Prim.Native.Nat.{◌-◌, ◌*◌, ◌≤◌}
-use mathlib.Core.Path.{◌≡◌, sym, ◌∙◌}
-use native.Mathlib.Omega.{arith}
-use native.Mathlib.Nat.{sub-zero}
+use mathlib.Core.Path.{◌≡◌}
 use lib.ListN.{length, drop}
 use Rattle.edges.specs.Read.{outer_of}
 use Rattle.obstacles.specs.Doubled.{none_before}
 use Rattle.obstacles.specs.ObstacleFaults.{vertices_fault}
-use Rattle.obstacles.proofs.VertexNumbers.{front_at}
-use Rattle.obstacles.proofs.ObstacleFaults.{vertex-on, vertex-stop, vertices-done, next-lent}
-use borrow.Author.Rules.{rules}
 use Rattle.obstacles.proofs.judge.judge_vertices.Given as goal
 
 abbrev pub invariant-loop-i : goal.invariant-loop-i

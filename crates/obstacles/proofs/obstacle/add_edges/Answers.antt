@@ -1,17 +1,16 @@
-use Prim.Native.Nat.{◌+◌, ◌-◌, ◌*◌, ◌/◌, ◌≤◌, ◌<◌}
+use Prim.Native.Nat.{◌+◌, ◌*◌, ◌/◌, ◌≤◌, ◌<◌}
 use mathlib.Core.Path.{◌≡◌, refl, sym, ap, ◌∙◌}
 use native.Mathlib.Omega.{arith}
 use native.Mathlib.Nat.{sub-zero}
-use lib.ListN.{length, take}
+use lib.ListN.{length}
 use Rattle.lines.specs.Lines.{lines_of}
 use Rattle.obstacles.specs.Vertices.{vertices_of}
-use Rattle.obstacles.specs.Obstacles.{lines as standing, lines_up_to, edge_count, obstacle_lines}
+use Rattle.obstacles.specs.Obstacles.{lines_up_to, edge_count, obstacle_lines}
 use Rattle.obstacles.specs.Read.{answer_as}
 use Rattle.obstacles.proofs.EdgesInOrder.{few-counted, add_kept, add_nothing, add-refused}
-use Rattle.obstacles.proofs.Filled.{Filled, blank-long, filled_none, filled_next, filled-answer}
+use Rattle.obstacles.proofs.Filled.{blank-long, filled_none, filled_next, filled-answer}
 use Rattle.lines.proofs.Numbers.{stored_lines}
 use Rattle.lines.proofs.Stored.{stored-sets}
-use borrow.Author.Rules.{rules}
 use Rattle.obstacles.proofs.obstacle.add_edges.Goals as goal
 
 pub loop-i-init : goal.loop-i-init

@@ -1,6 +1,5 @@
 -- `obstacles::obstacle::admitted_line` meets its contract. Assumes nothing.
 use Rattle.obstacles.specs.Obstacles.{admitted}
-use borrow.Author.Rules.{rules}
 use Rattle.obstacles.proofs.obstacle.admitted_line.Goals as goal
 
 pub returns-in_default : goal.returns-in_default

@@ -1,6 +1,5 @@
 -- `obstacles::obstacle::lines_for_edges` meets its contract. Assumes nothing.
 use mathlib.Core.Path.{◌∙◌}
-use borrow.Author.Rules.{rules}
 use Rattle.obstacles.proofs.obstacle.lines_for_edges.Goals as goal
 
 pub returns-in-Count : goal.returns-in-Count

@@ -1,5 +1,4 @@
 -- `obstacles::obstacle::refused` meets its contract. Assumes nothing.
-use borrow.Author.Rules.{rules}
 use Rattle.obstacles.proofs.obstacle.refused.Goals as goal
 
 pub returns : goal.returns

@@ -1,6 +1,5 @@
 -- `obstacles::vertices::edge_at` meets its contract. Assumes nothing.
 use Rattle.obstacles.specs.Vertices.{edge_at}
-use borrow.Author.Rules.{rules}
 use Rattle.obstacles.proofs.vertices.edge_at.Goals as goal
 
 pub returns : goal.returns

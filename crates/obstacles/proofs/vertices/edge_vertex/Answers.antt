@@ -1,6 +1,5 @@
 -- `obstacles::vertices::edge_vertex` meets its contract. Assumes nothing.
 use Rattle.obstacles.specs.Vertices.{edge_vertex_at}
-use borrow.Author.Rules.{rules}
 use Rattle.obstacles.proofs.vertices.edge_vertex.Goals as goal
 
 pub returns-then-is_end : goal.returns-then-is_end

@@ -1,6 +1,5 @@
 -- `obstacles::vertices::is_convex` meets its contract. Assumes nothing.
 use Rattle.obstacles.specs.Vertices.{convex_at}
-use borrow.Author.Rules.{rules}
 use Rattle.obstacles.proofs.vertices.is_convex.Goals as goal
 
 pub returns : goal.returns

@@ -1,7 +1,6 @@
 -- `obstacles::vertices::is_end` meets its contract. Assumes nothing.
 use borrow.Author.Tests.{eq-eqb, ne_eqb}
 use Rattle.obstacles.specs.Vertices.{is_end}
-use borrow.Author.Rules.{rules}
 use Rattle.obstacles.proofs.vertices.is_end.Goals as goal
 
 pub returns-then-kind-ne-OPEN : goal.returns-then-kind-ne-OPEN

@@ -1,8 +1,6 @@
 -- `obstacles::vertices::outer_vertex` meets its contract. Assumes nothing.
 use borrow.Author.Tests.{eq-eqb, ne_eqb}
-use Rattle.arithmetic.specs.Binary32.{if◌then◌else◌}
 use Rattle.obstacles.specs.Vertices.{outer_at}
-use borrow.Author.Rules.{rules}
 use Rattle.obstacles.proofs.vertices.outer_vertex.Goals as goal
 
 pub returns-then-kind-ne-OPEN : goal.returns-then-kind-ne-OPEN

@@ -2,7 +2,6 @@
 use mathlib.Core.Path.{refl, sym}
 use native.Mathlib.Omega.{arith}
 use Rattle.obstacles.proofs.VertexNumbers.{vertex-nth}
-use borrow.Author.Rules.{rules}
 use Rattle.obstacles.proofs.vertices.vertex_at.Goals as goal
 
 pub returns : goal.returns

@@ -1,7 +1,5 @@
 -- `one_line::along_line::circle_interval` meets its contract. Assumes nothing.
-use Rattle.arithmetic.specs.Binary32.{if◌then◌else◌}
 use Rattle.one_line.specs.OneLine.{chord}
-use borrow.Author.Rules.{rules}
 use Rattle.one_line.proofs.along_line.circle_interval.Goals as goal
 
 pub returns-then-discriminant : goal.returns-then-discriminant

@@ -1,7 +1,5 @@
 -- `one_line::along_line::cut_at` meets its contract. Assumes nothing.
-use Rattle.arithmetic.specs.Binary32.{if◌then◌else◌}
 use Rattle.one_line.specs.OneLine.{cut}
-use borrow.Author.Rules.{rules}
 use Rattle.one_line.proofs.along_line.cut_at.Goals as goal
 
 pub returns-then-direction_determinant : goal.returns-then-direction_determinant

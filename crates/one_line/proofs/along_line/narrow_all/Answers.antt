@@ -1,14 +1,10 @@
-use Prim.Native.Nat.{◌-◌, ◌≤◌}
-use mathlib.Core.Path.{◌≡◌, refl, sym, ◌∙◌}
-use mathlib.Core.List.{foldl}
+use mathlib.Core.Path.{refl, sym, ◌∙◌}
 use native.Mathlib.Omega.{arith}
-use lib.ListN.{take, drop}
 use Rattle.lines.specs.Lines.{lines_of, off_line}
-use Rattle.one_line.specs.OneLine.{between, narrow}
+use Rattle.one_line.specs.OneLine.{narrow}
 use Rattle.lines.proofs.Fold.{fold_on, fold-stop, fold_done}
 use Rattle.one_line.proofs.OneLineLaws.{empty-stays, looked-on}
 use Rattle.lines.proofs.Rows.{lines_fit}
-use borrow.Author.Rules.{rules}
 use Rattle.one_line.proofs.along_line.narrow_all.Goals as goal
 
 pub loop-i-init : goal.loop-i-init

@@ -1,16 +1,11 @@
 -- `one_line::along_line::narrow_all` meets its contract. The invariant: the lines from i on narrow what is left to the
 -- same interval. Assumes nothing.
 use Prim.Native.Nat.{◌-◌, ◌≤◌}
-use mathlib.Core.Path.{◌≡◌, refl, sym, ◌∙◌}
+use mathlib.Core.Path.{◌≡◌}
 use mathlib.Core.List.{foldl}
-use native.Mathlib.Omega.{arith}
 use lib.ListN.{take, drop}
-use Rattle.lines.specs.Lines.{lines_of, off_line}
+use Rattle.lines.specs.Lines.{lines_of}
 use Rattle.one_line.specs.OneLine.{between, narrow}
-use Rattle.lines.proofs.Fold.{fold_on, fold-stop, fold_done}
-use Rattle.one_line.proofs.OneLineLaws.{empty-stays, looked-on}
-use Rattle.lines.proofs.Rows.{lines_fit}
-use borrow.Author.Rules.{rules}
 use Rattle.one_line.proofs.along_line.narrow_all.Given as goal
 
 abbrev pub invariant-loop-i : goal.invariant-loop-i

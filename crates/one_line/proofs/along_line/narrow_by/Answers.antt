@@ -1,8 +1,6 @@
 -- `one_line::along_line::narrow_by` meets its contract. Assumes nothing.
-use Rattle.arithmetic.specs.Binary32.{if◌then◌else◌}
 use Rattle.admission.specs.Faults.{within}
 use Rattle.one_line.specs.OneLine.{narrow}
-use borrow.Author.Rules.{rules}
 use Rattle.one_line.proofs.along_line.narrow_by.Goals as goal
 
 pub returns-then-is_within : goal.returns-then-is_within

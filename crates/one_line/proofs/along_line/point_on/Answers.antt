@@ -1,6 +1,5 @@
 -- `one_line::along_line::point_on` meets its contract. Assumes nothing.
 use Rattle.one_line.specs.OneLine.{point_on}
-use borrow.Author.Rules.{rules}
 use Rattle.one_line.proofs.along_line.point_on.Goals as goal
 
 pub returns : goal.returns

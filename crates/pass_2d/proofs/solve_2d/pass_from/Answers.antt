@@ -1,17 +1,13 @@
-use Prim.Native.Nat.{◌-◌, ◌*◌, ◌≤◌}
-use mathlib.Core.Path.{◌≡◌, refl, sym, ◌∙◌}
+use mathlib.Core.Path.{refl, sym, ◌∙◌}
 use native.Mathlib.Omega.{arith}
-use lib.ListN.{take, drop}
 use lib.Seq.{length-take-le}
-use Rattle.pass_2d.specs.Walk.{walk}
 use Rattle.lines.specs.Lines.{lines_of, off_line}
-use Rattle.pass_2d.specs.Pass.{feasible, pass_line}
+use Rattle.pass_2d.specs.Pass.{pass_line}
 use Rattle.one_line.specs.Read.{objective_of}
 use Rattle.lines.proofs.Rows.{lines_fit}
 use Rattle.pass_2d.proofs.WalkLaws.{walk-on, walk-stop, walk-done}
 use Rattle.pass_2d.proofs.Variants.{ended-stays}
 use Rattle.pass_2d.proofs.Probes.{line-most}
-use borrow.Author.Rules.{rules}
 use Rattle.pass_2d.proofs.solve_2d.pass_from.Goals as goal
 
 pub loop-i-init : goal.loop-i-init

@@ -1,5 +1,4 @@
 -- `pass_2d::solve_2d::pass_line` meets its contract. In each need `s` is where the one-line solve has answered. Assumes nothing.
-use Rattle.arithmetic.specs.Binary32.{if◌then◌else◌}
 use native.Mathlib.Omega.{arith}
 use lib.Seq.{length-take-le}
 use Rattle.lines.specs.Lines.{lines_of}
@@ -7,7 +6,6 @@ use Rattle.pass_2d.specs.Pass.{solved, pass_line}
 use Rattle.lines.proofs.Rows.{lines_fit}
 use Rattle.one_line.proofs.Variants.{refuses-left}
 use Rattle.pass_2d.proofs.Variants.{few-looked}
-use borrow.Author.Rules.{rules}
 use Rattle.pass_2d.proofs.solve_2d.pass_line.Goals as goal
 
 pub returns-then-determinant : goal.returns-then-determinant

@@ -1,5 +1,4 @@
 -- `records::flow::finish` meets its contract. Assumes nothing.
-use borrow.Author.Rules.{rules}
 use Rattle.records.proofs.EndLaws.{nothing_left, some_left}
 use Rattle.records.proofs.flow.finish.Goals as goal
 

@@ -1,8 +1,5 @@
-use borrow.Author.Rules.{rules}
 use native.Mathlib.Omega.{arith}
-use Prim.Native.Nat.{◌-◌}
-use lib.ListN.{length}
-use Rattle.records.proofs.LoopLaws.{Going, begins, advance, goes_on_lem, ends}
+use Rattle.records.proofs.LoopLaws.{begins, advance, goes_on_lem, ends}
 use Rattle.records.proofs.flow.work.Goals as goal
 
 pub loop-next-init : goal.loop-next-init

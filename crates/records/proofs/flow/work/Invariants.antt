@@ -1,9 +1,7 @@
 -- `records::flow::work` meets its contract. Assumes nothing.
-use borrow.Author.Rules.{rules}
-use native.Mathlib.Omega.{arith}
 use Prim.Native.Nat.{◌-◌}
 use lib.ListN.{length}
-use Rattle.records.proofs.LoopLaws.{Going, begins, advance, goes_on_lem, ends}
+use Rattle.records.proofs.LoopLaws.{Going}
 use Rattle.records.proofs.flow.work.Given as goal
 
 abbrev pub invariant-loop-next : goal.invariant-loop-next

@@ -1,5 +1,4 @@
 -- `records::outcome::failed_place` meets its contract. Assumes nothing.
-use borrow.Author.Rules.{rules}
 use Rattle.records.proofs.outcome.failed_place.Goals as goal
 
 pub returns-in-At : goal.returns-in-At

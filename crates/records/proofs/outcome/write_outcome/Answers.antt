@@ -1,6 +1,5 @@
 -- `records::outcome::write_outcome` meets its contract. Assumes nothing.
 use mathlib.Core.Path.{sym, ap, ◌∙◌}
-use borrow.Author.Rules.{rules}
 use Rattle.answer_records.specs.Answers.{Written}
 use Rattle.records.proofs.OutcomeLaws.{pattern-bits}
 use Rattle.records.proofs.outcome.write_outcome.Goals as goal

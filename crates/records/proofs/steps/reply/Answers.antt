@@ -1,5 +1,4 @@
 -- `records::steps::reply` meets its contract. Assumes nothing.
-use borrow.Author.Rules.{rules}
 use Rattle.records.proofs.AnsweredLaws.{replied, replied-refusal}
 use Rattle.records.proofs.steps.reply.Goals as goal
 

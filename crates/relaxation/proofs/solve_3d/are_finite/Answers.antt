@@ -1,5 +1,4 @@
 -- `relaxation::solve_3d::are_finite` meets its contract. Assumes nothing.
-use borrow.Author.Rules.{rules}
 use Rattle.relaxation.proofs.solve_3d.are_finite.Goals as goal
 
 pub returns-then-is_finite_point : goal.returns-then-is_finite_point

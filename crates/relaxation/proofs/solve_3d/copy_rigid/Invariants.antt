@@ -1,13 +1,8 @@
 -- `relaxation::solve_3d::copy_rigid` meets its contract. The invariant: the first n lines are those of the list. Assumes nothing.
-use Prim.Native.Nat.{◌+◌, ◌-◌, ◌≤◌, ◌<◌}
-use mathlib.Core.Path.{◌≡◌, refl, ◌∙◌}
-use native.Mathlib.Omega.{arith}
+use Prim.Native.Nat.{◌-◌, ◌≤◌}
+use mathlib.Core.Path.{◌≡◌}
 use lib.ListN.{length, take}
-use Rattle.lines.specs.Lines.{lines_of, off_line}
-use Rattle.lines.proofs.Fold.{take_next}
-use Rattle.lines.proofs.Rows.{lines_fit}
-use Rattle.lines.proofs.Stored.{stored_next}
-use borrow.Author.Rules.{rules}
+use Rattle.lines.specs.Lines.{lines_of}
 use Rattle.relaxation.proofs.solve_3d.copy_rigid.Given as goal
 
 abbrev pub invariant-loop-n : goal.invariant-loop-n

@@ -1,6 +1,5 @@
 -- `relaxation::solve_3d::depth_in` meets its contract. Assumes nothing.
 use Rattle.relaxation.specs.Relax.{depth_in}
-use borrow.Author.Rules.{rules}
 use Rattle.relaxation.proofs.solve_3d.depth_in.Goals as goal
 
 pub returns : goal.returns

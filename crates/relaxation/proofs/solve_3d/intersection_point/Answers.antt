@@ -1,7 +1,6 @@
 -- `relaxation::solve_3d::intersection_point` meets its contract. Assumes nothing.
 use Rattle.one_line.specs.OneLine.{point_on}
 use Rattle.relaxation.specs.Relax.{intersection}
-use borrow.Author.Rules.{rules}
 use Rattle.relaxation.proofs.solve_3d.intersection_point.Goals as goal
 
 pub returns : goal.returns

@@ -1,6 +1,5 @@
 -- `relaxation::solve_3d::middle_point` meets its contract. Assumes nothing.
 use Rattle.relaxation.specs.Relax.{midpoint}
-use borrow.Author.Rules.{rules}
 use Rattle.relaxation.proofs.solve_3d.middle_point.Goals as goal
 
 pub returns : goal.returns

@@ -1,16 +1,12 @@
-use Prim.Native.Nat.{◌+◌, ◌-◌, ◌*◌, ◌≤◌}
-use mathlib.Core.Path.{◌≡◌, refl, sym, ◌∙◌}
+use mathlib.Core.Path.{refl, sym, ◌∙◌}
 use native.Mathlib.Omega.{arith}
-use lib.ListN.{take, drop}
 use lib.Seq.{length-take-le}
-use Rattle.pass_2d.specs.Walk.{walk}
 use Rattle.lines.specs.Lines.{lines_of, off_line}
-use Rattle.relaxation.specs.Relax.{relaxed, relax_line}
+use Rattle.relaxation.specs.Relax.{relax_line}
 use Rattle.lines.proofs.Rows.{lines_fit}
 use Rattle.pass_2d.proofs.WalkLaws.{walk-on, walk-stop, walk-done}
 use Rattle.relaxation.proofs.TightLaws.{relax-refused-stays}
 use Rattle.relaxation.proofs.RelaxedProbes.{relax-most}
-use borrow.Author.Rules.{rules}
 use Rattle.relaxation.proofs.solve_3d.relax_from.Goals as goal
 
 pub loop-i-init : goal.loop-i-init

@@ -1,18 +1,11 @@
 -- `relaxation::solve_3d::relax_from` meets its contract. The invariant: the lines from i on take value and penetration
 -- now to the same end. Assumes nothing.
-use Prim.Native.Nat.{◌+◌, ◌-◌, ◌*◌, ◌≤◌}
-use mathlib.Core.Path.{◌≡◌, refl, sym, ◌∙◌}
-use native.Mathlib.Omega.{arith}
+use Prim.Native.Nat.{◌-◌, ◌*◌, ◌≤◌}
+use mathlib.Core.Path.{◌≡◌}
 use lib.ListN.{take, drop}
-use lib.Seq.{length-take-le}
 use Rattle.pass_2d.specs.Walk.{walk}
-use Rattle.lines.specs.Lines.{lines_of, off_line}
+use Rattle.lines.specs.Lines.{lines_of}
 use Rattle.relaxation.specs.Relax.{relaxed, relax_line}
-use Rattle.lines.proofs.Rows.{lines_fit}
-use Rattle.pass_2d.proofs.WalkLaws.{walk-on, walk-stop, walk-done}
-use Rattle.relaxation.proofs.TightLaws.{relax-refused-stays}
-use Rattle.relaxation.proofs.RelaxedProbes.{relax-most}
-use borrow.Author.Rules.{rules}
 use Rattle.relaxation.proofs.solve_3d.relax_from.Given as goal
 
 abbrev pub invariant-loop-i : goal.invariant-loop-i

@@ -3,13 +3,11 @@ use mathlib.Core.Path.{◌∙◌}
 use native.Mathlib.Omega.{arith}
 use lib.ListN.{take, length-take}
 use lib.Seq.{length-take-le}
-use Rattle.arithmetic.specs.Binary32.{if◌then◌else◌}
 use Rattle.lines.specs.Lines.{lines_of}
 use Rattle.relaxation.specs.Relax.{relax_line}
 use Rattle.relaxation.proofs.RelaxedProbes.{inner-solve-most}
 use Rattle.lines.proofs.Rows.{lines_fit}
 use Rattle.relaxation.proofs.TightLaws.{lesser-rigid, examined}
-use borrow.Author.Rules.{rules}
 use Rattle.relaxation.proofs.solve_3d.relax_line.Goals as goal
 
 pub returns-then-depth_in-penetration : goal.returns-then-depth_in-penetration

@@ -5,7 +5,6 @@ use native.Mathlib.Omega.{arith}
 use Rattle.lines.specs.Lines.{most_lines}
 use Rattle.lines.proofs.Fold.{taken-most}
 use Rattle.pass_2d.proofs.CallLaws.{few-called}
-use borrow.Author.Rules.{rules}
 use Rattle.relaxation.proofs.solve_3d.solve_tightened.Goals as goal
 
 pub returns : goal.returns

@@ -1,6 +1,5 @@
 -- `relaxation::solve_3d::tighten_at` meets its contract. Assumes nothing.
 use Rattle.relaxation.specs.Relax.{tight_at}
-use borrow.Author.Rules.{rules}
 use Rattle.relaxation.proofs.solve_3d.tighten_at.Goals as goal
 
 pub returns : goal.returns

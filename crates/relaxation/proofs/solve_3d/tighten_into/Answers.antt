@@ -1,8 +1,5 @@
-use Prim.Native.Nat.{◌-◌, ◌≤◌}
-use mathlib.Core.Path.{◌≡◌, sym, ◌∙◌}
-use mathlib.Core.List.{foldl}
+use mathlib.Core.Path.{sym, ◌∙◌}
 use native.Mathlib.Omega.{arith}
-use lib.ListN.{length, take, drop}
 use lib.Seq.{take-take}
 use Rattle.lines.specs.Lines.{lines_of, off_line}
 use Rattle.relaxation.specs.Relax.{tighten_next, tightened}
@@ -10,7 +7,6 @@ use Rattle.lines.proofs.Fold.{fold_on, fold_done}
 use Rattle.lines.proofs.Rows.{lines_fit}
 use Rattle.relaxation.proofs.TightLaws.{next-kept, next-skipped}
 use Rattle.lines.proofs.Stored.{stored_next}
-use borrow.Author.Rules.{rules}
 use Rattle.relaxation.proofs.solve_3d.tighten_into.Goals as goal
 
 pub loop-i-init : goal.loop-i-init

@@ -1,18 +1,11 @@
 -- `relaxation::solve_3d::tighten_into` meets its contract. The invariant: the lines from i on, tightened behind the
 -- first n that are made, give the same list. Assumes nothing.
 use Prim.Native.Nat.{◌-◌, ◌≤◌}
-use mathlib.Core.Path.{◌≡◌, sym, ◌∙◌}
+use mathlib.Core.Path.{◌≡◌}
 use mathlib.Core.List.{foldl}
-use native.Mathlib.Omega.{arith}
 use lib.ListN.{length, take, drop}
-use lib.Seq.{take-take}
-use Rattle.lines.specs.Lines.{lines_of, off_line}
+use Rattle.lines.specs.Lines.{lines_of}
 use Rattle.relaxation.specs.Relax.{tighten_next, tightened}
-use Rattle.lines.proofs.Fold.{fold_on, fold_done}
-use Rattle.lines.proofs.Rows.{lines_fit}
-use Rattle.relaxation.proofs.TightLaws.{next-kept, next-skipped}
-use Rattle.lines.proofs.Stored.{stored_next}
-use borrow.Author.Rules.{rules}
 use Rattle.relaxation.proofs.solve_3d.tighten_into.Given as goal
 
 abbrev pub invariant-loop-i : goal.invariant-loop-i

@@ -1,10 +1,9 @@
-use Prim.Native.Nat.{◌+◌, ◌-◌, ◌*◌}
+use Prim.Native.Nat.{◌+◌, ◌*◌}
 use mathlib.Core.Path.{◌∙◌}
 use native.Mathlib.Omega.{arith}
 use lib.ListN.{drop}
 use Rattle.scene_records.specs.declared.Version.TheVariants.{One, Two}
-use Rattle.scene_moves.proofs.PutMoves.{numbered-put, Putting, putting-begins, putting-on, putting-done}
-use borrow.Author.Rules.{rules}
+use Rattle.scene_moves.proofs.PutMoves.{numbered-put, putting-begins, putting-on, putting-done}
 use Rattle.scene_moves.proofs.put.put_numbered.Goals as goal
 
 pub loop-i-init : goal.loop-i-init

@@ -1,11 +1,7 @@
 -- `scene_moves::put::put_numbered` meets its contract. Assumes nothing.
-use Prim.Native.Nat.{◌+◌, ◌-◌, ◌*◌}
-use mathlib.Core.Path.{◌∙◌}
-use native.Mathlib.Omega.{arith}
-use lib.ListN.{drop}
+use Prim.Native.Nat.{◌-◌}
 use Rattle.scene_records.specs.declared.Version.TheVariants.{One, Two}
-use Rattle.scene_moves.proofs.PutMoves.{numbered-put, Putting, putting-begins, putting-on, putting-done}
-use borrow.Author.Rules.{rules}
+use Rattle.scene_moves.proofs.PutMoves.{Putting}
 use Rattle.scene_moves.proofs.put.put_numbered.Given as goal
 
 abbrev pub invariant-loop-i : goal.invariant-loop-i

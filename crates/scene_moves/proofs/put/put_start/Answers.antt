@@ -5,7 +5,6 @@ use lib.ListN.{length-set}
 use lib.Seq.{sets}
 use Rattle.fields.proofs.WordLaws.{pair-stored}
 use Rattle.scene_moves.proofs.PutMoves.{start-put}
-use borrow.Author.Rules.{rules}
 use Rattle.scene_moves.proofs.put.put_start.Goals as goal
 
 pub put_bytes-requires : goal.put_bytes-requires

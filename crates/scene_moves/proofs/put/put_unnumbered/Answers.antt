@@ -1,8 +1,7 @@
-use Prim.Native.Nat.{◌+◌, ◌-◌, ◌*◌}
+use Prim.Native.Nat.{◌+◌, ◌*◌}
 use native.Mathlib.Omega.{arith}
 use Rattle.scene_records.specs.declared.Version.TheVariants.{One, Two}
-use Rattle.scene_moves.proofs.PutMoves.{unnumbered-put, Putting, putting-begins, putting-on, putting-done}
-use borrow.Author.Rules.{rules}
+use Rattle.scene_moves.proofs.PutMoves.{unnumbered-put, putting-begins, putting-on, putting-done}
 use Rattle.scene_moves.proofs.put.put_unnumbered.Goals as goal
 
 pub loop-i-init : goal.loop-i-init

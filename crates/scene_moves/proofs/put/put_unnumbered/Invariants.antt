@@ -1,9 +1,7 @@
 -- `scene_moves::put::put_unnumbered` meets its contract. Assumes nothing.
-use Prim.Native.Nat.{◌+◌, ◌-◌, ◌*◌}
-use native.Mathlib.Omega.{arith}
+use Prim.Native.Nat.{◌-◌}
 use Rattle.scene_records.specs.declared.Version.TheVariants.{One, Two}
-use Rattle.scene_moves.proofs.PutMoves.{unnumbered-put, Putting, putting-begins, putting-on, putting-done}
-use borrow.Author.Rules.{rules}
+use Rattle.scene_moves.proofs.PutMoves.{Putting}
 use Rattle.scene_moves.proofs.put.put_unnumbered.Given as goal
 
 abbrev pub invariant-loop-i : goal.invariant-loop-i

@@ -1,6 +1,5 @@
 -- `scene_records::cart_fields::cart_at` meets its contract. Assumes nothing.
 use Rattle.scene_records.proofs.FieldLaws.{cart-read}
-use borrow.Author.Rules.{rules}
 use Rattle.scene_records.proofs.cart_fields.cart_at.Goals as goal
 
 pub returns : goal.returns

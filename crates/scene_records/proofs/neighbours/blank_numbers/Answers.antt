@@ -1,7 +1,6 @@
 -- `scene_records::neighbours::blank_numbers` meets its contract. Assumes nothing.
 use mathlib.Core.Path.{refl}
 use Rattle.scene_records.specs.Versions.{blank_words}
-use borrow.Author.Rules.{rules}
 use Rattle.scene_records.proofs.neighbours.blank_numbers.Goals as goal
 
 pub returns : goal.returns

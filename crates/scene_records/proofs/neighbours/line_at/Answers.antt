@@ -1,6 +1,5 @@
 -- `scene_records::neighbours::line_at` meets its contract. Assumes nothing.
 use Rattle.scene_records.proofs.FieldLaws.{line_read}
-use borrow.Author.Rules.{rules}
 use Rattle.scene_records.proofs.neighbours.line_at.Goals as goal
 
 pub returns : goal.returns

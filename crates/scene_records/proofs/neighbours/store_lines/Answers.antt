@@ -1,13 +1,9 @@
-use Prim.Native.Nat.{◌-◌, ◌≤◌}
-use mathlib.Core.Path.{◌≡◌, refl, sym, ◌∙◌}
+use mathlib.Core.Path.{refl, sym, ◌∙◌}
 use native.Mathlib.Nat.{sub-zero}
 use native.Mathlib.Omega.{arith}
-use lib.ListN.{length, length-set}
+use lib.ListN.{length-set}
 use Rattle.lines.proofs.Stored.{stored-sets}
-use Rattle.scene_records.specs.Steps.{from}
-use Rattle.scene_records.specs.Versions.{numbered_lines, rows, stored_rows}
 use Rattle.scene_records.proofs.RowLaws.{rows-done, rows_next}
-use borrow.Author.Rules.{rules}
 use Rattle.scene_records.proofs.neighbours.store_lines.Goals as goal
 
 pub loop-i-init : goal.loop-i-init

@@ -1,15 +1,10 @@
 -- `scene_records::neighbours::store_lines` meets its contract. The invariant: what is stored and what is still to be
 -- read make up the whole. Assumes nothing.
 use Prim.Native.Nat.{◌-◌, ◌≤◌}
-use mathlib.Core.Path.{◌≡◌, refl, sym, ◌∙◌}
-use native.Mathlib.Nat.{sub-zero}
-use native.Mathlib.Omega.{arith}
-use lib.ListN.{length, length-set}
-use Rattle.lines.proofs.Stored.{stored-sets}
+use mathlib.Core.Path.{◌≡◌}
+use lib.ListN.{length}
 use Rattle.scene_records.specs.Steps.{from}
 use Rattle.scene_records.specs.Versions.{numbered_lines, rows, stored_rows}
-use Rattle.scene_records.proofs.RowLaws.{rows-done, rows_next}
-use borrow.Author.Rules.{rules}
 use Rattle.scene_records.proofs.neighbours.store_lines.Given as goal
 
 abbrev pub invariant-loop-i : goal.invariant-loop-i

@@ -2,7 +2,6 @@
 use native.Mathlib.Omega.{arith}
 use Rattle.fields.proofs.WordLaws.{byte-there, word-missing}
 use Rattle.scene_records.specs.Steps.{told, from}
-use borrow.Author.Rules.{rules}
 use Rattle.scene_records.proofs.steps.byte_at.Goals as goal
 
 pub returns-in_default : goal.returns-in_default

@@ -2,7 +2,6 @@
 use Rattle.scene_records.specs.Steps.{count_as}
 use Rattle.scene_records.proofs.FieldLaws.{count-read}
 use Rattle.scene_records.proofs.Cursors.{made-here, made_fault}
-use borrow.Author.Rules.{rules}
 use Rattle.scene_records.proofs.steps.count_at.Goals as goal
 
 pub returns-in-At : goal.returns-in-At

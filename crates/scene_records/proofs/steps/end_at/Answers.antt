@@ -1,7 +1,6 @@
 -- `scene_records::steps::end_at` meets its contract. Assumes nothing.
 use Rattle.scene_records.specs.Steps.{told, from}
 use Rattle.scene_records.proofs.FieldLaws.{ended-read}
-use borrow.Author.Rules.{rules}
 use Rattle.scene_records.proofs.steps.end_at.Goals as goal
 
 pub returns-in_default : goal.returns-in_default

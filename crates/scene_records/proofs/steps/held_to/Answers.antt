@@ -1,5 +1,4 @@
 -- `scene_records::steps::held_to` meets its contract. Assumes nothing.
-use borrow.Author.Rules.{rules}
 use Rattle.scene_records.proofs.steps.held_to.Goals as goal
 
 pub returns-in-Fault : goal.returns-in-Fault

@@ -1,6 +1,5 @@
 -- `scene_records::steps::is_either` meets its contract. Assumes nothing.
 use borrow.Author.Tests.{eq-eqb, ne_eqb}
-use borrow.Author.Rules.{rules}
 use Rattle.scene_records.proofs.steps.is_either.Goals as goal
 
 pub returns-then-byte-eq-VERSION : goal.returns-then-byte-eq-VERSION

@@ -1,6 +1,5 @@
 -- `scene_records::steps::number_at` meets its contract. Assumes nothing.
 use Rattle.scene_records.proofs.FieldLaws.{number_read}
-use borrow.Author.Rules.{rules}
 use Rattle.scene_records.proofs.steps.number_at.Goals as goal
 
 pub returns : goal.returns

@@ -1,5 +1,4 @@
 -- `scene_records::steps::passes` meets its contract. Assumes nothing.
-use borrow.Author.Rules.{rules}
 use Rattle.scene_records.proofs.steps.passes.Goals as goal
 
 pub returns-in-Within : goal.returns-in-Within

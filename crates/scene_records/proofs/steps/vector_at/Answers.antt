@@ -1,6 +1,5 @@
 -- `scene_records::steps::vector_at` meets its contract. Assumes nothing.
 use Rattle.scene_records.proofs.FieldLaws.{vector-read}
-use borrow.Author.Rules.{rules}
 use Rattle.scene_records.proofs.steps.vector_at.Goals as goal
 
 pub returns : goal.returns

@@ -1,6 +1,5 @@
 -- `scene_records::steps::version_at` meets its contract. Assumes nothing.
 use Rattle.scene_records.proofs.FieldLaws.{version-read}
-use borrow.Author.Rules.{rules}
 use Rattle.scene_records.proofs.steps.version_at.Goals as goal
 
 pub returns : goal.returns

@@ -2,7 +2,6 @@
 use Rattle.scene_records.specs.Parts.{head_as}
 use Rattle.scene_records.proofs.FieldLaws.{head_read}
 use Rattle.scene_records.proofs.Cursors.{made-here, made_fault}
-use borrow.Author.Rules.{rules}
 use Rattle.scene_records.proofs.walls.head_at.Goals as goal
 
 pub returns-in-At : goal.returns-in-At

@@ -1,12 +1,8 @@
-use Prim.Native.Nat.{◌-◌, ◌≤◌}
-use mathlib.Core.Path.{◌≡◌, refl, sym, ◌∙◌}
+use mathlib.Core.Path.{refl, sym, ◌∙◌}
 use native.Mathlib.Nat.{sub-zero}
 use native.Mathlib.Omega.{arith}
-use lib.ListN.{length, length-set}
-use Rattle.scene_records.specs.Parts.{obstacles, walls, stored_walls}
-use Rattle.scene_records.specs.Steps.{from}
+use lib.ListN.{length-set}
 use Rattle.scene_records.proofs.WallLaws.{head-known, head-fits, walls-done, walls-next}
-use borrow.Author.Rules.{rules}
 use Rattle.scene_records.proofs.walls.obstacles_at.Goals as goal
 
 pub loop-i-init : goal.loop-i-init

@@ -1,14 +1,10 @@
 -- `scene_records::walls::obstacles_at` meets its contract. The invariant: what is stored and what is still to be read
 -- make up the whole. Assumes nothing.
 use Prim.Native.Nat.{◌-◌, ◌≤◌}
-use mathlib.Core.Path.{◌≡◌, refl, sym, ◌∙◌}
-use native.Mathlib.Nat.{sub-zero}
-use native.Mathlib.Omega.{arith}
-use lib.ListN.{length, length-set}
+use mathlib.Core.Path.{◌≡◌}
+use lib.ListN.{length}
 use Rattle.scene_records.specs.Parts.{obstacles, walls, stored_walls}
 use Rattle.scene_records.specs.Steps.{from}
-use Rattle.scene_records.proofs.WallLaws.{head-known, head-fits, walls-done, walls-next}
-use borrow.Author.Rules.{rules}
 use Rattle.scene_records.proofs.walls.obstacles_at.Given as goal
 
 abbrev pub invariant-loop-i : goal.invariant-loop-i

@@ -3,7 +3,6 @@ use Prim.Native.Nat.{◌+◌, ◌-◌, ◌*◌}
 use mathlib.Core.Path.{◌≡◌}
 use native.Mathlib.Omega.{arith}
 use Rattle.scene_records.proofs.WallLaws.{outline-stored}
-use borrow.Author.Rules.{rules}
 use Rattle.scene_records.proofs.walls.outline_at.Goals as goal
 
 pub returns : goal.returns

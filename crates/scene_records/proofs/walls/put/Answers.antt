@@ -3,7 +3,6 @@ use mathlib.Core.Path.{refl}
 use native.Mathlib.Numerals.{add-one}
 use native.Mathlib.Omega.{arith}
 use lib.ListN.{length-set}
-use borrow.Author.Rules.{rules}
 use Rattle.scene_records.proofs.walls.put.Goals as goal
 
 pub bounds-vertices-k-2 : goal.bounds-vertices-k-2

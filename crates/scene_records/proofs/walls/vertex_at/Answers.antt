@@ -1,6 +1,5 @@
 -- `scene_records::walls::vertex_at` meets its contract. Assumes nothing.
 use Rattle.scene_records.proofs.FieldLaws.{vertex-read}
-use borrow.Author.Rules.{rules}
 use Rattle.scene_records.proofs.walls.vertex_at.Goals as goal
 
 pub returns : goal.returns

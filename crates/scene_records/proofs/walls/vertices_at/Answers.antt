@@ -1,14 +1,10 @@
-use Prim.Native.Nat.{◌+◌, ◌-◌, ◌*◌, ◌≤◌}
-use mathlib.Core.Path.{◌≡◌, refl, sym, ◌∙◌}
+use mathlib.Core.Path.{refl, sym, ◌∙◌}
 use native.Mathlib.Nat.{add-zero, sub-zero}
 use native.Mathlib.Omega.{arith}
-use lib.ListN.{length}
 use Rattle.edges.specs.Read.{outer_of}
-use Rattle.obstacles.specs.Doubled.{none_before, on_vertex}
-use Rattle.scene_records.specs.Parts.{coordinates, vertex, vertices_at, stored}
-use Rattle.scene_records.specs.Steps.{from}
+use Rattle.obstacles.specs.Doubled.{on_vertex}
+use Rattle.scene_records.specs.Parts.{coordinates, vertex, vertices_at}
 use Rattle.scene_records.proofs.StoredLaws.{stored-done, stored_next}
-use borrow.Author.Rules.{rules}
 use Rattle.scene_records.proofs.walls.vertices_at.Goals as goal
 
 pub loop-i-init : goal.loop-i-init

@@ -1,16 +1,12 @@
 -- `scene_records::walls::vertices_at` meets its contract. The invariant: what is stored and what is still to be read
 -- make up the whole. Assumes nothing.
 use Prim.Native.Nat.{◌+◌, ◌-◌, ◌*◌, ◌≤◌}
-use mathlib.Core.Path.{◌≡◌, refl, sym, ◌∙◌}
-use native.Mathlib.Nat.{add-zero, sub-zero}
-use native.Mathlib.Omega.{arith}
+use mathlib.Core.Path.{◌≡◌}
 use lib.ListN.{length}
 use Rattle.edges.specs.Read.{outer_of}
-use Rattle.obstacles.specs.Doubled.{none_before, on_vertex}
-use Rattle.scene_records.specs.Parts.{coordinates, vertex, vertices_at, stored}
+use Rattle.obstacles.specs.Doubled.{none_before}
+use Rattle.scene_records.specs.Parts.{coordinates, vertices_at, stored}
 use Rattle.scene_records.specs.Steps.{from}
-use Rattle.scene_records.proofs.StoredLaws.{stored-done, stored_next}
-use borrow.Author.Rules.{rules}
 use Rattle.scene_records.proofs.walls.vertices_at.Given as goal
 
 abbrev pub invariant-loop-i : goal.invariant-loop-i

@@ -1,6 +1,5 @@
 -- `scene_writer::judge::judge_cart` meets its contract. Assumes nothing.
 use Rattle.scene_writer.specs.Writing.{cart_fault}
-use borrow.Author.Rules.{rules}
 use Rattle.scene_writer.proofs.judge.judge_cart.Goals as goal
 
 pub returns : goal.returns

@@ -1,7 +1,6 @@
 -- `scene_writer::judge::judge_line` meets its contract. Assumes nothing.
 use lib.Seq.{drop-drop, get_or-drop}
 use Rattle.scene_writer.specs.Writing.{lent_line_fault}
-use borrow.Author.Rules.{rules}
 use Rattle.scene_writer.proofs.judge.judge_line.Goals as goal
 
 pub returns : goal.returns

@@ -1,11 +1,7 @@
-use Prim.Native.Nat.{◌-◌, ◌*◌, ◌≤◌}
-use mathlib.Core.Path.{◌≡◌, sym, ◌∙◌}
+use mathlib.Core.Path.{sym, ◌∙◌}
 use native.Mathlib.Omega.{arith}
 use native.Mathlib.Nat.{sub-zero}
-use lib.ListN.{drop}
-use Rattle.scene_writer.specs.Writing.{lent_lines_fault}
 use Rattle.scene_writer.proofs.LinesInOrder.{line_on, line-stop, lines-done, too_many, few}
-use borrow.Author.Rules.{rules}
 use Rattle.scene_writer.proofs.judge.judge_neighbours.Goals as goal
 
 pub returns-then-neighbours-gt-MOST_NEIGHBOURS : goal.returns-then-neighbours-gt-MOST_NEIGHBOURS

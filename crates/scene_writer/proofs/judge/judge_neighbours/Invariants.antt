@@ -1,12 +1,8 @@
 -- `scene_writer::judge::judge_neighbours` meets its contract. The invariant: the lines before i pass. Assumes nothing.
 use Prim.Native.Nat.{◌-◌, ◌*◌, ◌≤◌}
-use mathlib.Core.Path.{◌≡◌, sym, ◌∙◌}
-use native.Mathlib.Omega.{arith}
-use native.Mathlib.Nat.{sub-zero}
+use mathlib.Core.Path.{◌≡◌}
 use lib.ListN.{drop}
 use Rattle.scene_writer.specs.Writing.{lent_lines_fault}
-use Rattle.scene_writer.proofs.LinesInOrder.{line_on, line-stop, lines-done, too_many, few}
-use borrow.Author.Rules.{rules}
 use Rattle.scene_writer.proofs.judge.judge_neighbours.Given as goal
 
 abbrev pub invariant-loop-i : goal.invariant-loop-i

@@ -2,7 +2,6 @@
 use mathlib.Core.Path.{sym}
 use lib.ListN.{get_or-eq_default}
 use lib.Ieee.{nan, div, of_bits}
-use borrow.Author.Rules.{rules}
 use Rattle.scene_writer.proofs.judge.number_at.Goals as goal
 
 pub returns : goal.returns

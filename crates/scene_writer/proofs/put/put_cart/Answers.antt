@@ -1,6 +1,5 @@
 -- `scene_writer::put::put_cart` meets its contract. Assumes nothing.
 use Rattle.scene_writer.proofs.PutLaws.{cart-put}
-use borrow.Author.Rules.{rules}
 use Rattle.scene_writer.proofs.put.put_cart.Goals as goal
 
 pub returns : goal.returns

@@ -4,7 +4,6 @@ use lib.Seq.{sets}
 use Rattle.fields.specs.Bytes.{big_endian}
 use Rattle.fields.proofs.WordLaws.{word-stored}
 use Rattle.scene_records.specs.SceneBytes.{number_bytes}
-use borrow.Author.Rules.{rules}
 use Rattle.scene_writer.proofs.put.put_number.Goals as goal
 
 pub returns : goal.returns

@@ -1,10 +1,6 @@
-use Prim.Native.Nat.{◌+◌, ◌-◌, ◌*◌, ◌≤◌}
-use mathlib.Core.Path.{◌≡◌, refl, sym, ◌∙◌}
+use mathlib.Core.Path.{refl, sym, ◌∙◌}
 use native.Mathlib.Omega.{arith}
-use lib.ListN.{length}
-use lib.Seq.{sets}
-use Rattle.scene_writer.proofs.PutLaws.{run, turn-start, turn_end, turn-next}
-use borrow.Author.Rules.{rules}
+use Rattle.scene_writer.proofs.PutLaws.{turn-start, turn_end, turn-next}
 use Rattle.scene_writer.proofs.put.put_numbers.Goals as goal
 
 pub loop-k-init : goal.loop-k-init

@@ -1,12 +1,10 @@
 -- `scene_writer::put::put_numbers` meets its contract. The invariant: what is put and what is still to be put make up
 -- the whole. Assumes nothing.
 use Prim.Native.Nat.{◌+◌, ◌-◌, ◌*◌, ◌≤◌}
-use mathlib.Core.Path.{◌≡◌, refl, sym, ◌∙◌}
-use native.Mathlib.Omega.{arith}
+use mathlib.Core.Path.{◌≡◌}
 use lib.ListN.{length}
 use lib.Seq.{sets}
-use Rattle.scene_writer.proofs.PutLaws.{run, turn-start, turn_end, turn-next}
-use borrow.Author.Rules.{rules}
+use Rattle.scene_writer.proofs.PutLaws.{run}
 use Rattle.scene_writer.proofs.put.put_numbers.Given as goal
 
 abbrev pub invariant-loop-k : goal.invariant-loop-k

@@ -1,6 +1,5 @@
 -- `scene_writer::put::put_obstacle` meets its contract. Assumes nothing.
 use Rattle.scene_writer.proofs.PutLaws.{obstacle-put}
-use borrow.Author.Rules.{rules}
 use Rattle.scene_writer.proofs.put.put_obstacle.Goals as goal
 
 pub returns : goal.returns

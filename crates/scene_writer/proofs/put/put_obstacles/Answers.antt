@@ -1,13 +1,10 @@
-use Prim.Native.Nat.{◌+◌, ◌-◌, ◌*◌, ◌≤◌}
-use mathlib.Core.Path.{◌≡◌, refl, sym, ◌∙◌}
+use Prim.Native.Nat.{◌+◌, ◌*◌, ◌≤◌}
+use mathlib.Core.Path.{refl, sym, ◌∙◌}
 use native.Mathlib.Omega.{arith}
 use native.Mathlib.Nat.{sub-zero}
-use lib.ListN.{length, drop, get_or}
-use lib.Seq.{sets}
-use Rattle.layouts.specs.Layouts.{vertex_total}
+use lib.ListN.{length, get_or}
 use Rattle.layouts.proofs.LentInOrder.{total-on}
-use Rattle.scene_writer.proofs.PutLaws.{wall_bytes, wall_place, wall-next, walls-end}
-use borrow.Author.Rules.{rules}
+use Rattle.scene_writer.proofs.PutLaws.{wall-next, walls-end}
 use Rattle.scene_writer.proofs.put.put_obstacles.Goals as goal
 
 pub loop-i-init : goal.loop-i-init

@@ -1,15 +1,11 @@
 -- `scene_writer::put::put_obstacles` meets its contract. The invariant: what is put and what is still to be put make up
 -- the whole. Assumes nothing.
 use Prim.Native.Nat.{◌+◌, ◌-◌, ◌*◌, ◌≤◌}
-use mathlib.Core.Path.{◌≡◌, refl, sym, ◌∙◌}
-use native.Mathlib.Omega.{arith}
-use native.Mathlib.Nat.{sub-zero}
-use lib.ListN.{length, drop, get_or}
+use mathlib.Core.Path.{◌≡◌}
+use lib.ListN.{length, drop}
 use lib.Seq.{sets}
 use Rattle.layouts.specs.Layouts.{vertex_total}
-use Rattle.layouts.proofs.LentInOrder.{total-on}
-use Rattle.scene_writer.proofs.PutLaws.{wall_bytes, wall_place, wall-next, walls-end}
-use borrow.Author.Rules.{rules}
+use Rattle.scene_writer.proofs.PutLaws.{wall_bytes, wall_place}
 use Rattle.scene_writer.proofs.put.put_obstacles.Given as goal
 
 abbrev pub invariant-loop-i : goal.invariant-loop-i

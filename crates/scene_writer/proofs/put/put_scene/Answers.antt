@@ -6,7 +6,6 @@ use lib.ListN.{length}
 use lib.Seq.{sets, take-length}
 use Rattle.fields.proofs.WordLaws.{pair-stored}
 use Rattle.scene_writer.proofs.Accepted.{Fits, scene-put}
-use borrow.Author.Rules.{rules}
 use Rattle.scene_writer.proofs.put.put_scene.Goals as goal
 
 pub returns : goal.returns

@@ -1,6 +1,5 @@
 -- `scene_writer::put::put_vector` meets its contract. Assumes nothing.
 use Rattle.scene_writer.proofs.PutLaws.{vector-put}
-use borrow.Author.Rules.{rules}
 use Rattle.scene_writer.proofs.put.put_vector.Goals as goal
 
 pub returns : goal.returns

@@ -1,6 +1,5 @@
 -- `session::Session::batch` meets its contract. Assumes nothing.
 use Rattle.session.specs.Batches.{fed_as}
-use Rattle.std.proofs.Common.{rules}
 use Rattle.session.proofs.Session.batch.Goals as goal
 
 pub returns : goal.returns

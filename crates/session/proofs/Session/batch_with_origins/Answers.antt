@@ -2,7 +2,6 @@
 use Rattle.session.specs.Batches.{fed_with}
 use Rattle.session.proofs.BatchWork.{batch-counts}
 use Rattle.session.proofs.HandedLaws.{continues-by}
-use Rattle.std.proofs.Common.{rules}
 use Rattle.session.proofs.Session.batch_with_origins.Goals as goal
 
 pub returns-in-Fault : goal.returns-in-Fault

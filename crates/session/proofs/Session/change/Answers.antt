@@ -1,6 +1,5 @@
 -- `session::Session::change` meets its contract. Assumes nothing.
 use Rattle.session.proofs.ChangeWork.{change-fits, change-refused, changed-right}
-use Rattle.std.proofs.Common.{rules}
 use Rattle.session.proofs.Session.change.Goals as goal
 
 pub returns-in-Fault : goal.returns-in-Fault

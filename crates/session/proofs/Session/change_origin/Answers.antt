@@ -1,5 +1,5 @@
 -- `session::Session::change_origin` meets its contract. Assumes nothing.
-use Rattle.std.proofs.Common.{◌-◌, arith, rules}
+use Rattle.std.proofs.Common.{◌-◌, arith}
 use Rattle.session.proofs.ChangeWork.{origin-over, origin-right}
 use Rattle.session.proofs.Session.change_origin.Goals as goal
 

@@ -2,7 +2,6 @@
 use Rattle.session.specs.Sessions.{started_as}
 use Rattle.linear_programming.proofs.Agreement.{phase-back, failed-back}
 use Rattle.session.proofs.StartLaws.{begins-by}
-use Rattle.std.proofs.Common.{rules}
 use Rattle.session.proofs.Session.start.Goals as goal
 
 pub returns-in-Stands : goal.returns-in-Stands

@@ -1,5 +1,5 @@
 -- `session::Session::withdraw` meets its contract. Assumes nothing.
-use Rattle.std.proofs.Common.{arith, rules}
+use Rattle.std.proofs.Common.{arith}
 use Rattle.session.proofs.WithdrawalWork.{below-count, withdrawal-refused, withdrawn-right}
 use Rattle.session.proofs.Session.withdraw.Goals as goal
 
