@@ -23,22 +23,23 @@ wish_fault wish limit = must (within reach wish.x) 6 ⊳ must (within reach wish
 
 -- ---- the single call
 
+-- a complete list of lines: 4; wish and limit; lines; then the rules, whose first word is the starting point's (9)
+unfoldable pub judged_list : ℕ → Vec2 → Float → List Line → Outcome
+judged_list rigid wish limit lines =
+    (must (leb (length lines) most_lines) 4 ⊳ wish_fault wish limit ⊳ lines_fault lines) ⟫ whole_list rigid wish limit lines
+
 -- "four numbers a line, else 2"
 abbrev pub fours : List Float → Fault
 fours xs = must (eqb (length xs % 4) 0) 2
-
--- then a complete list of lines: 4
-abbrev pub few : List Line → Fault
-few lines = must (leb (length lines) most_lines) 4
-
--- then wish and limit; lines; then the rules, whose first word is the starting point's (9)
-unfoldable pub judged_list : ℕ → Vec2 → Float → List Line → Outcome
-judged_list rigid wish limit lines = (few lines ⊳ wish_fault wish limit ⊳ lines_fault lines) ⟫ whole_list rigid wish limit lines
 
 unfoldable pub list_call : ℕ → Vec2 → Float → List Float → Outcome
 list_call rigid wish limit xs = fours xs ⟫ judged_list rigid wish limit (lines_of xs)
 
 -- ---- the call of a list that is known to be admitted: how many numbers there are, then the rules
+
+-- a complete list of lines: 4
+abbrev pub few : List Line → Fault
+few lines = must (leb (length lines) most_lines) 4
 
 unfoldable pub count_fault : List Float → Fault
 count_fault xs = fours xs ⊳ few (lines_of xs)
