@@ -247,14 +247,10 @@ fn library(root: &Path, script: &Script) {
     assert!(output.stdout == script.output, "the library answers otherwise");
 }
 
-/// The program under strace, by which its calls are counted, or something is done at one of them. Elsewhere than on
-/// x86-64 the kit's emulator runs it (tools/build notes how), and makes its calls: then those that the emulator makes
-/// to begin with count too.
+/// The program under strace, by which its calls are counted, or something is done at one of them.
 fn traced(room: &Room, words: &[&str], what: &str, to: &Path) -> Output {
-    let emulator = fs::read_to_string(room.root.join("target/run/emulator")).unwrap_or_default();
     Command::new("strace")
         .args(["-qq", "-o", &text(to), "-e", what])
-        .args(emulator.split_whitespace())
         .arg(room.root.join("target/bin/fallbacks"))
         .args(words)
         .output()
@@ -270,8 +266,7 @@ fn names(call: &str) -> String {
     }
 }
 
-/// How often such a call is made before the program first names one of its files, by the loader and the emulator, and how
-/// often in all.
+/// How often such a call is made before the program first names one of its files, by the loader, and how often in all.
 fn calls(room: &Room, words: &[&str], call: &str) -> (usize, usize) {
     let trace = room.record.with_extension("trace");
     let all: Vec<String> = CALLS.iter().map(|call| names(call)).collect();
