@@ -1,5 +1,6 @@
 -- `comparison::next_place` meets its contract. Assumes nothing.
 use borrow.Author.Tests.{lt-ltb, le-ltb}
+use Rattle.arithmetic.specs.Binary32.{if◌then◌else◌}
 use Rattle.comparison.specs.Comparing.{next_place}
 use Rattle.comparison.proofs.next_place.Goals as goal
 

@@ -1,4 +1,5 @@
 -- `edges::get_line_for_agent_to_edge` meets its contract. Assumes nothing.
+use Rattle.arithmetic.specs.Binary32.{if◌then◌else◌}
 use Rattle.edges.specs.EdgeLines.{line_for_edge}
 use Rattle.edges.proofs.get_line_for_agent_to_edge.Goals as goal
 

@@ -1,6 +1,7 @@
 -- `obstacles::edge_count` meets its contract. Assumes nothing.
 use borrow.Author.Tests.{eq-eqb, ne_eqb}
 use native.Mathlib.Omega.{arith}
+use Rattle.arithmetic.specs.Binary32.{if◌then◌else◌}
 use Rattle.obstacles.specs.Obstacles.{edge_count}
 use Rattle.obstacles.proofs.edge_count.Goals as goal
 

@@ -1,6 +1,7 @@
 -- `obstacles::edge_ends` meets its contract. Assumes nothing.
 use native.Mathlib.Omega.{arith}
 use borrow.Author.Tests.{lt-ltb, le-ltb}
+use Rattle.arithmetic.specs.Binary32.{if◌then◌else◌}
 use Rattle.obstacles.specs.Vertices.{edge_vertex_at, edge_at}
 use Rattle.obstacles.specs.Obstacles.{ends_of}
 use Rattle.obstacles.proofs.EdgesInOrder.{few-counted}

@@ -1,6 +1,7 @@
 -- `obstacles::get_line_alone` meets its contract. Assumes nothing.
 use native.Mathlib.Omega.{arith}
 use borrow.Author.Tests.{lt-ltb, le-ltb}
+use Rattle.arithmetic.specs.Binary32.{if◌then◌else◌}
 use Rattle.obstacles.specs.Obstacles.{line_alone}
 use Rattle.obstacles.proofs.EdgesInOrder.{few-counted}
 use Rattle.obstacles.proofs.get_line_alone.Goals as goal

@@ -2,6 +2,7 @@
 use mathlib.Core.Path.{sym, ◌∙◌}
 use lib.ListN.{take}
 use borrow.Author.Tests.{lt-leb}
+use Rattle.arithmetic.specs.Binary32.{if◌then◌else◌}
 use Rattle.lines.specs.Lines.{lines_of}
 use Rattle.lines.proofs.Fold.{count-taken}
 use Rattle.lines.proofs.Rows.{count_fits}

@@ -1,5 +1,6 @@
 -- `plain_numbers::cause_in` meets its contract. Assumes nothing.
 use borrow.Author.Tests.{eq-eqb, ne_eqb}
+use Rattle.arithmetic.specs.Binary32.{if◌then◌else◌}
 use Rattle.plain_numbers.specs.Kinds.{cause_in}
 use Rattle.plain_numbers.proofs.cause_in.Goals as goal
 

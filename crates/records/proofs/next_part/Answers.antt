@@ -1,5 +1,6 @@
 -- `records::next_part` meets its contract. Assumes nothing.
 use borrow.Author.Tests.{lt-ltb, le-ltb}
+use Rattle.arithmetic.specs.Binary32.{if◌then◌else◌}
 use Rattle.records.specs.Parts.{part_in}
 use Rattle.records.proofs.next_part.Goals as goal
 

@@ -1,5 +1,6 @@
 -- `session::lower` meets its contract. Assumes nothing.
 use Rattle.std.proofs.Common.{le-ltb, lt-ltb}
+use Rattle.arithmetic.specs.Binary32.{if◌then◌else◌}
 use Rattle.session.specs.Withdrawals.{lowered}
 use Rattle.session.proofs.lower.Goals as goal
 

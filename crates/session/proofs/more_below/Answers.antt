@@ -1,5 +1,6 @@
 -- `session::more_below` meets its contract. Assumes nothing.
 use Rattle.std.proofs.Common.{add-zero, le-ltb, lt-ltb}
+use Rattle.arithmetic.specs.Binary32.{if◌then◌else◌}
 use Rattle.session.proofs.more_below.Goals as goal
 
 pub returns-then-next-rigid : goal.returns-then-next-rigid

@@ -1,5 +1,6 @@
 -- `session::name` meets its contract. Assumes nothing.
 use Rattle.std.proofs.Common.{le-ltb, lt-ltb}
+use Rattle.arithmetic.specs.Binary32.{if◌then◌else◌}
 use Rattle.session.specs.Meeting.{named}
 use Rattle.session.proofs.name.Goals as goal
 

@@ -1,5 +1,6 @@
 -- `conversion::flow::last_stage` meets its contract. Assumes nothing.
 use Rattle.std.proofs.Common.{eq-eqb, ne_eqb}
+use Rattle.arithmetic.specs.Binary32.{if◌then◌else◌}
 use Rattle.conversion.specs.Streams.{last_stage}
 use Rattle.conversion.proofs.flow.last_stage.Goals as goal
 

@@ -1,4 +1,5 @@
 -- `edges::collision::corner_line` meets its contract. Assumes nothing.
+use Rattle.arithmetic.specs.Binary32.{if◌then◌else◌}
 use Rattle.edges.specs.Collision.{corner_line}
 use Rattle.edges.proofs.collision.corner_line.Goals as goal
 

@@ -1,4 +1,5 @@
 -- `edges::collision::right_corner_line` meets its contract. Assumes nothing.
+use Rattle.arithmetic.specs.Binary32.{if◌then◌else◌}
 use Rattle.edges.specs.Collision.{right_corner_line}
 use Rattle.edges.proofs.collision.right_corner_line.Goals as goal
 

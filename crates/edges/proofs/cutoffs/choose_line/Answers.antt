@@ -1,4 +1,5 @@
 -- `edges::cutoffs::choose_line` meets its contract. Assumes nothing.
+use Rattle.arithmetic.specs.Binary32.{if◌then◌else◌}
 use Rattle.edges.specs.Cutoffs.{choose_line}
 use Rattle.edges.proofs.cutoffs.choose_line.Goals as goal
 

@@ -1,5 +1,6 @@
 -- `edges::cutoffs::distance_unless` meets its contract. Assumes nothing.
 use lib.Ieee.{div, of_bits}
+use Rattle.arithmetic.specs.Binary32.{if◌then◌else◌}
 use Rattle.edges.specs.Cutoffs.{distance_unless}
 use Rattle.edges.proofs.cutoffs.distance_unless.Goals as goal
 

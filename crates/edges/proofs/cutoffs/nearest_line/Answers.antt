@@ -1,4 +1,5 @@
 -- `edges::cutoffs::nearest_line` meets its contract. Assumes nothing.
+use Rattle.arithmetic.specs.Binary32.{if◌then◌else◌}
 use Rattle.edges.specs.Cutoffs.{nearest_line}
 use Rattle.edges.proofs.cutoffs.nearest_line.Goals as goal
 

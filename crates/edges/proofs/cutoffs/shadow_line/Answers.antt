@@ -1,4 +1,5 @@
 -- `edges::cutoffs::shadow_line` meets its contract. Assumes nothing.
+use Rattle.arithmetic.specs.Binary32.{if◌then◌else◌}
 use Rattle.edges.specs.Cutoffs.{shadow_line, beside_shadow}
 use Rattle.edges.proofs.cutoffs.shadow_line.Goals as goal
 

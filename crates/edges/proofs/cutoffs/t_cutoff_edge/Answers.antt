@@ -1,4 +1,5 @@
 -- `edges::cutoffs::t_cutoff_edge` meets its contract. Assumes nothing.
+use Rattle.arithmetic.specs.Binary32.{if◌then◌else◌}
 use Rattle.edges.specs.Cutoffs.{t_cutoff}
 use Rattle.edges.proofs.cutoffs.t_cutoff_edge.Goals as goal
 

@@ -1,4 +1,5 @@
 -- `edges::in_front::line_in_front` meets its contract. Assumes nothing.
+use Rattle.arithmetic.specs.Binary32.{if◌then◌else◌}
 use Rattle.edges.specs.EdgeLines.{line_in_front}
 use Rattle.edges.proofs.in_front.line_in_front.Goals as goal
 

@@ -1,4 +1,5 @@
 -- `edges::in_front::line_of_vertex` meets its contract. Assumes nothing.
+use Rattle.arithmetic.specs.Binary32.{if◌then◌else◌}
 use Rattle.edges.specs.EdgeLines.{line_of_vertex}
 use Rattle.edges.proofs.in_front.line_of_vertex.Goals as goal
 

@@ -1,4 +1,5 @@
 -- `edges::shadows::shadow_beside` meets its contract. Assumes nothing.
+use Rattle.arithmetic.specs.Binary32.{if◌then◌else◌}
 use Rattle.edges.specs.Shadows.{shadow_beside}
 use Rattle.edges.proofs.shadows.shadow_beside.Goals as goal
 

@@ -1,4 +1,5 @@
 -- `edges::shadows::shadow_direction` meets its contract. Assumes nothing.
+use Rattle.arithmetic.specs.Binary32.{if◌then◌else◌}
 use Rattle.edges.specs.Shadows.{side_direction, extended}
 use Rattle.edges.proofs.shadows.shadow_direction.Goals as goal
 

@@ -1,6 +1,7 @@
 -- `linear_programming::solve_list::after_pass` meets its contract. Assumes nothing.
 use mathlib.Core.Path.{◌∙◌}
 use borrow.Author.Tests.{lt-ltb, le-ltb}
+use Rattle.arithmetic.specs.Binary32.{if◌then◌else◌}
 use Rattle.lines.specs.Lines.{lines_of}
 use Rattle.lines.proofs.Fold.{taken-most}
 use Rattle.relaxation.proofs.CallLaws.{relaxed-most}

@@ -1,6 +1,7 @@
 -- `obstacles::vertices::next_index` meets its contract. Assumes nothing.
 use borrow.Author.Tests.{eq-eqb, ne_eqb}
 use native.Mathlib.Omega.{arith}
+use Rattle.arithmetic.specs.Binary32.{if◌then◌else◌}
 use Rattle.obstacles.specs.Vertices.{next_of}
 use Rattle.obstacles.proofs.vertices.next_index.Goals as goal
 

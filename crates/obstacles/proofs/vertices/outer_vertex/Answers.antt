@@ -1,5 +1,6 @@
 -- `obstacles::vertices::outer_vertex` meets its contract. Assumes nothing.
 use borrow.Author.Tests.{eq-eqb, ne_eqb}
+use Rattle.arithmetic.specs.Binary32.{if◌then◌else◌}
 use Rattle.obstacles.specs.Vertices.{outer_at}
 use Rattle.obstacles.proofs.vertices.outer_vertex.Goals as goal
 

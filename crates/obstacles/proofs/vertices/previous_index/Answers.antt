@@ -1,6 +1,7 @@
 -- `obstacles::vertices::previous_index` meets its contract. Assumes nothing.
 use borrow.Author.Tests.{eq-eqb, ne_eqb}
 use native.Mathlib.Omega.{arith}
+use Rattle.arithmetic.specs.Binary32.{if◌then◌else◌}
 use Rattle.obstacles.specs.Vertices.{previous_of}
 use Rattle.obstacles.proofs.vertices.previous_index.Goals as goal
 

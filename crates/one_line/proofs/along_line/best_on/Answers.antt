@@ -1,4 +1,5 @@
 -- `one_line::along_line::best_on` meets its contract. Assumes nothing.
+use Rattle.arithmetic.specs.Binary32.{if◌then◌else◌}
 use Rattle.one_line.specs.OneLine.{choose}
 use Rattle.one_line.proofs.along_line.best_on.Goals as goal
 

@@ -1,4 +1,5 @@
 -- `one_line::along_line::circle_interval` meets its contract. Assumes nothing.
+use Rattle.arithmetic.specs.Binary32.{if◌then◌else◌}
 use Rattle.one_line.specs.OneLine.{chord}
 use Rattle.one_line.proofs.along_line.circle_interval.Goals as goal
 

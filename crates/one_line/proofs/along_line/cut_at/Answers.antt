@@ -1,4 +1,5 @@
 -- `one_line::along_line::cut_at` meets its contract. Assumes nothing.
+use Rattle.arithmetic.specs.Binary32.{if◌then◌else◌}
 use Rattle.one_line.specs.OneLine.{cut}
 use Rattle.one_line.proofs.along_line.cut_at.Goals as goal
 

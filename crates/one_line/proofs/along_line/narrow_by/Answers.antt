@@ -1,4 +1,5 @@
 -- `one_line::along_line::narrow_by` meets its contract. Assumes nothing.
+use Rattle.arithmetic.specs.Binary32.{if◌then◌else◌}
 use Rattle.admission.specs.Faults.{within}
 use Rattle.one_line.specs.OneLine.{narrow}
 use Rattle.one_line.proofs.along_line.narrow_by.Goals as goal

@@ -1,4 +1,5 @@
 -- `one_line::along_line::unless_fails` meets its contract. Assumes nothing.
+use Rattle.arithmetic.specs.Binary32.{if◌then◌else◌}
 use Rattle.one_line.specs.OneLine.{unless_fails}
 use Rattle.one_line.proofs.along_line.unless_fails.Goals as goal
 

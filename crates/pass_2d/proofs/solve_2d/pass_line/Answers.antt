@@ -1,4 +1,5 @@
 -- `pass_2d::solve_2d::pass_line` meets its contract. In each need `s` is where the one-line solve has answered. Assumes nothing.
+use Rattle.arithmetic.specs.Binary32.{if◌then◌else◌}
 use native.Mathlib.Omega.{arith}
 use lib.Seq.{length-take-le}
 use Rattle.lines.specs.Lines.{lines_of}

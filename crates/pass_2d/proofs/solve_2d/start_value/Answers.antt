@@ -1,4 +1,5 @@
 -- `pass_2d::solve_2d::start_value` meets its contract. Assumes nothing.
+use Rattle.arithmetic.specs.Binary32.{if◌then◌else◌}
 use Rattle.pass_2d.specs.Pass.{start}
 use Rattle.pass_2d.proofs.solve_2d.start_value.Goals as goal
 

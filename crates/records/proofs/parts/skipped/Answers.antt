@@ -1,5 +1,6 @@
 -- `records::parts::skipped` meets its contract. Assumes nothing.
 use borrow.Author.Tests.{eq-eqb, ne_eqb, lt-ltb, le-ltb}
+use Rattle.arithmetic.specs.Binary32.{if◌then◌else◌}
 use Rattle.records.specs.Parts.{skipped_of}
 use Rattle.records.proofs.parts.skipped.Goals as goal
 

@@ -1,5 +1,6 @@
 -- `relaxation::solve_3d::after_inner` meets its contract. Assumes nothing.
 use native.Mathlib.Omega.{arith}
+use Rattle.arithmetic.specs.Binary32.{if◌then◌else◌}
 use Rattle.relaxation.specs.Relax.{replaced}
 use Rattle.relaxation.proofs.solve_3d.after_inner.Goals as goal
 

@@ -3,6 +3,7 @@ use mathlib.Core.Path.{◌∙◌}
 use native.Mathlib.Omega.{arith}
 use lib.ListN.{take, length-take}
 use lib.Seq.{length-take-le}
+use Rattle.arithmetic.specs.Binary32.{if◌then◌else◌}
 use Rattle.lines.specs.Lines.{lines_of}
 use Rattle.relaxation.specs.Relax.{relax_line}
 use Rattle.relaxation.proofs.RelaxedProbes.{inner-solve-most}

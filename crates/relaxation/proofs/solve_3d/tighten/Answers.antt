@@ -1,4 +1,5 @@
 -- `relaxation::solve_3d::tighten` meets its contract. Assumes nothing.
+use Rattle.arithmetic.specs.Binary32.{if◌then◌else◌}
 use Rattle.admission.specs.Faults.{within}
 use Rattle.relaxation.specs.Relax.{tighten}
 use Rattle.relaxation.proofs.solve_3d.tighten.Goals as goal
