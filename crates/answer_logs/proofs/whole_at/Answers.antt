@@ -1,5 +1,6 @@
 -- `answer_logs::whole_at` meets its contract. Assumes nothing.
 use mathlib.Core.Path.{sym, ◌∙◌}
+use Rattle.arithmetic.specs.Binary32.{if◌then◌else◌}
 use Rattle.answer_logs.specs.Logs.{logged_at}
 use Rattle.answer_logs.specs.Parts.{found_whole, whole_at}
 use Rattle.answer_logs.proofs.whole_at.Goals as goal

@@ -1,6 +1,7 @@
 -- `answer_records::length_of_code` meets its contract. Assumes nothing.
 use Rattle.std.proofs.Common.{◌≡◌, arith, ne_eqb, le-leb}
 use borrow.Author.Tests.{lt-leb}
+use Rattle.arithmetic.specs.Binary32.{if◌then◌else◌}
 use Rattle.answer_records.specs.Replies.{length_of_code}
 use Rattle.answer_records.proofs.length_of_code.Goals as goal
 

@@ -1,5 +1,6 @@
 -- `answer_records::read_answer` meets its contract. Assumes nothing.
 use Rattle.std.proofs.Common.{sym, ◌∙◌, arith, eq-eqb, ne_eqb}
+use Rattle.arithmetic.specs.Binary32.{if◌then◌else◌}
 use Rattle.answer_records.specs.Replies.{answer_in}
 use Rattle.answer_records.proofs.ReplyLaws.{code-there, refusal-coded}
 use Rattle.answer_records.proofs.read_answer.Goals as goal

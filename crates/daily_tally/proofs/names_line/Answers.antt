@@ -1,5 +1,6 @@
 -- `daily_tally::names_line` meets its contract. Assumes nothing.
 use Rattle.std.proofs.Common.{eq-eqb, ne_eqb}
+use Rattle.arithmetic.specs.Binary32.{if◌then◌else◌}
 use Rattle.daily_tally.specs.Figures.{one}
 use Rattle.daily_tally.specs.Adding.{names_line}
 use Rattle.daily_tally.proofs.names_line.Goals as goal

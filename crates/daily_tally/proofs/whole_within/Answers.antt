@@ -1,5 +1,6 @@
 -- `daily_tally::whole_within` meets its contract. Assumes nothing.
 use Rattle.std.proofs.Common.{le-ltb, lt-ltb}
+use Rattle.arithmetic.specs.Binary32.{if◌then◌else◌}
 use Rattle.daily_tally.specs.Steps.{whole_within}
 use Rattle.daily_tally.proofs.whole_within.Goals as goal
 

@@ -1,4 +1,5 @@
 -- `log_walks::fallback` meets its contract. Assumes nothing.
+use Rattle.arithmetic.specs.Binary32.{if◌then◌else◌}
 use borrow.Author.Tests.{le-leb, lt-leb}
 use native.Mathlib.Omega.{arith}
 use Rattle.log_walks.specs.Figures.{is_fallback}

@@ -1,5 +1,6 @@
 -- `fallback_index::appends::judge_grown` meets its contract. Assumes nothing.
 use borrow.Author.Tests.{lt-leb, le-leb, eq-eqb, ne_eqb}
+use Rattle.arithmetic.specs.Binary32.{if◌then◌else◌}
 use Rattle.fallback_index.specs.Appends.{new_entry_fits, grown_fault}
 use Rattle.fallback_index.proofs.appends.judge_grown.Goals as goal
 

@@ -1,4 +1,5 @@
 -- `fallback_index::questions::count_between` meets its contract. Assumes nothing.
+use Rattle.arithmetic.specs.Binary32.{if◌then◌else◌}
 use borrow.Author.Tests.{lt-ltb, le-ltb}
 use Rattle.fallback_index.proofs.questions.count_between.Goals as goal
 
