@@ -1,6 +1,6 @@
 -- The bytes of answer records, and what writing them to a lent buffer leaves (01, "Records (ours)"). Definitions only.
 -- Assumes nothing.
-use Rattle.std.specs.Prelude.{ℕ, ◌+◌, ◌%◌, List, ◌∷◌, ◌++◌, length, drop, nat_le}
+use Rattle.std.specs.Prelude.{ℕ, ◌+◌, ◌%◌, List, [], ◌∷◌, ◌++◌, length, drop, nat_le}
 use Rattle.arithmetic.specs.Binary32.{if◌then◌else◌}
 use Rattle.fields.specs.Bytes.{big_endian}
 use Rattle.admission.specs.declared.Judged.{Judged}
