@@ -10,7 +10,7 @@ use lib.Dec.{eqb, leb, ltb}
 use lib.ListN.{length, take, drop, get_or, length-drop, length-append, get_or-append}
 use lib.Seq.{get_or-take, take-append-le, drop-append-le, drop-drop}
 use borrow.Author.Tests.{leb-true, leb-false, lt-ltb, le-ltb, ltb-true, ltb-false, ne_eqb}
-use Rattle.arithmetic.specs.Binary32.{if◌then◌else◌}
+use Rattle.arithmetic.specs.Binary32.{when◌then◌else◌}
 use Rattle.arithmetic.proofs.Choice.{and_left, and_right, or_cases}
 use Rattle.words.specs.Words.{pair_of}
 use Rattle.admission.specs.Faults.{Fault, must, ◌⊳◌, unless_fault}
@@ -151,8 +151,8 @@ module _ (left place : ℕ) (s more : List ℕ) (rest : (size : ℕ) → records
   step_waits : (b : Bool) → waits s ≡ b →
       onward place (λ size. records_from left (place + 1) (drop size (s ++ more))) (found_in (s ++ more)) ≡
       joined_to (suc left) place s more (onward_whole place (λ size. wholes_from left (place + 1) (drop size s))
-      (if b then ended else found_in s))
-  unfolding if◌then◌else◌ records_from
+      (when b then ended else found_in s))
+  unfolding when◌then◌else◌ records_from
   step_waits true e = nothing_yet (suc left) place s more
   step_waits false e = rw (found-append s e more) (step_cut (found_in s) (placed s e))
 
@@ -167,7 +167,7 @@ cut-anywhere (suc left) place s more =
 -- ---- the end of a log: bytes that a part leaves are a record cut short
 
 abbrev pub closing : ℕ → ℕ → Wholes → Records
-closing n place (reached l used) = ahead_all l (if ltb used n then refused_at 2 (place + length l) else whole [])
+closing n place (reached l used) = ahead_all l (when ltb used n then refused_at 2 (place + length l) else whole [])
 closing n place (stopped m p) = refused_at m p
 
 pub waits-cut : (s : List ℕ) → waits s ≡ true → length s < size_in s
@@ -186,13 +186,13 @@ ahead-closing : (place : ℕ) (s : List ℕ) (e : Entry) (size : ℕ) → size �
 ahead-closing place s e size h (reached l used) =
     let same = behind_test used size (length s) h (ltb used (length (drop size s))) (ap (ltb used) (sym (length-drop size s))) in
     let next : place + 1 + length l ≡ place + suc (length l) = omega arith in
-    ap (λ (n : ℕ). ahead e (ahead_all l (if ltb used (length (drop size s)) then refused_at 2 n else whole []))) next
-    ∙ ap (λ (b : Bool). ahead e (ahead_all l (if b then refused_at 2 (place + suc (length l)) else whole []))) (sym same)
+    ap (λ (n : ℕ). ahead e (ahead_all l (when ltb used (length (drop size s)) then refused_at 2 n else whole []))) next
+    ∙ ap (λ (b : Bool). ahead e (ahead_all l (when b then refused_at 2 (place + suc (length l)) else whole []))) (sym same)
 ahead-closing place s e size h (stopped m p) = refl
 
 waiting-end : (place : ℕ) (s : List ℕ) (more : ℕ → Records) → waits s ≡ true → onward place more (found_in s)
     ≡ closing (length s) place (reached [] 0)
-unfolding found_in if◌then◌else◌
+unfolding found_in when◌then◌else◌
 waiting-end place [] more h = refl
 waiting-end place (x ∷ s) more h = rw (
   found-cut (x ∷ s) (omega arith) (waits-cut (x ∷ s) h),
@@ -211,13 +211,13 @@ module _ (left place : ℕ) (s : List ℕ) (rest : (size : ℕ) → records_from
 
   close-waits : (b : Bool) → waits s ≡ b → onward place (λ size. records_from left (place + 1) (drop size s)) (found_in s) ≡
       closing (length s) place (onward_whole place (λ size. wholes_from left (place + 1) (drop size s))
-      (if b then ended else found_in s))
-  unfolding if◌then◌else◌
+      (when b then ended else found_in s))
+  unfolding when◌then◌else◌
   close-waits true e = waiting-end place s _ e
   close-waits false e = close-placed (found_in s) (placed s e)
 
 pub closed : (left place : ℕ) (s : List ℕ) → records_from left place s ≡ closing (length s) place (wholes_from left place s)
-unfolding records_from wholes_from found_whole if◌then◌else◌
+unfolding records_from wholes_from found_whole when◌then◌else◌
 closed zero place [] = refl
 closed zero place (x ∷ s) = refl
 closed (suc left) place s = close-waits left place s (λ size. closed left (place + 1) (drop size s)) (waits s) refl
@@ -252,8 +252,8 @@ module _ (place : ℕ) (s : List ℕ) (rest : ℕ → Wholes) (few-rest : (size 
   few-placed (entry e size) (placed-entry h) = few-ahead s e size h (rest size) (few-rest size)
   few-placed ended x' = elim x' [ ]
 
-  few-waits : (b : Bool) → waits s ≡ b → Few (length s) (onward_whole place rest (if b then ended else found_in s))
-  unfolding if◌then◌else◌
+  few-waits : (b : Bool) → waits s ≡ b → Few (length s) (onward_whole place rest (when b then ended else found_in s))
+  unfolding when◌then◌else◌
   few-waits true e = few-reached {used = 0} (omega arith) (omega (arith, waiting_few s e))
   few-waits false e = few-placed (found_in s) (placed s e)
 

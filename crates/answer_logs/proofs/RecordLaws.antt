@@ -7,7 +7,7 @@ use mathlib.Core.List.{List, [], ◌∷◌}
 use lib.Dec.{eqb, leb}
 use lib.ListN.{length, take, drop, get_or, length-drop}
 use borrow.Author.Tests.{leb-true, leb-false, eqb-true, eqb-false}
-use Rattle.arithmetic.specs.Binary32.{if◌then◌else◌}
+use Rattle.arithmetic.specs.Binary32.{when◌then◌else◌}
 use Rattle.arithmetic.proofs.Choice.{if-case}
 use Rattle.words.specs.Words.{pair_of}
 use Rattle.admission.specs.Faults.{Fault, fine, fault, unless_fault}
@@ -40,7 +40,7 @@ module _ (s : List ℕ) where
       ap length_of_code same ∙ (faultless s e).coded ∙ refusal-named s e other
 
   coded-as : (f : Fault) → answer_fault s ≡ f →
-      Coded (unless_fault said.unreadable f (if eqb (pair_of s 0) outcome_length then said.outcome
+      Coded (unless_fault said.unreadable f (when eqb (pair_of s 0) outcome_length then said.outcome
       (outcome_in s) else said.refusal (code - refused_code)))
   unfolding outcome_in
   coded-as (fault n) e = coded-fault

@@ -2,14 +2,14 @@
 use Prim.Native.Nat.{ℕ}
 use mathlib.Core.Path.{◌≡◌, refl}
 use mathlib.Core.List.{List, [], ◌∷◌, ◌++◌}
-use Rattle.arithmetic.specs.Binary32.{if◌then◌else◌}
+use Rattle.arithmetic.specs.Binary32.{when◌then◌else◌}
 use Rattle.words.specs.Words.{pair_of, word_of}
 use Rattle.answer_records.specs.Replies.{is_length, length_of_code, answer_fault, outcome_in, answer_in}
 use Rattle.answer_logs.specs.Logs.{outcome, refusal, whole, refused_at, size_in, found_in, most_records, records_from, records_in}
 
 -- what working out takes
 unfoldable pub computed : Unit {0}
-unfolding records_in records_from found_in size_in answer_in answer_fault outcome_in is_length length_of_code pair_of word_of if◌then◌else◌
+unfolding records_in records_from found_in size_in answer_in answer_fault outcome_in is_length length_of_code pair_of word_of when◌then◌else◌
 computed = tt
 
 -- the record of a scene refused with 6, and 01's example answer: outcome 1 at (0, 0.5), no failed line, one probe

@@ -1,6 +1,6 @@
 -- The records of a part of a log, as far as whole records reach (02, T-02). Definitions only. Assumes nothing.
 use Rattle.std.specs.Prelude.{ℕ, zero, suc, ◌+◌, Bool, ◌&&◌, ◌||◌, List, [], ◌∷◌, leb, ltb, length, drop}
-use Rattle.arithmetic.specs.Binary32.{if◌then◌else◌}
+use Rattle.arithmetic.specs.Binary32.{when◌then◌else◌}
 use Rattle.answer_records.specs.Answers.{longest_answer}
 use Rattle.answer_logs.specs.declared.Logged.{Logged}
 use Rattle.answer_logs.specs.Logs.{Entry, Found, ended, bad, entry, size_in, found_in, logged_as}
@@ -12,7 +12,7 @@ waits s = ltb (length s) 2 || (leb (size_in s) longest_answer && ltb (length s) 
 
 -- what stands at the start of a part: nothing, where it waits for more
 unfoldable pub found_whole : List ℕ → Found
-found_whole s = if waits s then ended else found_in s
+found_whole s = when waits s then ended else found_in s
 
 -- the record at a byte of a part, with the byte behind it
 unfoldable pub whole_at : List ℕ → ℕ → Logged

@@ -2,7 +2,7 @@
 -- Assumes nothing.
 use Rattle.std.proofs.Common.{◌≡◌, ℕ, zero, suc, ◌+◌, ◌-◌, ◌/◌, ◌%◌, ◌^◌, ◌<◌, ◌≤◌, Bool, true, false, eqb, List, [], ◌∷◌, length, get_or, sym, refl, ap, ◌∙◌, div-one, arith, eq-eqb, eqb-true, le-leb}
 use borrow.Author.Tests.{lt-leb, eqb-false}
-use Rattle.arithmetic.specs.Binary32.{if◌then◌else◌}
+use Rattle.arithmetic.specs.Binary32.{when◌then◌else◌}
 use Rattle.words.specs.Words.{pair_of, word_of}
 use Rattle.fields.specs.Bytes.{big_endian_number, big_endian_from, big_endian, AllBytes}
 use Rattle.fields.proofs.ByteLaws.{number-of-bytes}
@@ -74,11 +74,11 @@ module _ (a : Answer) (fits : Fits a) where
       rw (x, y, failed, probes)
 
   outcome-fine : answer_fault (answer_bytes a) ≡ fine
-  unfolding answer_fault answer_bytes big_endian pair_of is_length length_of_code if◌then◌else◌
+  unfolding answer_fault answer_bytes big_endian pair_of is_length length_of_code when◌then◌else◌
   outcome-fine = rw (le-leb 1 a.code fits.least, le-leb a.code 5 fits.most)
 
   pub outcome-read-back : answer_in (answer_bytes a) ≡ said.outcome a
-  unfolding answer_in if◌then◌else◌
+  unfolding answer_in when◌then◌else◌
   outcome-read-back = rw (outcome-fine, outcome-named, same_outcome)
     where
       outcome-named : eqb (pair_of (answer_bytes a) 0) outcome_length ≡ true
@@ -90,13 +90,13 @@ module _ (n : ℕ) (told : is_refusal_code (128 + n) ≡ true) where
   code_of = let within = code-within (128 + n) told in omega arith
 
   refusal-fine : answer_fault (refusal_bytes n) ≡ fine
-  unfolding answer_fault refusal_bytes big_endian pair_of is_length length_of_code if◌then◌else◌
+  unfolding answer_fault refusal_bytes big_endian pair_of is_length length_of_code when◌then◌else◌
   refusal-fine =
       let within = code-within (128 + n) told in
       rw (code_of, le-leb 1 (128 + n) (omega arith), lt-leb (128 + n) 5 (omega arith), told)
 
   pub refusal-read-back : answer_in (refusal_bytes n) ≡ said.refusal n
-  unfolding answer_in refusal_bytes big_endian pair_of if◌then◌else◌
+  unfolding answer_in refusal_bytes big_endian pair_of when◌then◌else◌
   refusal-read-back =
       let number : 128 + n - 128 ≡ n = omega arith in
       rw (refusal-fine, code_of, number)
@@ -105,17 +105,17 @@ module _ (n : ℕ) (told : is_refusal_code (128 + n) ≡ true) where
 
 -- where an outcome is read there is no fault, the length is an outcome's, and it is the record's outcome; a refusal alike
 read-outcome : {C : Type 0} (f : Fault) (named : Bool) (o : Answer) (n : ℕ) (a : Answer) →
-    unless_fault said.unreadable f (if named then said.outcome o else said.refusal n) ≡ said.outcome a →
+    unless_fault said.unreadable f (when named then said.outcome o else said.refusal n) ≡ said.outcome a →
     (f ≡ fine → named ≡ true → o ≡ a → C) → C
-unfolding if◌then◌else◌
+unfolding when◌then◌else◌
 read-outcome fine true o n a e go = go refl refl cc
 read-outcome fine false o n a e go = absurd (let z : ◌≡◌ {A = ℕ} 0 1 = cc in omega arith)
 read-outcome (fault r) named o n a e go = absurd (let z : ◌≡◌ {A = ℕ} 0 1 = cc in omega arith)
 
 read-refusal : {C : Type 0} (f : Fault) (named : Bool) (o : Answer) (n m : ℕ) →
-    unless_fault said.unreadable f (if named then said.outcome o else said.refusal n) ≡ said.refusal m →
+    unless_fault said.unreadable f (when named then said.outcome o else said.refusal n) ≡ said.refusal m →
     (f ≡ fine → named ≡ false → n ≡ m → C) → C
-unfolding if◌then◌else◌
+unfolding when◌then◌else◌
 read-refusal fine true o n m e go = absurd (let z : ◌≡◌ {A = ℕ} 0 1 = cc in omega arith)
 read-refusal fine false o n m e go = go refl refl cc
 read-refusal (fault r) named o n m e go = absurd (let z : ◌≡◌ {A = ℕ} 0 1 = cc in omega arith)

@@ -2,7 +2,7 @@
 use Rattle.std.proofs.Common.{◌≡◌, ℕ, ◌+◌, ◌%◌, ◌<◌, ◌≤◌, List, ◌++◌, length, drop, set, zero-add, le-leb}
 use lib.Seq.{sets, sets-eq}
 use borrow.Author.Tests.{lt-leb}
-use Rattle.arithmetic.specs.Binary32.{if◌then◌else◌}
+use Rattle.arithmetic.specs.Binary32.{when◌then◌else◌}
 use Rattle.admission.specs.Faults.{fine, fault}
 use Rattle.words.specs.Words.{pair_bytes, word_bytes}
 use Rattle.fields.specs.Bytes.{big_endian}
@@ -12,11 +12,11 @@ use Rattle.answer_records.specs.Answers.{outcome_length, refusal_length, answer_
 
 module _ (bytes l : List ℕ) where
   too_short : length l < length bytes → written (fault 10) l ≡ laid bytes l
-  unfolding laid if◌then◌else◌
+  unfolding laid when◌then◌else◌
   too_short h = rw (lt-leb (length bytes) (length l) h)
 
   pub laid-there : length bytes ≤ length l → laid bytes l ≡ written fine (bytes ++ drop (length bytes) l)
-  unfolding laid if◌then◌else◌
+  unfolding laid when◌then◌else◌
   laid-there h = rw (le-leb (length bytes) (length l) h)
 
   room : length bytes ≤ length l → written fine (sets l 0 bytes) ≡ laid bytes l

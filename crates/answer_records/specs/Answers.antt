@@ -1,7 +1,7 @@
 -- The bytes of answer records, and what writing them to a lent buffer leaves (01, "Records (ours)"). Definitions only.
 -- Assumes nothing.
 use Rattle.std.specs.Prelude.{ℕ, ◌+◌, ◌%◌, List, [], ◌∷◌, ◌++◌, length, drop, nat_le}
-use Rattle.arithmetic.specs.Binary32.{if◌then◌else◌}
+use Rattle.arithmetic.specs.Binary32.{when◌then◌else◌}
 use Rattle.fields.specs.Bytes.{big_endian}
 use Rattle.admission.specs.declared.Judged.{Judged}
 use Rattle.admission.specs.Faults.{Fault, fine, fault, fault_of}
@@ -53,5 +53,5 @@ written_of r l = written (fault_of r) l
 -- the bytes at the buffer's start, and behind them what stood there; a buffer too short for them is refused with 10 and
 -- left alone
 unfoldable pub laid : List ℕ → List ℕ → Written
-laid bytes buffer = if nat_le (length bytes) (length buffer) then written fine (bytes ++ drop (length bytes) buffer) else
+laid bytes buffer = when nat_le (length bytes) (length buffer) then written fine (bytes ++ drop (length bytes) buffer) else
     written (fault 10) buffer

@@ -1,6 +1,6 @@
 -- What reading an answer record gives (01, "Records (ours)", "The answer reader .."). Definitions only. Assumes nothing.
 use Rattle.std.specs.Prelude.{ℕ, ◌+◌, ◌-◌, Bool, ◌&&◌, ◌||◌, List, length, ◌==◌, nat_eq, nat_le, slice_index}
-use Rattle.arithmetic.specs.Binary32.{if◌then◌else◌}
+use Rattle.arithmetic.specs.Binary32.{when◌then◌else◌}
 use Rattle.words.specs.Words.{pair_of, word_of}
 use Rattle.admission.specs.Faults.{Fault, must, ◌⊳◌, unless_fault}
 use Rattle.answer_records.specs.declared.Answer.{Answer}
@@ -29,7 +29,7 @@ abbrev pub is_refusal_code : ℕ → Bool
 is_refusal_code code = (nat_le 129 code && nat_le code 138) || code == 142
 
 unfoldable pub length_of_code : ℕ → ℕ
-length_of_code code = if nat_le 1 code && nat_le code 5 then outcome_length else (if is_refusal_code code then refusal_length else 0)
+length_of_code code = when nat_le 1 code && nat_le code 5 then outcome_length else (when is_refusal_code code then refusal_length else 0)
 
 -- "fewer than two bytes, a length that is neither, or bytes that do not match it, 2; another version, 1; a code not of
 -- its length, 2"
@@ -47,5 +47,5 @@ outcome_in s = record { code = slice_index s 3; x = word_of s 4; y = word_of s 8
 
 -- a record is an outcome's or a refusal's by its length
 unfoldable pub answer_in : List ℕ → Said
-answer_in s = unless_fault unreadable (answer_fault s) (if nat_eq (pair_of s 0) outcome_length then outcome
+answer_in s = unless_fault unreadable (answer_fault s) (when nat_eq (pair_of s 0) outcome_length then outcome
     (outcome_in s) else refusal (slice_index s 3 - refused_code))

@@ -3,17 +3,17 @@
 use mathlib.Core.Path.{◌≡◌, refl}
 use mathlib.Core.Logic.{◌⊎◌, inl, inr}
 use mathlib.Core.Bool.{Bool, true, false, false≢true, ◌&&◌, ◌||◌}
-use Rattle.arithmetic.specs.Binary32.{if◌then◌else◌}
+use Rattle.arithmetic.specs.Binary32.{when◌then◌else◌}
 
 -- what both branches have, the choice has
-pub if-all : {A : Type 0} (P : A → Type 0) (b : Bool) {x y : A} → P x → P y → P (if b then x else y)
-unfolding if◌then◌else◌
+pub if-all : {A : Type 0} (P : A → Type 0) (b : Bool) {x y : A} → P x → P y → P (when b then x else y)
+unfolding when◌then◌else◌
 if-all P true hx hy = hx
 if-all P false hx hy = hy
 
 -- the same, where a branch may use how the test came out
-pub if-case : {A : Type 0} (P : A → Type 0) (b : Bool) {x y : A} → (b ≡ true → P x) → (b ≡ false → P y) → P (if b then x else y)
-unfolding if◌then◌else◌
+pub if-case : {A : Type 0} (P : A → Type 0) (b : Bool) {x y : A} → (b ≡ true → P x) → (b ≡ false → P y) → P (when b then x else y)
+unfolding when◌then◌else◌
 if-case P true hx hy = hx refl
 if-case P false hx hy = hy refl
 

@@ -11,7 +11,7 @@ infixl 70 ◌⊘◌
 infix 50 ◌≤ᶠ◌
 infix 50 ◌<ᶠ◌
 infix 50 ◌≈ᶠ◌
-infix 10 if◌then◌else◌
+infix 10 when◌then◌else◌
 abbrev pub ◌⊕◌ : Float → Float → Float
 a ⊕ b = Ieee.add binary32 a b
 
@@ -48,9 +48,9 @@ abbrev pub 1ᶠ : Float
 abbrev pub halfᶠ : Float
 halfᶠ = bits 0x3F00_0000
 
-unfoldable pub if◌then◌else◌ : {A : Type 0} → Bool → A → A → A
-if◌then◌else◌ true a b = a
-if◌then◌else◌ false a b = b
+unfoldable pub when◌then◌else◌ : {A : Type 0} → Bool → A → A → A
+when◌then◌else◌ true a b = a
+when◌then◌else◌ false a b = b
 
 -- neither a NaN nor an infinity
 unfoldable pub finite : Float → Bool

@@ -1,5 +1,5 @@
 -- When two lines meet: the Rust's `time_to_intersect_lines`, each operation in its order. Definitions only. Assumes nothing.
-use Rattle.arithmetic.specs.Binary32.{◌≈ᶠ◌, 0ᶠ, if◌then◌else◌}
+use Rattle.arithmetic.specs.Binary32.{◌≈ᶠ◌, 0ᶠ, when◌then◌else◌}
 use Rattle.common.specs.declared.Vec2.{Vec2}
 use Rattle.common.specs.declared.Times.{Times}
 use Rattle.common.specs.declared.Times.TheVariants as times
@@ -9,7 +9,7 @@ use Rattle.common.specs.Vectors.{vec, sub_of, div_of, determinant_of}
 -- parallel" (02, T-08)
 abbrev pub times_by : Vec2 → Vec2 → Vec2 → Times
 times_by relative delta1 delta2 =
-    if determinant_of delta2 delta1 ≈ᶠ 0ᶠ then times.Parallel
+    when determinant_of delta2 delta1 ≈ᶠ 0ᶠ then times.Parallel
     else times.At (div_of (vec (determinant_of relative delta2) (determinant_of relative delta1)) (determinant_of delta2 delta1))
 
 -- the line from start1 to end1 and the one from start2 to end2: the time along the first as x, along the second as y

@@ -8,7 +8,7 @@ use mathlib.Core.List.{List, [], ◌∷◌, ◌++◌, append_assoc, append-nil}
 use lib.Dec.{ltb}
 use lib.ListN.{length, drop}
 use borrow.Author.Tests.{lt-ltb}
-use Rattle.arithmetic.specs.Binary32.{if◌then◌else◌}
+use Rattle.arithmetic.specs.Binary32.{when◌then◌else◌}
 use Rattle.answer_records.specs.Answers.{longest_answer}
 use Rattle.answer_logs.specs.Logs.{found_in}
 use Rattle.answer_logs.specs.Parts.{waits}
@@ -29,7 +29,7 @@ use Rattle.comparison.proofs.PartLaws.{waits-ends, Waiting, advance-cut, going-w
 
 -- the answers to the scenes that are left
 abbrev answers_left : Kept → List ℕ → List ℕ
-answers_left k scenes = if k.more_scenes then answers_from k.skip (k.scenes ++ scenes) else []
+answers_left k scenes = when k.more_scenes then answers_from k.skip (k.scenes ++ scenes) else []
 
 abbrev left_over : Kept → List ℕ → List ℕ → Compared
 left_over k scenes answers = compared_from k.place (k.ours ++ answers_left k scenes) (k.theirs ++ answers)
@@ -50,10 +50,10 @@ last-ours k e = rw (append-nil k.scenes, e) refl
 module _ (k : Kept) (rest answers : List ℕ) (open-still : k.more_scenes ≡ true) where
   scenes-left : (read : List ℕ) → (read ≡ [] → rest ≡ []) → worked unlimited k.skip k.scenes ≡ stopped k.skip →
       left_over k (read ++ rest) answers ≡ left_over (with_scenes k read) rest answers
-  unfolding if◌then◌else◌
+  unfolding when◌then◌else◌
   scenes-left [] none e =
       ap (λ (b : Bool). compared_from k.place
-      (k.ours ++ (if b then answers_from k.skip (k.scenes ++ rest) else [])) (k.theirs ++ answers)) open-still
+      (k.ours ++ (when b then answers_from k.skip (k.scenes ++ rest) else [])) (k.theirs ++ answers)) open-still
       ∙ ap (λ (l : List ℕ). compared_from k.place (k.ours ++ l) (k.theirs ++ answers))
       (ap (λ (l : List ℕ). answers_from k.skip (k.scenes ++ l)) (none refl) ∙ last-ours k e)
       ∙ ap (λ (l : List ℕ). compared_from k.place l (k.theirs ++ answers))
@@ -62,7 +62,7 @@ module _ (k : Kept) (rest answers : List ℕ) (open-still : k.more_scenes ≡ tr
       let s = k.scenes ++ (b ∷ read) in
       let w = worked unlimited k.skip s in
       ap (λ (x : Bool). compared_from k.place
-      (k.ours ++ (if x then answers_from k.skip (k.scenes ++ ((b ∷ read) ++ rest)) else []))
+      (k.ours ++ (when x then answers_from k.skip (k.scenes ++ ((b ∷ read) ++ rest)) else []))
       (k.theirs ++ answers)) open-still
       ∙ ap (λ (l : List ℕ). compared_from k.place (k.ours ++ l) (k.theirs ++ answers))
       (ap (answers_from k.skip) (sym (append_assoc k.scenes (b ∷ read) rest)) ∙ sym (cut-answers k.skip s rest))
@@ -155,7 +155,7 @@ same_end place o t more-ours more-theirs p q w =
     ∙ ap (λ (f : _). told_in place (turn_of (found_in o) f)) q)
 
 none_left : (k : Kept) (scenes : List ℕ) → k.more_scenes ≡ false → answers_left k scenes ≡ []
-unfolding if◌then◌else◌
+unfolding when◌then◌else◌
 none_left k scenes e = rw e
 
 -- ---- runs
@@ -186,7 +186,7 @@ run-told {k} {scenes} {answers} {verdict} (enough o t) s w =
 -- the two files.
 pub any-files : (scenes answers : List ℕ) (verdict : Compared) → Runs start scenes answers verdict →
     verdict ≡ compared scenes answers
-unfolding compared compared_logs waits if◌then◌else◌
+unfolding compared compared_logs waits when◌then◌else◌
 any-files scenes answers verdict r =
     run-told r (record {
       still = nothing_read;

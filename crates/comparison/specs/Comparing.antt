@@ -1,6 +1,6 @@
 -- Two logs compared place by place, whole or as far as a part of each reaches (02, T-09). Definitions only. Assumes nothing.
 use Rattle.std.specs.Prelude.{ℕ, zero, suc, ◌+◌, List, ltb, length, drop}
-use Rattle.arithmetic.specs.Binary32.{if◌then◌else◌}
+use Rattle.arithmetic.specs.Binary32.{when◌then◌else◌}
 use Rattle.answer_logs.specs.Logs as log
 use Rattle.answer_logs.specs.Logs.{found_in}
 use Rattle.answer_logs.specs.Parts.{found_whole}
@@ -34,7 +34,7 @@ turn_of (log.entry a j) (log.entry b k) = turn_by (matched_entries a b) j k
 
 -- a place is a number of 64 bits; no file reaches the last, which stands for all behind it
 unfoldable pub next_place : ℕ → ℕ
-next_place place = if ltb place 18446744073709551615 then place + 1 else place
+next_place place = when ltb place 18446744073709551615 then place + 1 else place
 
 -- ---- place by place
 

@@ -1,7 +1,7 @@
 -- A stream that was moved whole is moved back to itself, from either side. Assumes nothing.
 use Rattle.std.proofs.Common.{◌≡◌, ℕ, zero, suc, ◌+◌, ◌≤◌, Bool, true, false, List, [], ◌∷◌, ◌++◌, length, take, drop, sym, refl, ap, ◌∙◌, arith, take-append-drop, get_or-drop, drop-drop, take_at, drop_at, ne_eqb}
 use mathlib.Core.Bool.{false≢true}
-use Rattle.arithmetic.specs.Binary32.{if◌then◌else◌}
+use Rattle.arithmetic.specs.Binary32.{when◌then◌else◌}
 use Rattle.kept.specs.Walks.{walk}
 use Rattle.fields.specs.Bytes.{AllBytes}
 use Rattle.fields.specs.Got.{Got, refused, got}
@@ -35,7 +35,7 @@ converted_by to place s (moves k t) = ahead t (converted_from to (next_place pla
 
 converted-by : (to : Version) (place : ℕ) (s : List ℕ) (q : Met) →
     ended s (onward (walked to) place s q) ≡ converted_by to place s q
-unfolding converted_from if◌then◌else◌
+unfolding converted_from when◌then◌else◌
 converted-by to place s waits = refl
 converted-by to place s (refuses r) = refl
 converted-by to place s (moves k t) =
@@ -88,7 +88,7 @@ Back to s = AllBytes s → (place : ℕ) (t : List ℕ) (n : ℕ) → converted_
     converted_from (other_of to) place t ≡ all_moved s n
 
 nothing-back : (to : Version) (place : ℕ) → converted_from to place [] ≡ all_moved [] place
-unfolding converted_from walked walk last_stage if◌then◌else◌
+unfolding converted_from walked walk last_stage when◌then◌else◌
 nothing-back to place = refl
 
 -- the parts of what comes of it
@@ -110,7 +110,7 @@ take-bytes (suc k) (x ∷ s) h (suc i) = take-bytes k s (λ j. h (suc j)) i
 
 -- only a stream of no bytes ends whole without a record
 none-whole : (s : List ℕ) → last_stage (length s) ≡ stage.Whole → s ≡ []
-unfolding last_stage if◌then◌else◌
+unfolding last_stage when◌then◌else◌
 none-whole [] e = refl
 none-whole (b ∷ s) e =
     absurd (false≢true (ap is_whole (rw (ne_eqb (length (b ∷ s)) 0 (λ (z : length (b ∷ s) ≡ 0). omega arith)) at e)))

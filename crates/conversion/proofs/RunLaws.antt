@@ -3,7 +3,7 @@
 use Rattle.std.proofs.Common.{◌≡◌, ℕ, ◌+◌, ◌≤◌, Bool, true, false, eqb, List, [], ◌∷◌, ◌++◌, length, drop, sym, refl, ap, ◌∙◌, append_assoc, append-nil, arith, drop-drop}
 use mathlib.Core.Bool.{false≢true}
 use lib.Seq.{drop-append-le}
-use Rattle.arithmetic.specs.Binary32.{if◌then◌else◌}
+use Rattle.arithmetic.specs.Binary32.{when◌then◌else◌}
 use Rattle.arithmetic.proofs.Choice.{if-all}
 use Rattle.kept.specs.Walks.{walk}
 use Rattle.scene_records.specs.declared.Version.{Version}
@@ -19,8 +19,8 @@ use Rattle.conversion.proofs.WalkedLaws.{resumed, Leaves, leaves}
 -- ---- what is kept
 
 few-kept : (open_is : Bool) (l : List ℕ) → (open_is ≡ true → length l ≤ 1 + longest_either) →
-    length (if open_is then l else []) ≤ 1 + longest_either
-unfolding if◌then◌else◌
+    length (when open_is then l else []) ≤ 1 + longest_either
+unfolding when◌then◌else◌
 few-kept true l h = h refl
 few-kept false l h = omega arith
 
@@ -41,9 +41,9 @@ as_it_stands w = record { bytes = w.bytes; place = w.place; stage = w.stage }
 -- the end behind a part: of w's records, and then of the work v on the rest l, which lies at w's end in s
 module _ (s l : List ℕ) (w v : Walked) (lies : drop w.used s ≡ l) where
   ended-cut : (open_is : Bool) → is_open w.stage ≡ open_is →
-      ended s (if open_is then after w.used w.bytes v else w)
-      ≡ (if open_is then ahead w.bytes (ended l v) else as_it_stands w)
-  unfolding if◌then◌else◌
+      ended s (when open_is then after w.used w.bytes v else w)
+      ≡ (when open_is then ahead w.bytes (ended l v) else as_it_stands w)
+  unfolding when◌then◌else◌
   ended-cut true e =
       let left : drop (w.used + v.used) s ≡ drop v.used l = sym (drop-drop v.used w.used s)
       ∙ ap (drop v.used) lies in
@@ -54,7 +54,7 @@ module _ (s l : List ℕ) (w v : Walked) (lies : drop w.used s ≡ l) where
 -- refusal ends it
 pub cut-converted : (to : Version) (place : ℕ) (a b : List ℕ) → let w = walked to place a in
     converted_from to place (a ++ b)
-    ≡ (if is_open w.stage then ahead w.bytes
+    ≡ (when is_open w.stage then ahead w.bytes
     (converted_from to w.place (drop w.used a ++ b)) else as_it_stands w)
 unfolding converted_from
 cut-converted to place a b =
@@ -68,7 +68,7 @@ cut-converted to place a b =
 
 end-told : (to : Version) (kept : List ℕ) (place : ℕ) → walked to place kept ≡ stopped place stage.Open →
     told_by (turned to kept place []) ≡ converted_from to place kept
-unfolding converted_from if◌then◌else◌
+unfolding converted_from when◌then◌else◌
 end-told to kept place e = rw e
 
 open-stage : (g : Stage) → is_open g ≡ true → g ≡ stage.Open
@@ -86,11 +86,11 @@ module _ (to : Version) (place : ℕ) (s : List ℕ) (reads : List (List ℕ))
     (next : (kept : List ℕ) (p : ℕ) → walked to p kept ≡ stopped p stage.Open →
     run to kept p reads ≡ converted_from to p (kept ++ joined reads)) where
   turn_on : (w : Walked) → w ≡ walked to place s → (open_is : Bool) → is_open w.stage ≡ open_is →
-      (if open_is then ahead w.bytes
-      (run to (if open_is then drop w.used s else []) w.place reads) else as_it_stands w)
-      ≡ (if open_is then ahead w.bytes
+      (when open_is then ahead w.bytes
+      (run to (when open_is then drop w.used s else []) w.place reads) else as_it_stands w)
+      ≡ (when open_is then ahead w.bytes
       (converted_from to w.place (drop w.used s ++ joined reads)) else as_it_stands w)
-  unfolding if◌then◌else◌
+  unfolding when◌then◌else◌
   turn_on w e true h =
       let left = rw (← e) at (leaves to s place) in
       ap (ahead w.bytes) (next (drop w.used s) w.place
@@ -100,7 +100,7 @@ module _ (to : Version) (place : ℕ) (s : List ℕ) (reads : List (List ℕ))
 run-from : (to : Version) (reads : List (List ℕ)) (kept : List ℕ) (place : ℕ) →
     walked to place kept ≡ stopped place stage.Open →
     run to kept place reads ≡ converted_from to place (kept ++ joined reads)
-unfolding run joined if◌then◌else◌
+unfolding run joined when◌then◌else◌
 run-from to [] kept place e = rw (append-nil kept) (end-told to kept place e)
 run-from to ([] ∷ reads) kept place e = rw (append-nil kept, last-closed (length kept)) (end-told to kept place e)
 run-from to ((b ∷ read) ∷ reads) kept place e =
@@ -116,5 +116,5 @@ any-reads to reads = run-from to reads [] 0 refl
 
 -- no input, no output
 pub no_output : (to : Version) → converted_to to [] ≡ record { bytes = []; place = 0; stage = stage.Whole }
-unfolding converted_from walked walk last_stage if◌then◌else◌
+unfolding converted_from walked walk last_stage when◌then◌else◌
 no_output to = refl

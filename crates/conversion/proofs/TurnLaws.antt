@@ -3,7 +3,7 @@
 use Rattle.std.proofs.Common.{◌≡◌, ℕ, ◌+◌, ◌-◌, ◌*◌, ◌≤◌, Bool, true, false, leb, List, [], ◌∷◌, ◌++◌, length, take, drop, sym, refl, ap, ◌∙◌, ⊎_elim, arith, length-append, length-drop, length-take-le, take_at, take-add, le-leb, leb-true}
 use native.Mathlib.Nat.{sub-zero}
 use borrow.Rule.Slice.PartMut.{mid_of, put_mid, same_len_mid}
-use Rattle.arithmetic.specs.Binary32.{if◌then◌else◌}
+use Rattle.arithmetic.specs.Binary32.{when◌then◌else◌}
 use Rattle.arithmetic.proofs.Choice.{if-all, and_left, and_right}
 use Rattle.admission.specs.Faults.{fits_behind}
 use Rattle.kept.specs.Kept.{shifted}
@@ -56,7 +56,7 @@ turned_on to kept place (b ∷ read) h = refl
 module _ (to : Version) (input output : List ℕ) (before : Stream) (read : ℕ) where
   pub no-turn : has_room (length input) (length output) before.kept read ≡ false →
       lent (closed_at 0 before.place stage.NoRoom) input output ≡ turn_over to input output before read
-  unfolding turn_over if◌then◌else◌
+  unfolding turn_over when◌then◌else◌
   no-turn e = rw e
 
   module _ (room : has_room (length input) (length output) before.kept read ≡ true) where
@@ -66,7 +66,7 @@ module _ (to : Version) (input output : List ℕ) (before : Stream) (read : ℕ)
     pub stepped : turn_over to input output before read
         ≡ lent_by (turned to (take before.kept input) before.place (take read (drop before.kept input))) input
         output
-    unfolding turn_over if◌then◌else◌
+    unfolding turn_over when◌then◌else◌
     stepped = rw room
 
     pub last_turn : read ≡ 0 → lent (closed_at 0 before.place (last_stage before.kept)) input output
@@ -136,7 +136,7 @@ module _ (to : Version) (input output : List ℕ) (before : Stream) (read : ℕ)
 
       pub refused-turn : is_open v.stage ≡ false →
           lent (closed_at v.place.put v.place.place v.stage) input out ≡ turn_over to input output before read
-      unfolding if◌then◌else◌
+      unfolding when◌then◌else◌
       refused-turn h = sym (went ∙ rw (ap is_open (sym stage-same) ∙ h, put_same, place_same, stage-same, held) refl)
 
       pub whole-turn : v.stage ≡ stage.Open →
@@ -148,7 +148,7 @@ module _ (to : Version) (input output : List ℕ) (before : Stream) (read : ℕ)
           })
           (shifted v.place.used (before.kept + read - v.place.used) input) out
           ≡ turn_over to input output before read
-      unfolding if◌then◌else◌
+      unfolding when◌then◌else◌
       whole-turn h =
           let count : before.kept + read - v.place.used ≡ length (drop w.used s) =
           rw (length-drop, size, used) refl in

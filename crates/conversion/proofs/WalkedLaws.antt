@@ -3,7 +3,7 @@
 use Rattle.std.proofs.Common.{◌≡◌, ℕ, ◌+◌, ◌-◌, ◌≤◌, Bool, true, false, List, [], ◌++◌, length, drop, sym, refl, ap, ◌∙◌, append_assoc, append-nil, add_assoc, zero-add, arith, length-drop, drop-drop}
 use mathlib.Core.Bool.{false≢true}
 use lib.Seq.{drop-append-le}
-use Rattle.arithmetic.specs.Binary32.{if◌then◌else◌}
+use Rattle.arithmetic.specs.Binary32.{when◌then◌else◌}
 use Rattle.kept.proofs.WalkLaws.{walk-on}
 use Rattle.scene_records.specs.declared.Version.{Version}
 use Rattle.scene_records.specs.Versions.{longest_either}
@@ -50,7 +50,7 @@ module _ (to : Version) where
 -- changes
 abbrev pub resumed : Version → List ℕ → List ℕ → Walked → Walked
 resumed to b a w =
-    if is_open w.stage then after w.used w.bytes (walked to w.place (drop w.used a ++ b)) else w
+    when is_open w.stage then after w.used w.bytes (walked to w.place (drop w.used a ++ b)) else w
 
 -- no more bytes are used than there are; where it is open, fewer are left than the longest record has, and nothing is
 -- left to work
@@ -67,11 +67,11 @@ module _ (to : Version) (place : ℕ) (a : List ℕ) where
   with-met b q e = work-on to place (a ++ b) ∙ ap (onward (walked to) place (a ++ b)) e
 
   resume-behind : (k : ℕ) (t b : List ℕ) (w : Walked) (open_is : Bool) →
-      after k t (if open_is then after w.used w.bytes
+      after k t (when open_is then after w.used w.bytes
       (walked to w.place (drop w.used (drop k a) ++ b)) else w)
-      ≡ (if open_is then after (k + w.used) (t ++ w.bytes)
+      ≡ (when open_is then after (k + w.used) (t ++ w.bytes)
       (walked to w.place (drop (k + w.used) a ++ b)) else after k t w)
-  unfolding if◌then◌else◌
+  unfolding when◌then◌else◌
   resume-behind k t b w true =
       after-after k w.used t w.bytes (walked to w.place (drop w.used (drop k a) ++ b))
       ∙ ap (λ (l : List ℕ). after (k + w.used) (t ++ w.bytes) (walked to w.place (l ++ b)))
@@ -94,7 +94,7 @@ module _ (to : Version) (place : ℕ) (a : List ℕ) where
   met-leaves : (q : Met) → Meets to a q → met_in to a ≡ q →
       ((k : ℕ) → 1 ≤ k → k ≤ length a → (p : ℕ) → Leaves to p (drop k a) (walked to p (drop k a))) →
       Leaves to place a (onward (walked to) place a q)
-  unfolding if◌then◌else◌
+  unfolding when◌then◌else◌
   met-leaves (moves k t) (moving one there short stays) e next =
       behind-leaves k t (walked to (next_place place) (drop k a)) there stays (next k one there (next_place place))
   met-leaves (refuses r) (refusing some stays) e next = record {

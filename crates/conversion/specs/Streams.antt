@@ -1,6 +1,6 @@
 -- A stream of scene records moved to one version, record by record (02, T-07). Definitions only. Assumes nothing.
 use Rattle.std.specs.Prelude.{ℕ, ◌+◌, ◌%◌, ◌^◌, Bool, true, false, List, [], ◌++◌, length, take, drop, ◌==◌}
-use Rattle.arithmetic.specs.Binary32.{if◌then◌else◌}
+use Rattle.arithmetic.specs.Binary32.{when◌then◌else◌}
 use Rattle.kept.specs.Walks.{walk}
 use Rattle.fields.specs.Got.{Got, refused, got}
 use Rattle.scene_records.specs.declared.Version.{Version}
@@ -75,7 +75,7 @@ walked to place s = walk (step to) (λ p. stopped p stage.Open) (length s) place
 
 -- bytes that are left over are a record cut short, which gets 2
 unfoldable pub last_stage : ℕ → Stage
-last_stage left = if left == 0 then stage.Whole else stage.Refused 2
+last_stage left = when left == 0 then stage.Whole else stage.Refused 2
 
 abbrev pub is_open : Stage → Bool
 is_open stage.Open = true
@@ -94,7 +94,7 @@ abbrev pub ended : List ℕ → Walked → Converted
 ended s w = record {
   bytes = w.bytes;
   place = w.place;
-  stage = if is_open w.stage then last_stage (length (drop w.used s)) else w.stage;
+  stage = when is_open w.stage then last_stage (length (drop w.used s)) else w.stage;
 }
 
 unfoldable pub converted_from : Version → ℕ → List ℕ → Converted

@@ -1,7 +1,7 @@
 -- The program: turn behind turn, each on what a read brings; and a turn over lent memory. Definitions only. Assumes
 -- nothing.
 use Rattle.std.specs.Prelude.{◌≡◌, ℕ, ◌+◌, ◌*◌, ◌≤◌, Bool, ◌&&◌, List, [], ◌∷◌, ◌++◌, length, take, drop, nat_le}
-use Rattle.arithmetic.specs.Binary32.{if◌then◌else◌}
+use Rattle.arithmetic.specs.Binary32.{when◌then◌else◌}
 use Rattle.admission.specs.Faults.{fits_behind}
 use Rattle.scene_records.specs.declared.Version.{Version}
 use Rattle.scene_records.specs.Versions.{longest_either}
@@ -24,7 +24,7 @@ abbrev pub going_on : List ℕ → Walked → Turned
 going_on s w =
     record {
       bytes = w.bytes;
-      kept = if is_open w.stage then drop w.used s else [];
+      kept = when is_open w.stage then drop w.used s else [];
       place = w.place;
       stage = w.stage;
     }
@@ -45,7 +45,7 @@ unfoldable pub run : Version → List ℕ → ℕ → List (List ℕ) → Conver
 run to kept place [] = told_by (turned to kept place [])
 run to kept place (read ∷ reads) =
     let t = turned to kept place read in
-    if is_open t.stage then ahead t.bytes (run to t.kept t.place reads) else told_by t
+    when is_open t.stage then ahead t.bytes (run to t.kept t.place reads) else told_by t
 
 -- ---- a turn over lent memory
 
@@ -78,7 +78,7 @@ has_room input output kept read = nat_le (2 * input) output && fits_behind input
 -- what was kept stands at the input's start, and behind it what was read; without room nothing is done
 unfoldable pub turn_over : Version → List ℕ → List ℕ → Stream → ℕ → Lent
 turn_over to input output before read =
-    if has_room (length input) (length output) before.kept read
+    when has_room (length input) (length output) before.kept read
     then lent_by (turned to (take before.kept input) before.place (take read (drop before.kept input))) input
     output
     else lent (closed_at 0 before.place stage.NoRoom) input output

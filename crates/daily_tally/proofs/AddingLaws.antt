@@ -3,7 +3,7 @@ use Rattle.std.proofs.Common.{◌≡◌, ℕ, zero, suc, ◌+◌, ◌*◌, ◌^�
 use native.Mathlib.Nat.{zero-max, max-zero, max-le, le-max_left, le-max_right}
 use mathlib.Core.Bool.{false≢true}
 use mathlib.Core.List.{foldl}
-use Rattle.arithmetic.specs.Binary32.{if◌then◌else◌}
+use Rattle.arithmetic.specs.Binary32.{when◌then◌else◌}
 use Rattle.answer_records.specs.declared.Answer.{Answer}
 use Rattle.answer_records.specs.Answers.{no_failed_line}
 use Rattle.answer_logs.specs.Logs.{Entry, outcome, refusal}
@@ -46,7 +46,7 @@ fold-figure figure number step t s (e ∷ l) =
 -- ---- one more at an index
 
 one-more-as : (l : List ℕ) (k c : ℕ) → c < length l → (b : Bool) → eqb k c ≡ b → get_or (one_more plain l k) c 0 ≡ get_or l c 0 + one b
-unfolding one if◌then◌else◌
+unfolding one when◌then◌else◌
 one-more-as l k c h true e = rw (eqb-true k c e) (get_or-set_same l c (get_or l c 0 + 1) 0 h)
 one-more-as l k c h false e =
     get_or-set_other l k c (get_or l k 0 + 1) 0 (λ p. false≢true (sym e ∙ eq-eqb k c (sym p))) ∙ sym (add-zero (get_or l c 0))
@@ -100,7 +100,7 @@ module _ {array : DayTally → List ℕ} {is : ℕ → Entry → Bool} {n : ℕ}
       ∙ sym (below_at n (λ c. count_of (is c) l) c low))
 
 outcomes-count : Counts (λ t. t.outcomes) is_outcome 6
-unfolding tally_of with_outcome with_refusal one if◌then◌else◌
+unfolding tally_of with_outcome with_refusal one when◌then◌else◌
 outcomes-count = record { at_first = refl; sized = λ t s. s.six; step = step }
   where
     step : (c : ℕ) → c < 6 → (t : DayTally) (e : Entry) → Sized t → get_or (added t e).outcomes c 0
@@ -109,7 +109,7 @@ outcomes-count = record { at_first = refl; sized = λ t s. s.six; step = step }
     step c h t (refusal n) s = sym (add-zero (get_or t.outcomes c 0))
 
 refusals-count : Counts (λ t. t.refusals) is_refusal 16
-unfolding tally_of with_outcome with_refusal one if◌then◌else◌
+unfolding tally_of with_outcome with_refusal one when◌then◌else◌
 refusals-count = record { at_first = refl; sized = λ t s. s.sixteen; step = step }
   where
     step : (c : ℕ) → c < 16 → (t : DayTally) (e : Entry) → Sized t → get_or (added t e).refusals c 0
@@ -125,7 +125,7 @@ probes-step t (outcome a) s = refl
 probes-step t (refusal n) s = sym (add-zero t.probes)
 
 failed-step : (t : DayTally) (e : Entry) → Sized t → (added t e).failed ≡ t.failed + one (names_failed e)
-unfolding with_outcome with_refusal names_line one if◌then◌else◌
+unfolding with_outcome with_refusal names_line one when◌then◌else◌
 failed-step t (outcome a) s = refl
 failed-step t (refusal n) s = sym (add-zero t.failed)
 
@@ -178,7 +178,7 @@ module _ (l : List Entry) where
 -- ---- no figure grows past what so many records allow
 
 one-most : (b : Bool) → one b ≤ 1
-unfolding one if◌then◌else◌
+unfolding one when◌then◌else◌
 one-most true = omega arith
 one-most false = omega arith
 

@@ -1,7 +1,7 @@
 -- Each figure of a tally over the list of records: how many, the sum, the largest; and any two tallies agree. Assumes nothing.
 use Rattle.std.proofs.Common.{◌≡◌, ℕ, ◌+◌, ◌<◌, ◌≤◌, Bool, true, false, List, [], ◌∷◌, length, get_or, refl, ap, ◌∙◌, le_trans, arith}
 use native.Mathlib.Nat.{max-le, le-max_left, le-max_right}
-use Rattle.arithmetic.specs.Binary32.{if◌then◌else◌}
+use Rattle.arithmetic.specs.Binary32.{when◌then◌else◌}
 use Rattle.arithmetic.proofs.Agree.{agree}
 use Rattle.arithmetic.proofs.Lists.{All, none, more}
 use Rattle.answer_logs.specs.Logs.{Entry, records_in}
@@ -44,7 +44,7 @@ passing test [] = []
 passing test (e ∷ l) = keep (test e) e (passing test l)
 
 kept-one : (b : Bool) (e : Entry) (l : List Entry) → one b + length l ≡ length (keep b e l)
-unfolding one if◌then◌else◌
+unfolding one when◌then◌else◌
 kept-one true e l = omega arith
 kept-one false e l = omega arith
 

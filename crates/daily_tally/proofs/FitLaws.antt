@@ -1,6 +1,6 @@
 -- No figure of a log of bytes overflows, and the places of numbers that no answer has stay 0. Assumes nothing.
 use Rattle.std.proofs.Common.{◌≡◌, ℕ, ◌+◌, ◌*◌, ◌^◌, ◌<◌, ◌≤◌, Bool, false, ltb, List, [], ◌∷◌, length, get_or, sym, refl, ap, ◌∙◌, zero-add, arith, ne_eqb}
-use Rattle.arithmetic.specs.Binary32.{if◌then◌else◌}
+use Rattle.arithmetic.specs.Binary32.{when◌then◌else◌}
 use Rattle.arithmetic.proofs.Choice.{if-all}
 use Rattle.arithmetic.proofs.Lists.{All, none, more}
 use Rattle.fields.specs.Bytes.{AllBytes}
@@ -65,7 +65,7 @@ tally-fits log bytes {l} e = let f = fits-within most_records log bytes e in ome
 -- ---- numbers that no answer has
 
 none_pass : (test : Entry → Bool) → ((e : Entry) → Good e → test e ≡ false) → (l : List Entry) → All Good l → count_of test l ≡ 0
-unfolding count_of sum_of one if◌then◌else◌
+unfolding count_of sum_of one when◌then◌else◌
 none_pass test fails [] none = refl
 none_pass test fails (e ∷ l) (more g gs) = rw (fails e g, zero-add) (none_pass test fails l gs)
 

@@ -1,7 +1,7 @@
 -- What the records of a log have: a code of their length, and, where the log is one of bytes, probes of 32 bits. Assumes nothing.
 use Rattle.std.proofs.Common.{◌≡◌, ℕ, zero, suc, ◌+◌, ◌-◌, ◌^◌, ◌<◌, ◌≤◌, eqb, List, [], ◌∷◌, length, get_or, take, drop, arith, get_or-drop}
 use native.Mathlib.Nat.{le-max_left, le-max_right}
-use Rattle.arithmetic.specs.Binary32.{if◌then◌else◌}
+use Rattle.arithmetic.specs.Binary32.{when◌then◌else◌}
 use Rattle.arithmetic.proofs.Choice.{if-all}
 use Rattle.arithmetic.proofs.Lists.{All, none, more}
 use Rattle.words.specs.Words.{pair_of, word_of}
@@ -104,7 +104,7 @@ unfolding word_of
 word_small s at h = omega (arith, h at, h (at + 1), h (at + 2), h (at + 3))
 
 reply-small : (size : ℕ) (s : List ℕ) (f : Fault) → AllBytes s →
-    probes_found (found_as size (unless_fault said.unreadable f (if eqb (pair_of s 0) outcome_length then said.outcome
+    probes_found (found_as size (unless_fault said.unreadable f (when eqb (pair_of s 0) outcome_length then said.outcome
     (outcome_in s) else said.refusal (get_or s 3 0 - refused_code)))) < 2 ^ 32
 unfolding outcome_in
 reply-small size s (fault n) h = omega arith

@@ -2,7 +2,7 @@
 use Rattle.std.proofs.Common.{◌≡◌, ℕ, suc, ◌+◌, ◌-◌, ◌^◌, ◌<◌, ◌≤◌, Bool, true, false, ltb, List, [], ◌∷◌, ◌++◌, length, drop, sym, refl, ap, ◌∙◌, append_assoc, append-nil, add-zero, zero-add, arith}
 use native.Mathlib.Nat.{sub-zero}
 use mathlib.Core.List.{foldl}
-use Rattle.arithmetic.specs.Binary32.{if◌then◌else◌}
+use Rattle.arithmetic.specs.Binary32.{when◌then◌else◌}
 use Rattle.arithmetic.proofs.Lists.{All, none, more}
 use Rattle.fields.specs.Bytes.{AllBytes}
 use Rattle.fields.proofs.ByteLaws.{append-bytes}
@@ -67,8 +67,8 @@ folded place t kept (e ∷ l) (more g gs) h =
 -- ---- the log's end
 
 end-as : (b : Bool) (place : ℕ) (t : DayTally) → ended_as walked.Whole b place t
-    ≡ on_top t (if b then refused_at 2 place else whole [])
-unfolding if◌then◌else◌
+    ≡ on_top t (when b then refused_at 2 place else whole [])
+unfolding when◌then◌else◌
 end-as true place t = refl
 end-as false place t = refl
 
@@ -80,7 +80,7 @@ module _ (most : ℕ) (limit : most ≤ most_records) (place : ℕ) (t : DayTall
       ap (λ (x : DayTally). ended_as walked.Whole (ltb (0 + used) n) (place + length l) x) f.same
       ∙ ap (λ (m : ℕ). ended_as walked.Whole (ltb m n) (place + length l) (foldl added t l)) (zero-add used)
       ∙ end-as (ltb used n) (place + length l) (foldl added t l)
-      ∙ sym (on-ahead-all t l (if ltb used n then refused_at 2 (place + length l) else whole []))
+      ∙ sym (on-ahead-all t l (when ltb used n then refused_at 2 (place + length l) else whole []))
   finish-as n (stopped m p) good-stopped = refl
 
   finish-told : (s : List ℕ) → largest_in (wholes_from (most - place) place s) < 2 ^ 32 → finished most s place t

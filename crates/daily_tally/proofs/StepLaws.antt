@@ -3,7 +3,7 @@ use Rattle.std.proofs.Common.{◌≡◌, ℕ, zero, suc, ◌+◌, ◌-◌, ◌^�
 use native.Mathlib.Nat.{max-le}
 use mathlib.Core.Bool.{false≢true}
 use mathlib.Core.List.{foldl}
-use Rattle.arithmetic.specs.Binary32.{if◌then◌else◌}
+use Rattle.arithmetic.specs.Binary32.{when◌then◌else◌}
 use Rattle.arithmetic.proofs.Choice.{if-all, if-case}
 use Rattle.answer_records.specs.declared.Answer.{Answer}
 use Rattle.answer_records.proofs.ReplyLaws.{outcome-code, refusal-code}
@@ -62,14 +62,14 @@ module _ (left : ℕ) (s : List ℕ) (at : ℕ) where
 
 module _ (place : ℕ) (s : List ℕ) (at : ℕ) where
   at-limit : (more : ℕ → Wholes) (b : Bool) → ltb at (length s) ≡ b → wholes_from 0 place (drop at s)
-      ≡ onward_at at place more (if b then logged.Fault 4 else logged.End)
-  unfolding if◌then◌else◌
+      ≡ onward_at at place more (when b then logged.Fault 4 else logged.End)
+  unfolding when◌then◌else◌
   at-limit more true e = one-too-many place s at (ltb-true at (length s) e)
   at-limit more false e = just_enough place s at (ltb-false at (length s) e)
 
   next-within : (left : ℕ) → wholes_from left place (drop at s)
       ≡ onward_at at place (λ behind. wholes_from (left - 1) (place + 1) (drop behind s)) (whole_within left s at)
-  unfolding whole_within if◌then◌else◌
+  unfolding whole_within when◌then◌else◌
   next-within zero = at-limit _ (ltb at (length s)) refl
   next-within (suc left) =
       let less : suc left - 1 ≡ left = omega arith in

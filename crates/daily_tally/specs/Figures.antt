@@ -1,6 +1,6 @@
 -- The figures of the daily tally, each over the list of a log's records (02, T-02). Definitions only. Assumes nothing.
 use Rattle.std.specs.Prelude.{ℕ, zero, suc, ◌+◌, max, Bool, false, not, List, [], ◌∷◌, ◌==◌}
-use Rattle.arithmetic.specs.Binary32.{if◌then◌else◌}
+use Rattle.arithmetic.specs.Binary32.{when◌then◌else◌}
 use Rattle.answer_records.specs.Answers.{no_failed_line}
 use Rattle.answer_logs.specs.Logs.{Entry, outcome, refusal, Records, whole, refused_at}
 use Rattle.daily_tally.specs.declared.DayTally.{DayTally}
@@ -18,7 +18,7 @@ largest_of number (e ∷ l) = max (number e) (largest_of number l)
 
 -- how many records pass a test: each of them is one
 unfoldable pub one : Bool → ℕ
-one b = if b then 1 else 0
+one b = when b then 1 else 0
 
 unfoldable pub count_of : (Entry → Bool) → List Entry → ℕ
 count_of test l = sum_of (λ e. one (test e)) l

@@ -2,7 +2,7 @@
 -- Definitions only. Assumes nothing.
 use Rattle.std.specs.Prelude.{ℕ, ◌+◌, ◌-◌, Bool, true, false, ltb, List, [], length, nat_lt}
 use mathlib.Core.List.{foldl}
-use Rattle.arithmetic.specs.Binary32.{if◌then◌else◌}
+use Rattle.arithmetic.specs.Binary32.{when◌then◌else◌}
 use Rattle.answer_logs.specs.declared.Logged.{Logged}
 use Rattle.answer_logs.specs.declared.Logged.TheVariants as logged
 use Rattle.answer_logs.specs.Parts.{whole_at, Wholes, reached, stopped, wholes_from}
@@ -20,7 +20,7 @@ use Rattle.daily_tally.specs.Adding.{sum64, with_outcome, with_refusal, with_ent
 
 -- the record at a byte of a part, where so many more may begin: behind the last of them any byte is refused with 4
 unfoldable pub whole_within : ℕ → List ℕ → ℕ → Logged
-whole_within left part at = if nat_lt 0 left then whole_at part at else (if ltb at (length part) then logged.Fault 4 else logged.End)
+whole_within left part at = when nat_lt 0 left then whole_at part at else (when ltb at (length part) then logged.Fault 4 else logged.End)
 
 -- its probes; where there is none, and of a refusal, 0
 abbrev pub probes_at : Logged → ℕ

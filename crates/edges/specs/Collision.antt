@@ -1,7 +1,7 @@
 -- An agent that collides with an edge: what is worked out of the edge once, and the lines of the corners. Definitions
 -- only. Assumes nothing.
 use Rattle.std.specs.Prelude.{Bool, false, ◌&&◌, Float}
-use Rattle.arithmetic.specs.Binary32.{◌⊗◌, ◌⊘◌, ◌≤ᶠ◌, ◌<ᶠ◌, 0ᶠ, 1ᶠ, if◌then◌else◌}
+use Rattle.arithmetic.specs.Binary32.{◌⊗◌, ◌⊘◌, ◌≤ᶠ◌, ◌<ᶠ◌, 0ᶠ, 1ᶠ, when◌then◌else◌}
 use Rattle.common.specs.declared.Vec2.{Vec2}
 use Rattle.common.specs.Vectors.{zero_vector, sub_of, neg_of, mul_of, dot_of, perp_of, length_squared_of, distance_squared_of, normalize_of, determinant_of}
 use Rattle.lines.specs.declared.Line.{Line}
@@ -36,7 +36,7 @@ reaches there distance radius = there && distance ≤ᶠ radius
 
 -- the agent collides with a vertex: "if !convex", along the edge; else across the way to the vertex
 unfoldable pub corner_line : Bool → Vec2 → Vec2 → Line
-corner_line convex relative unit = if convex then line zero_vector (normalize_of (perp_of relative)) else line zero_vector (neg_of unit)
+corner_line convex relative unit = when convex then line zero_vector (normalize_of (perp_of relative)) else line zero_vector (neg_of unit)
 
 -- "If the right edge goes to the right of the right vertex", which is asked of a convex one that has a next edge
 unfoldable pub next_handles : EdgeVertex → Vec2 → OuterVertex → Bool
@@ -46,5 +46,5 @@ next_handles vertex relative none = false
 -- the right vertex: the next edge may handle the collision
 unfoldable pub right_corner_line : Edge → EdgeShape → EdgeLine
 right_corner_line e s =
-    if next_handles e.right s.relative_right_vertex e.right_right then nothing
+    when next_handles e.right s.relative_right_vertex e.right_right then nothing
     else made (corner_line e.right.convex s.relative_right_vertex s.edge_unit_vector)

@@ -2,7 +2,7 @@
 -- Definitions only. Assumes nothing.
 use Rattle.std.specs.Prelude.{Bool, false, not, ◌&&◌, ◌||◌, Float}
 use Rattle.std.specs.Float.{inf}
-use Rattle.arithmetic.specs.Binary32.{◌⊘◌, ◌≤ᶠ◌, ◌<ᶠ◌, 0ᶠ, 1ᶠ, halfᶠ, if◌then◌else◌}
+use Rattle.arithmetic.specs.Binary32.{◌⊘◌, ◌≤ᶠ◌, ◌<ᶠ◌, 0ᶠ, 1ᶠ, halfᶠ, when◌then◌else◌}
 use Rattle.common.specs.declared.Vec2.{Vec2}
 use Rattle.common.specs.Vectors.{add_of, sub_of, neg_of, mul_of, div_of, dot_of, perp_of, length_squared_of, normalize_of}
 use Rattle.lines.specs.declared.Line.{Line}
@@ -20,7 +20,7 @@ infinity = inf false
 -- "A degenerate edge takes cutoff time 0.5"
 unfoldable pub t_cutoff : Bool → Vec2 → Vec2 → Vec2 → Float
 t_cutoff degenerate velocity left_cutoff cutoff_vector =
-    if degenerate then halfᶠ else (dot_of (sub_of velocity left_cutoff) cutoff_vector ⊘ length_squared_of cutoff_vector)
+    when degenerate then halfᶠ else (dot_of (sub_of velocity left_cutoff) cutoff_vector ⊘ length_squared_of cutoff_vector)
 
 -- `left_cutoff` to `t_right_shadow`, of the points that the shadow's vertices have and the shadow's directions
 unfoldable pub cutoff_of : Agent → Vec2 → Vec2 → Bool → Vec2 → Vec2 → Float → Cutoff
@@ -63,7 +63,7 @@ misses_cutoff k = not (in_unit k.t_cutoff_edge) || k.is_degenerate_edge
 -- infinity, or the squared distance of the velocity from start + t * direction
 unfoldable pub distance_unless : Bool → Vec2 → Vec2 → Float → Vec2 → Float
 distance_unless missed velocity start t direction =
-    if missed then infinity else length_squared_of (sub_of velocity (add_of start (mul_of direction t)))
+    when missed then infinity else length_squared_of (sub_of velocity (add_of start (mul_of direction t)))
 
 -- the three lines of the last choice
 unfoldable pub cutoff_line : Cutoff → Float → EdgeLine
@@ -77,7 +77,7 @@ beside_shadow on_right cutoff d reach = line (sub_of cutoff (mul_of (perp_of d) 
 
 unfoldable pub shadow_line : Side → Vec2 → Shadow → Float → EdgeLine
 shadow_line side cutoff shadow reach =
-    if shadow.covered then nothing else made (beside_shadow side cutoff shadow.direction reach)
+    when shadow.covered then nothing else made (beside_shadow side cutoff shadow.direction reach)
 
 unfoldable pub at_most_both : Float → Float → Float → Bool
 at_most_both a b c = a ≤ᶠ b && a ≤ᶠ c
@@ -89,12 +89,12 @@ nearest_line velocity k left right reach =
     let to_left = distance_unless (k.t_left_shadow <ᶠ 0ᶠ) velocity k.left_cutoff k.t_left_shadow left.direction in
     let to_right = distance_unless (k.t_right_shadow <ᶠ 0ᶠ) velocity k.right_cutoff k.t_right_shadow
     right.direction in
-    if at_most_both to_cutoff to_left to_right then cutoff_line k reach
-    else if to_left ≤ᶠ to_right then shadow_line on_left k.left_cutoff left reach
+    when at_most_both to_cutoff to_left to_right then cutoff_line k reach
+    else when to_left ≤ᶠ to_right then shadow_line on_left k.left_cutoff left reach
     else shadow_line on_right k.right_cutoff right reach
 
 unfoldable pub choose_line : Vec2 → Cutoff → Shadow → Shadow → Float → EdgeLine
 choose_line velocity k left right reach =
-    if projects_left k then vertex_line velocity k.left_cutoff reach
-    else if projects_right k.t_cutoff_edge k.t_right_shadow then vertex_line velocity k.right_cutoff reach
+    when projects_left k then vertex_line velocity k.left_cutoff reach
+    else when projects_right k.t_cutoff_edge k.t_right_shadow then vertex_line velocity k.right_cutoff reach
     else nearest_line velocity k left right reach

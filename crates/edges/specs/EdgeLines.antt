@@ -1,7 +1,7 @@
 -- The line of one edge: `get_line_for_agent_to_edge`, branch by branch. A comparison with a NaN is false. Definitions
 -- only. Assumes nothing.
 use Rattle.std.specs.Prelude.{Bool, List, Float}
-use Rattle.arithmetic.specs.Binary32.{◌⊘◌, ◌<ᶠ◌, 0ᶠ, 1ᶠ, if◌then◌else◌}
+use Rattle.arithmetic.specs.Binary32.{◌⊘◌, ◌<ᶠ◌, 0ᶠ, 1ᶠ, when◌then◌else◌}
 use Rattle.common.specs.declared.Vec2.{Vec2}
 use Rattle.common.specs.Vectors.{zero_vector, sub_of, neg_of, eq_of, determinant_of}
 use Rattle.lines.specs.declared.Line.{Line}
@@ -40,7 +40,7 @@ alone on_right e = record { left = e.right; right = e.right; left_left = at e.le
 unfoldable pub line_of_vertex : Agent → Side → Edge → Vec2 → Float → Float → Float → EdgeLine
 line_of_vertex agent side e relative dist margin horizon =
     let v = alone side e in
-    if v.left.convex
+    when v.left.convex
     then line_for_shadows agent v (is_degenerate v) (tangent on_left relative dist margin)
     (tangent on_right relative dist margin) margin horizon
     else nothing
@@ -59,9 +59,9 @@ line_of_edge agent e s margin horizon =
 -- "The agent is not colliding with the edge": one vertex shadows it, the left or the right, or neither does
 unfoldable pub line_past : Agent → Edge → EdgeShape → Float → Float → EdgeLine
 line_past agent e s margin horizon =
-    if reaches (s.edge_t <ᶠ 0ᶠ) s.dist_to_edge_line_squared s.squared_radius
+    when reaches (s.edge_t <ᶠ 0ᶠ) s.dist_to_edge_line_squared s.squared_radius
     then line_of_vertex agent on_left e s.relative_left_vertex s.dist_left_squared margin horizon
-    else if reaches (1ᶠ <ᶠ s.edge_t) s.dist_to_edge_line_squared s.squared_radius
+    else when reaches (1ᶠ <ᶠ s.edge_t) s.dist_to_edge_line_squared s.squared_radius
     then line_of_vertex agent on_right e s.relative_right_vertex s.dist_right_squared margin horizon
     else line_of_edge agent e s margin horizon
 
@@ -69,11 +69,11 @@ line_past agent e s margin horizon =
 -- right one, the edge between them
 unfoldable pub line_in_front : Agent → Edge → EdgeShape → Float → Float → EdgeLine
 line_in_front agent e s margin horizon =
-    if reaches (s.edge_t <ᶠ 0ᶠ) s.dist_left_squared s.squared_radius
+    when reaches (s.edge_t <ᶠ 0ᶠ) s.dist_left_squared s.squared_radius
     then made (corner_line e.left.convex s.relative_left_vertex s.edge_unit_vector)
-    else if reaches (1ᶠ <ᶠ s.edge_t) s.dist_right_squared s.squared_radius
+    else when reaches (1ᶠ <ᶠ s.edge_t) s.dist_right_squared s.squared_radius
     then right_corner_line e s
-    else if reaches (in_unit s.edge_t) s.dist_to_edge_line_squared s.squared_radius
+    else when reaches (in_unit s.edge_t) s.dist_to_edge_line_squared s.squared_radius
     then made (line zero_vector (neg_of s.edge_unit_vector))
     else line_past agent e s margin horizon
 
@@ -83,6 +83,6 @@ line_for_edge agent e margin horizon existing =
     let left = sub_of e.left.point agent.position in
     let right = sub_of e.right.point agent.position in
     let edge = sub_of e.right.point e.left.point in
-    if determinant_of (neg_of left) edge <ᶠ 0ᶠ then nothing
-    else if is_edge_covered left right horizon margin existing then nothing
+    when determinant_of (neg_of left) edge <ᶠ 0ᶠ then nothing
+    else when is_edge_covered left right horizon margin existing then nothing
     else line_in_front agent e (shape_of left right edge margin) margin horizon

@@ -1,6 +1,6 @@
 -- The shadow of an edge: the directions of its sides, and whether the edges beyond cover them. Definitions only. Assumes nothing.
 use Rattle.std.specs.Prelude.{Bool, true, false, ◌&&◌, Float}
-use Rattle.arithmetic.specs.Binary32.{◌⊖◌, ◌⊗◌, ◌≤ᶠ◌, 0ᶠ, if◌then◌else◌}
+use Rattle.arithmetic.specs.Binary32.{◌⊖◌, ◌⊗◌, ◌≤ᶠ◌, 0ᶠ, when◌then◌else◌}
 use Rattle.arithmetic.specs.Root.{sqrt_of}
 use Rattle.common.specs.declared.Vec2.{Vec2}
 use Rattle.common.specs.Vectors.{add_of, sub_of, neg_of, mul_of, div_of, perp_of, normalize_of, determinant_of}
@@ -23,7 +23,7 @@ extended on_right unit = unit
 
 -- "if left_vertex.convex", "if right_vertex.convex"
 unfoldable pub side_direction : Side → Bool → Vec2 → Float → Float → Vec2 → Vec2
-side_direction side convex relative dist margin unit = if convex then tangent side relative dist margin else extended side unit
+side_direction side convex relative dist margin unit = when convex then tangent side relative dist margin else extended side unit
 
 -- determinant(left_shadow_direction, left_edge_direction) >= 0.0, determinant(right_shadow_direction,
 -- right_edge_direction) <= 0.0
@@ -36,6 +36,6 @@ unfoldable pub shadow_beside : Side → EdgeVertex → OuterVertex → Vec2 → 
 shadow_beside side vertex none direction = record { direction = direction; covered = false }
 shadow_beside side vertex (at v) direction =
     let outer = sub_of v vertex.point in
-    if vertex.convex && is_beyond side direction outer
+    when vertex.convex && is_beyond side direction outer
     then record { direction = normalize_of outer; covered = true }
     else record { direction = direction; covered = false }

@@ -9,7 +9,7 @@ use lib.Dec.{leb, eqb}
 use lib.ListN.{length, take, drop, length-append}
 use lib.Seq.{take_at, take-length}
 use borrow.Author.Tests.{leb-true, le-leb, lt-leb}
-use Rattle.arithmetic.specs.Binary32.{if◌then◌else◌}
+use Rattle.arithmetic.specs.Binary32.{when◌then◌else◌}
 use Rattle.admission.specs.Faults.{Fault, fine, fault, must, unless_fault}
 use Rattle.admission.proofs.FaultLaws.{must-fine}
 use Rattle.answer_records.specs.Replies as said
@@ -57,8 +57,8 @@ module _ (log : List ℕ) (rs : List Entry) (t : Splits log rs) (fits : length l
 
 -- ---- an append
 
-either_way : {A : Type 0} (b : Bool) (x : A) → (if b then x else x) ≡ x
-unfolding if◌then◌else◌
+either_way : {A : Type 0} (b : Bool) (x : A) → (when b then x else x) ≡ x
+unfolding when◌then◌else◌
 either_way true x = refl
 either_way false x = refl
 

@@ -9,7 +9,7 @@ use lib.Dec.{leb}
 use lib.ListN.{length, take, drop, length-drop, drop_of_length-le}
 use lib.Seq.{take_all}
 use borrow.Author.Tests.{le-leb, lt-leb}
-use Rattle.arithmetic.specs.Binary32.{if◌then◌else◌}
+use Rattle.arithmetic.specs.Binary32.{when◌then◌else◌}
 use Rattle.words.specs.Words.{word_of}
 use Rattle.admission.specs.Faults.{fine, fault, ◌⊳◌}
 use Rattle.fallback_index.specs.declared.Fallbacks.TheVariants as answer
@@ -21,14 +21,14 @@ use Rattle.fallback_index.specs.Parts.{up_to}
 
 module _ (all at : ℕ) where
   pub up-there : at ≤ all → at ≡ up_to all at
-  unfolding up_to if◌then◌else◌
+  unfolding up_to when◌then◌else◌
   up-there h = rw (le-leb at all h)
 
   pub up-past : all ≤ at → all ≡ up_to all at
-  unfolding up_to if◌then◌else◌
+  unfolding up_to when◌then◌else◌
   up-past h = go (dec_le at all)
     where
-      go : Dec (at ≤ all) → all ≡ (if leb at all then at else all)
+      go : Dec (at ≤ all) → all ≡ (when leb at all then at else all)
       go (yes p) = let e : all ≡ at = omega arith in rw (le-leb at all p) e
       go (no p) = rw (lt-leb at all (omega arith))
 

@@ -5,7 +5,7 @@ use mathlib.Core.Path.{◌≡◌, refl, sym, ap, ◌∙◌}
 use mathlib.Core.List.{List}
 use lib.ListN.{length, take, drop, length-drop}
 use borrow.Author.Tests.{le-leb, eq-eqb, le-ltb}
-use Rattle.arithmetic.specs.Binary32.{if◌then◌else◌}
+use Rattle.arithmetic.specs.Binary32.{when◌then◌else◌}
 use Rattle.admission.specs.Faults.{fine}
 use Rattle.answer_logs.specs.Logs.{Entry, whole}
 use Rattle.fallback_index.specs.declared.Fallbacks.TheVariants as answer
@@ -143,7 +143,7 @@ module _ (log : List ℕ) (rs : List Entry) (t : Splits log rs) (fits : length l
     differ = let e : a + (b - a) ≡ b = omega arith in sym (ap (λ (k : ℕ). fallbacks (take k rs)) e) ∙ fallbacks-on a (b - a) rs
 
     pub answered : question_in log (built_from log rs) a b ≡ answer.Count (fallbacks_among a b rs)
-    unfolding question_in question_of if◌then◌else◌
+    unfolding question_in question_of when◌then◌else◌
     answered =
         let x = fallbacks (take a rs) in
         let y = fallbacks (take b rs) in

@@ -1,7 +1,7 @@
 -- An append: the index of a log, brought up to date for one record more, as a function of just the parts that it rests on and
 -- of a whole log and index (02, T-10). Definitions only. Assumes nothing.
 use Rattle.std.specs.Prelude.{ℕ, ◌+◌, ◌%◌, Bool, true, List, [], ◌++◌, eqb, leb, length, take, drop}
-use Rattle.arithmetic.specs.Binary32.{if◌then◌else◌}
+use Rattle.arithmetic.specs.Binary32.{when◌then◌else◌}
 use Rattle.admission.specs.Faults.{Fault, must, ◌⊳◌, unless_fault}
 use Rattle.answer_records.specs.Replies as said
 use Rattle.answer_records.specs.Replies.{Said, answer_in}
@@ -22,7 +22,7 @@ use Rattle.fallback_index.specs.Questions.{named_count, before, question_of, hea
 
 -- an entry's number of fallbacks counts only where there is an entry
 unfoldable pub new_entry_fits : ℕ → ℕ → ℕ → Bool
-new_entry_fits most count fallbacks_before = if eqb (count % apart) 0 then leb fallbacks_before most else true
+new_entry_fits most count fallbacks_before = when eqb (count % apart) 0 then leb fallbacks_before most else true
 
 -- a build's refusal 4: log length, count and fallbacks are those with the new record
 unfoldable pub grown_fault : ℕ → ℕ → ℕ → ℕ → Fault

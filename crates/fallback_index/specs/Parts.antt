@@ -1,12 +1,12 @@
 -- The code's cuts, in definitions that only its private functions cite. Definitions only. Assumes nothing.
 use Rattle.std.specs.Prelude.{ℕ, leb}
-use Rattle.arithmetic.specs.Binary32.{if◌then◌else◌}
+use Rattle.arithmetic.specs.Binary32.{when◌then◌else◌}
 use Rattle.log_walks.specs.declared.Met.{Met}
 use Rattle.log_walks.specs.declared.Met.TheVariants as met
 
 -- a place, or the end of all bytes where it lies past that
 unfoldable pub up_to : ℕ → ℕ → ℕ
-up_to all at = if leb at all then at else all
+up_to all at = when leb at all then at else all
 
 -- the fallbacks of a walk, none where it was stopped
 abbrev pub count_in : Met → ℕ

@@ -1,7 +1,7 @@
 -- The question as a function of just the parts that it rests on, and of a whole log and index, which hand those parts over
 -- (02, T-10). Definitions only. Assumes nothing.
 use Rattle.std.specs.Prelude.{ℕ, ◌+◌, ◌-◌, ◌*◌, ◌%◌, List, eqb, leb, ltb, length, take, drop, get_or}
-use Rattle.arithmetic.specs.Binary32.{if◌then◌else◌}
+use Rattle.arithmetic.specs.Binary32.{when◌then◌else◌}
 use Rattle.words.specs.Words.{word_of}
 use Rattle.admission.specs.Faults.{Fault, must, ◌⊳◌, unless_fault}
 use Rattle.answer_records.specs.Answers.{longest_answer}
@@ -60,7 +60,7 @@ before n entry stretch = more (before_in entry) (walked n stretch)
 abbrev pub between : Met → Met → Fallbacks
 between (met.Fault r) y = answer.Refused r
 between (met.Count m) (met.Fault r) = answer.Refused r
-between (met.Count m) (met.Count n) = if ltb n m then answer.Refused 2 else answer.Count (n - m)
+between (met.Count m) (met.Count n) = when ltb n m then answer.Refused 2 else answer.Count (n - m)
 
 -- the two lengths, the index's first bytes, two entries, and the log from where each of them points
 unfoldable pub question_of : ℕ → ℕ → List ℕ → List ℕ → List ℕ → List ℕ → List ℕ → ℕ → ℕ → Fallbacks

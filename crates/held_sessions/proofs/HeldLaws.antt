@@ -5,7 +5,7 @@ use mathlib.Core.Path.{◌≡◌, refl, ◌∙◌, ap}
 use native.Mathlib.Nat.{mod-eq_of_lt}
 use lib.ListN.{get_or}
 use lib.Ieee.{Float, nan}
-use Rattle.arithmetic.specs.Binary32.{if◌then◌else◌}
+use Rattle.arithmetic.specs.Binary32.{when◌then◌else◌}
 use Rattle.admission.specs.Faults.{fine, fault, fault_of}
 use Rattle.common.specs.declared.Vec2.{Vec2}
 use Rattle.common.specs.Vectors.{vec}
@@ -34,7 +34,7 @@ module _ (w : Vec2) (l : Float) where
 
   phase-back : (p : Phase) → phase_in (phase_kind p) (phase_index p) (get_or (numbers_in w l p) 3 nan)
       (get_or (numbers_in w l p) 4 nan) (get_or (numbers_in w l p) 5 nan) ≡ p
-  unfolding phase_in if◌then◌else◌
+  unfolding phase_in when◌then◌else◌
   phase-back (phase.Solving x y) = refl
   phase-back (phase.Relaxing x y depth) = refl
   phase-back (phase.RigidFailure k x y) = refl

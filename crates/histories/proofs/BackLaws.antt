@@ -11,7 +11,7 @@ use lib.Dec.{ltb}
 use lib.ListN.{length, length-append, take, drop}
 use lib.Ieee.{Float}
 use borrow.Author.Tests.{le-leb, ltb-true, ltb-false}
-use Rattle.arithmetic.specs.Binary32.{0ᶠ, if◌then◌else◌}
+use Rattle.arithmetic.specs.Binary32.{0ᶠ, when◌then◌else◌}
 use Rattle.common.specs.declared.Vec2.{Vec2}
 use Rattle.lines.specs.declared.Line.{Line}
 use Rattle.lines.specs.declared.Origin.{Origin}
@@ -40,8 +40,8 @@ use Rattle.histories.proofs.HistoryLaws.{each_stands, last-over}
 -- ---- a list that stands solving stands the same for every rigid count
 
 never-solving : (b : Bool) (k : ℕ) (p q : Vec2) (g f : Failed) (n m : ℕ) (w : Relaxed) →
-    (if b then stands (rigid_failure k p) g n else relaxed_outcome g w) ≡ stands (solving q) f m → ⊥
-unfolding if◌then◌else◌
+    (when b then stands (rigid_failure k p) g n else relaxed_outcome g w) ≡ stands (solving q) f m → ⊥
+unfolding when◌then◌else◌
 never-solving true k p q g f n m w e = let z : ◌≡◌ {A = ℕ} 0 1 = cc in omega arith
 never-solving false k p q g f n m (relaxed c d i) e = let z : ◌≡◌ {A = ℕ} 0 1 = cc in omega arith
 never-solving false k p q g f n m (relax_refused r) e = let z : ◌≡◌ {A = ℕ} 0 1 = cc in omega arith

@@ -10,7 +10,7 @@ use lib.Dec.{leb, ltb}
 use lib.ListN.{length}
 use lib.Ieee.{Float}
 use borrow.Author.Tests.{lt-ltb, le-ltb, le-leb, ltb-true, ltb-false, leb-true}
-use Rattle.arithmetic.specs.Binary32.{if◌then◌else◌}
+use Rattle.arithmetic.specs.Binary32.{when◌then◌else◌}
 use Rattle.common.specs.declared.Vec2.{Vec2}
 use Rattle.lines.specs.declared.Line.{Line}
 use Rattle.lines.specs.declared.Origin.{Origin}
@@ -85,19 +85,19 @@ lowered_down [] rigid = rigid
 lowered_down (i ∷ is) rigid = lowered i (lowered_down is rigid)
 
 pub lowered-one : (i rigid : ℕ) → i < rigid → lowered i rigid ≡ rigid - 1
-unfolding lowered if◌then◌else◌
+unfolding lowered when◌then◌else◌
 lowered-one i rigid h = simp (lt-ltb i rigid h)
 
 pub lowered_none : (i rigid : ℕ) → rigid ≤ i → lowered i rigid ≡ rigid
-unfolding lowered if◌then◌else◌
+unfolding lowered when◌then◌else◌
 lowered_none i rigid h = simp (le-ltb i rigid h)
 
 below_one : (rigid i : ℕ) (is : List ℕ) → i < rigid → below_in rigid (i ∷ is) ≡ 1 + below_in rigid is
-unfolding below_in if◌then◌else◌
+unfolding below_in when◌then◌else◌
 below_one rigid i is h = simp (lt-ltb i rigid h)
 
 below-not : (rigid i : ℕ) (is : List ℕ) → rigid ≤ i → below_in rigid (i ∷ is) ≡ 0 + below_in rigid is
-unfolding below_in if◌then◌else◌
+unfolding below_in when◌then◌else◌
 below-not rigid i is h = simp (le-ltb i rigid h)
 
 -- none from the rigid count on; else no more than places from `low` on
@@ -332,7 +332,7 @@ lower-low {low = low} (ascends {i = i} above below rest) = ascends {low = low} {
 
 found-more : (count n : ℕ) (b : Bool) {is : List ℕ} → n < count → Ascending count (n + 1) is →
     Ascending count n (index_if b n ++ is)
-unfolding index_if if◌then◌else◌
+unfolding index_if when◌then◌else◌
 found-more count n true h up = ascends {low = n} {i = n} (omega arith) h up
 found-more count n false h up = lower-low up
 

@@ -12,7 +12,7 @@ use lib.ListN.{length, take, get_or}
 use lib.Seq.{take-length}
 use lib.Ieee.{Float}
 use borrow.Author.Tests.{lt-ltb, le-leb, eq-eqb, ltb-true, ltb-false, leb-true, eqb-true}
-use Rattle.arithmetic.specs.Binary32.{if◌then◌else◌}
+use Rattle.arithmetic.specs.Binary32.{when◌then◌else◌}
 use Rattle.arithmetic.proofs.Lists.{All, none, more}
 use Rattle.common.specs.declared.Vec2.{Vec2}
 use Rattle.lines.specs.declared.Line.{Line}
@@ -44,7 +44,7 @@ use Rattle.histories.proofs.FreshLaws.{phase-same, failed-same}
 module _ (rigid : ℕ) (wish : Vec2) (limit : Float) (p : Vec2) where
   advance-met : (e : List Line) (l : Line) (n : ℕ) → Met p l →
       advance rigid wish limit e l (stands (solving p) no_line n) ≡ stands (solving p) no_line (n + 1)
-  unfolding advance pass_line entered is_met if◌then◌else◌
+  unfolding advance pass_line entered is_met when◌then◌else◌
   advance-met e l n h = rw h
 
   feed-met : (e : List Line) {m : List Line} (n : ℕ) → All (Met p) m →
@@ -152,7 +152,7 @@ batch-passes count b e =
     }
 
 named-nothing : (count n k : ℕ) (b : Bool) → ltb k n ≡ b → named count n k ≡ unmet.Nothing → n ≤ k
-unfolding named if◌then◌else◌
+unfolding named when◌then◌else◌
 named-nothing count n k true e h =
     let z : unmet.At (count + k) ≡ unmet.Nothing = rw e at h in
     let y : ◌≡◌ {A = ℕ} 0 1 = cc in
@@ -167,7 +167,7 @@ module _ {s : Session} (h : Handed s) {p : Vec2} (solves : phase_of s.phase ≡ 
 
   unmet-named : batch_fault s.count b.numbers [] ≡ fine → first_unmet p L < length L →
       unmet_as s b.numbers ≡ unmet.At (s.count + first_unmet p L)
-  unfolding unmet_as point_now named if◌then◌else◌
+  unfolding unmet_as point_now named when◌then◌else◌
   unmet-named e k = rw (e, solves, lt-ltb (first_unmet p L) (length L) k)
 
   changed-by : (f : Fault) → batch_fault s.count b.numbers b.brought ≡ f →

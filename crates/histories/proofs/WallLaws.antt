@@ -6,7 +6,7 @@ use mathlib.Core.List.{List, [], ◌∷◌, ◌++◌}
 use native.Mathlib.Omega.{arith}
 use lib.ListN.{length, length-append}
 use lib.Seq.{append_snoc}
-use Rattle.arithmetic.specs.Binary32.{if◌then◌else◌}
+use Rattle.arithmetic.specs.Binary32.{when◌then◌else◌}
 use Rattle.arithmetic.proofs.Lists.{All, none, more}
 use Rattle.lines.specs.declared.Origin.{Origin}
 use Rattle.admission.specs.Faults.{fine, fault_of}
@@ -36,7 +36,7 @@ module _ {A : Type 0} where
   left_step : (b : Bool) (xs ys rest : List A) (y : A) (is : List ℕ) →
       without_all is (xs ++ (y ∷ ys)) ≡ xs ++ (y ∷ rest) →
       without_all (index_if b (length xs) ++ is) (xs ++ (y ∷ ys)) ≡ xs ++ kept_unless b y rest
-  unfolding index_if if◌then◌else◌ without_all
+  unfolding index_if when◌then◌else◌ without_all
   left_step true xs ys rest y is h = rw h (without-behind xs y rest)
   left_step false xs ys rest y is h = h
 

@@ -11,7 +11,7 @@ use lib.Dec.{leb}
 use lib.ListN.{length, drop, length-append}
 use lib.Seq.{sets, length-sets}
 use borrow.Author.Tests.{leb-true, le-leb, lt-leb, eq-eqb, ne_eqb}
-use Rattle.arithmetic.specs.Binary32.{if◌then◌else◌}
+use Rattle.arithmetic.specs.Binary32.{when◌then◌else◌}
 use Rattle.fields.proofs.StoreLaws.{sets-append}
 use Rattle.admission.specs.Faults.{Fault, fine, fault, must, unless_fault}
 use Rattle.admission.proofs.FaultLaws.{⊳-fine, must-fine}
@@ -202,7 +202,7 @@ module _ {part : List ℕ} {before : Extent} {l : List ℕ} {start : ℕ} (fits 
 -- ---- how many bytes the entries have
 
 new-entry-length : (n offset before : ℕ) → length (new_entry (n + 1) offset before) ≡ 8 * ((n + 1) / 64 - n / 64)
-unfolding new_entry if◌then◌else◌
+unfolding new_entry when◌then◌else◌
 new-entry-length n offset before = go (ℕ_discrete ((n + 1) % 64) 0)
   where
     go : Dec ((n + 1) % 64 ≡ 0) → length (new_entry (n + 1) offset before) ≡ 8 * ((n + 1) / 64 - n / 64)

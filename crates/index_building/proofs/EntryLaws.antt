@@ -8,7 +8,7 @@ use mathlib.Core.List.{List, [], ◌∷◌, ◌++◌, append_assoc, append-nil}
 use lib.ListN.{length, length-append}
 use lib.Seq.{take-append-le, take-length}
 use borrow.Author.Tests.{eq-eqb, ne_eqb}
-use Rattle.arithmetic.specs.Binary32.{if◌then◌else◌}
+use Rattle.arithmetic.specs.Binary32.{when◌then◌else◌}
 use Rattle.answer_logs.specs.Logs.{Entry}
 use Rattle.log_walks.specs.Figures.{sizes, fallbacks}
 use Rattle.index_building.specs.Indexes.{entries_for, new_entry, entry_with, entry_of, entries}
@@ -43,7 +43,7 @@ module _ (rs : List Entry) (r : Entry) where
 
   pub entries-more : entries (rs ++ (r ∷ [])) 0 (entries_for (length rs + 1)) ≡ entries rs 0 (entries_for (length rs))
       ++ new_entry (length rs + 1) (sizes (rs ++ (r ∷ []))) (fallbacks (rs ++ (r ∷ [])))
-  unfolding new_entry if◌then◌else◌
+  unfolding new_entry when◌then◌else◌
   entries-more = go (ℕ_discrete ((length rs + 1) % 64) 0)
     where
       go : Dec ((length rs + 1) % 64 ≡ 0) → entries (rs ++ (r ∷ [])) 0 (entries_for (length rs + 1))

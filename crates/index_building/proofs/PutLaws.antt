@@ -7,7 +7,7 @@ use mathlib.Core.List.{List}
 use lib.ListN.{length}
 use lib.Seq.{sets}
 use borrow.Author.Tests.{eq-eqb, ne_eqb}
-use Rattle.arithmetic.specs.Binary32.{if◌then◌else◌}
+use Rattle.arithmetic.specs.Binary32.{when◌then◌else◌}
 use Rattle.words.specs.Words.{word_bytes}
 use Rattle.fields.proofs.StoreLaws.{sets-append}
 use Rattle.index_building.specs.Indexes.{entry_with, head, start_of, new_entry}
@@ -45,7 +45,7 @@ start-put l m out total count e f =
 
 module _ (i offset before : ℕ) where
   pub entry_new : i % 64 ≡ 0 → entry_with offset before ≡ new_entry i offset before
-  unfolding new_entry if◌then◌else◌
+  unfolding new_entry when◌then◌else◌
   entry_new h = rw (eq-eqb (i % 64) 0 h)
 
   pub entry-new-length : i % 64 ≡ 0 → length (new_entry i offset before) ≡ 8
@@ -53,5 +53,5 @@ module _ (i offset before : ℕ) where
 
   pub none-new : (i % 64 ≡ 0 → ⊥) → (l : List ℕ) (at : ℕ) → (l ≡ sets l at (new_entry i offset before))
       × (at ≡ at + length (new_entry i offset before))
-  unfolding new_entry if◌then◌else◌
+  unfolding new_entry when◌then◌else◌
   none-new h l at = rw (ne_eqb (i % 64) 0 h) (refl, omega arith)

@@ -7,7 +7,7 @@ use mathlib.Core.List.{List, ◌++◌}
 use lib.ListN.{length, length-append}
 use lib.Seq.{sets}
 use borrow.Author.Tests.{le-leb, lt-leb, eq-eqb, ne_eqb}
-use Rattle.arithmetic.specs.Binary32.{if◌then◌else◌}
+use Rattle.arithmetic.specs.Binary32.{when◌then◌else◌}
 use Rattle.index_building.specs.declared.IndexWritten.TheVariants as index
 use Rattle.index_building.specs.Indexes.{greatest, index_length, entry_place, new_entry, head, standing, laid_over}
 use Rattle.index_building.specs.Stores.{store_fault, stored_over, ends_of, ends_fault, ends_over}
@@ -17,7 +17,7 @@ use Rattle.fields.proofs.StoreLaws.{sets-append}
 
 -- the entries of a record less, and the new one if there is one
 pub new-length : (count total fell : ℕ) → entry_place (count + 63) + length (new_entry count total fell) ≡ index_length count
-unfolding new_entry if◌then◌else◌
+unfolding new_entry when◌then◌else◌
 new-length count total fell = go (ℕ_discrete (count % 64) 0)
   where
     go : Dec (count % 64 ≡ 0) → entry_place (count + 63) + length (new_entry count total fell) ≡ index_length count
@@ -49,7 +49,7 @@ module _ (l : List ℕ) (total count fell : ℕ) where
 -- ---- the ends alone
 
 pub new-short : (count total fell : ℕ) → length (new_entry count total fell) ≤ 8
-unfolding new_entry if◌then◌else◌
+unfolding new_entry when◌then◌else◌
 new-short count total fell = omega (arith, new-length count total fell)
 
 module _ (l : List ℕ) (total count fell : ℕ) where

@@ -10,7 +10,7 @@ use lib.Dec.{ltb, eqb, leb}
 use lib.ListN.{length, take, drop, length-append, length-drop}
 use lib.Seq.{take_at}
 use borrow.Author.Tests.{le-leb, lt-leb, lt-ltb, ne_eqb}
-use Rattle.arithmetic.specs.Binary32.{if◌then◌else◌}
+use Rattle.arithmetic.specs.Binary32.{when◌then◌else◌}
 use Rattle.arithmetic.proofs.Lists.{All, none, more}
 use Rattle.admission.specs.Faults.{Fault, fine, fault, must, ◌⊳◌, unless_fault}
 use Rattle.answer_records.specs.Answers.{longest_answer}
@@ -134,10 +134,10 @@ end-told x room out h left fine e =
 
 at-end : (x : Extent) (out left : List ℕ) → found_whole left ≡ ended → on_top x out (records_of left)
     ≡ unless_fault unwritten (end_fault greatest (length left) x) (written (start_of x.bytes x.records ++ out))
-unfolding end_fault if◌then◌else◌ completed
+unfolding end_fault when◌then◌else◌ completed
 at-end x out left e = tells-wholes unwritten _ left ∙ ap (tells_part _ unwritten (length left)) (none-there left e) ∙ go left
   where
-    go : (s : List ℕ) → (if ltb 0 (length s) then unwritten 2 else finished x (out ++ []))
+    go : (s : List ℕ) → (when ltb 0 (length s) then unwritten 2 else finished x (out ++ []))
         ≡ unless_fault unwritten (must (eqb (length s) 0) 2 ⊳ must (leb x.bytes greatest) 4 ⊳ must
         (leb x.records greatest) 4) (written (start_of x.bytes x.records ++ out))
     go [] = ap (finished x) (append-nil out)

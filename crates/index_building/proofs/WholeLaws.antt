@@ -9,7 +9,7 @@ use lib.Dec.{eqb, leb}
 use lib.ListN.{length, length-append}
 use lib.Seq.{sets}
 use borrow.Author.Tests.{lt-ltb, le-ltb, le-leb, lt-leb, leb-true}
-use Rattle.arithmetic.specs.Binary32.{if◌then◌else◌}
+use Rattle.arithmetic.specs.Binary32.{when◌then◌else◌}
 use Rattle.admission.specs.Faults.{fine, fault, must, unless_fault}
 use Rattle.admission.proofs.FaultLaws.{⊳-fine, must-fine}
 use Rattle.answer_logs.specs.Logs.{Entry, Records, whole, refused_at}
@@ -94,7 +94,7 @@ module _ (most : ℕ) (log buffer : List ℕ) where
 
   left_by : (w : Wholes) (used : ℕ) (x : Extent) → progress.Whole used x ≡ progress_by 0 at_start w → used < length log →
       refused_over buffer 2 ≡ tells_part from_records (refused_over buffer) (length log) w
-  unfolding if◌then◌else◌
+  unfolding when◌then◌else◌
   left_by (stopped n place) used x e h = absurd (let z : ◌≡◌ {A = ℕ} 0 1 = cc in omega arith)
   left_by (reached l u) used x e h = let f : used ≡ 0 + u = cc in rw (lt-ltb u (length log) (omega arith))
 
@@ -156,7 +156,7 @@ module _ (most : ℕ) (log buffer : List ℕ) (x : Extent) (w : Reached log x) w
   few-records = omega (arith, few w.list, (measures log w.there).bytes, bytes-told, records-told)
 
   told : built_up_to most log buffer ≡ from_records most log buffer w.list
-  unfolding if◌then◌else◌
+  unfolding when◌then◌else◌
   told = built-wholes most log buffer ∙ rw (w.there, le-ltb (length log) (length log) (omega arith))
 
   pub build-over : most < x.bytes → standing (index.Refused 4) buffer ≡ built_up_to most log buffer

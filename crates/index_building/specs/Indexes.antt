@@ -1,7 +1,7 @@
 -- The index's bytes (02, T-10: "a four-byte length of the rest, version byte 1, the log's byte length, the record count, then
 -- the entries"), and how bytes are put into a lent buffer. Definitions only. Assumes nothing.
 use Rattle.std.specs.Prelude.{ℕ, zero, suc, ◌+◌, ◌*◌, ◌/◌, ◌%◌, List, [], ◌∷◌, ◌++◌, eqb, leb, length, take, drop}
-use Rattle.arithmetic.specs.Binary32.{if◌then◌else◌}
+use Rattle.arithmetic.specs.Binary32.{when◌then◌else◌}
 use Rattle.words.specs.Words.{word_bytes}
 use Rattle.admission.specs.Faults.{must, unless_fault}
 use Rattle.answer_logs.specs.Logs.{Entry}
@@ -68,7 +68,7 @@ start_of log_length count = head log_length count ++ entry_with 0 0
 
 -- the entry that a record count calls for, if any
 unfoldable pub new_entry : ℕ → ℕ → ℕ → List ℕ
-new_entry count offset before = if eqb (count % apart) 0 then entry_with offset before else []
+new_entry count offset before = when eqb (count % apart) 0 then entry_with offset before else []
 
 -- ---- what is told, and what a lent buffer holds then
 

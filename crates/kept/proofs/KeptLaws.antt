@@ -9,7 +9,7 @@ use lib.ListN.{length, take, drop, get_or, set, length-append, length-drop}
 use lib.Seq.{take-suc, take_at, take_all, take-append-le, drop_at, drop-drop, get_or-drop, get_or-append-add, set_split, length-take-le}
 use borrow.Rule.Slice.PartMut.{post_of, put_mid}
 use borrow.Author.Tests.{le-ltb}
-use Rattle.arithmetic.specs.Binary32.{if◌then◌else◌}
+use Rattle.arithmetic.specs.Binary32.{when◌then◌else◌}
 use Rattle.kept.specs.Kept.{Kept, kept, shifted, kept_over}
 
 module _ (from i : ℕ) (l : List ℕ) (fits : from + suc i ≤ length l) where
@@ -43,7 +43,7 @@ module _ (from i : ℕ) (l : List ℕ) (fits : from + suc i ≤ length l) where
 -- the places of a buffer
 pub kept_there : (from end : ℕ) (l : List ℕ) → from ≤ end → end ≤ length l → kept_over from end l
     ≡ kept (end - from) (shifted from (end - from) l)
-unfolding kept_over if◌then◌else◌
+unfolding kept_over when◌then◌else◌
 kept_there from end l h k = rw (le-ltb end from h, le-ltb (length l) end k)
 
 -- a read behind what is kept leaves it as it is

@@ -1,6 +1,6 @@
 -- What a program keeps of one read for the next. Definitions only. Assumes nothing.
 use Rattle.std.specs.Prelude.{ℕ, ◌-◌, List, ◌++◌, ltb, length, take, drop}
-use Rattle.arithmetic.specs.Binary32.{if◌then◌else◌}
+use Rattle.arithmetic.specs.Binary32.{when◌then◌else◌}
 
 -- how many bytes are kept, and what the buffer holds then
 pub record Kept : Type 0 where
@@ -16,5 +16,5 @@ shifted from n l = take n (drop from l) ++ drop n l
 
 -- those between two places of the buffer
 unfoldable pub kept_over : ℕ → ℕ → List ℕ → Kept
-kept_over from end l = if ltb end from then kept 0 l else (if ltb (length l) end then kept 0 l else kept (end - from)
+kept_over from end l = when ltb end from then kept 0 l else (when ltb (length l) end then kept 0 l else kept (end - from)
     (shifted from (end - from) l))

@@ -8,7 +8,7 @@ use native.Mathlib.Nat.{add-zero, add_assoc}
 use lib.ListN.{length, take, drop}
 use lib.Seq.{take_at, drop_at}
 use lib.Ieee.{Float}
-use Rattle.arithmetic.specs.Binary32.{0ᶠ, if◌then◌else◌}
+use Rattle.arithmetic.specs.Binary32.{0ᶠ, when◌then◌else◌}
 use Rattle.common.specs.declared.Vec2.{Vec2}
 use Rattle.lines.specs.declared.Line.{Line}
 use Rattle.lines.specs.Lines.{most_lines}
@@ -25,9 +25,9 @@ use Rattle.linear_programming.proofs.Steps.{entered, advance, feed, feed-rigid, 
 use Rattle.linear_programming.proofs.WholeLaws.{Agrees, agree-solving, agree-relaxing, agree-rigid, whole-agrees}
 
 -- where both branches go through g, the choice does
-if-through : {A B : Type 0} (g : A → B) (b : Bool) {x y : A} {v w : B} → v ≡ g x → w ≡ g y → (if b then v else w)
-    ≡ g (if b then x else y)
-unfolding if◌then◌else◌
+if-through : {A B : Type 0} (g : A → B) (b : Bool) {x y : A} {v w : B} → v ≡ g x → w ≡ g y → (when b then v else w)
+    ≡ g (when b then x else y)
+unfolding when◌then◌else◌
 if-through g true h k = h
 if-through g false h k = k
 

@@ -9,7 +9,7 @@ use lib.ListN.{length}
 use lib.Seq.{append_snoc, take_at, drop_at}
 use lib.Dec.{ltb}
 use lib.Ieee.{Float}
-use Rattle.arithmetic.specs.Binary32.{0ᶠ, if◌then◌else◌}
+use Rattle.arithmetic.specs.Binary32.{0ᶠ, when◌then◌else◌}
 use Rattle.common.specs.declared.Vec2.{Vec2}
 use Rattle.lines.specs.declared.Line.{Line}
 use Rattle.pass_2d.specs.Walk.{walk}
@@ -26,7 +26,7 @@ use Rattle.pass_2d.proofs.PassLaws.{pass-failed, pass-refused, FailsAt, still, t
 unfoldable pub entered : ℕ → Float → List Line → Line → Pass → Outcome
 entered rigid limit earlier own (feasible p n) = stands (solving p) no_line n
 entered rigid limit earlier own (failed f p n) =
-    if ltb f.index rigid then stands (rigid_failure f.index p) (failed_line f) n
+    when ltb f.index rigid then stands (rigid_failure f.index p) (failed_line f) n
     else relaxed_outcome (failed_line f) (relax_line rigid limit earlier own (relaxed p 0ᶠ n))
 entered rigid limit earlier own (refused r) = refusal r
 
@@ -70,10 +70,10 @@ module _ (rigid : ℕ) (wish : Vec2) (limit : Float) where
 
   -- line x has failed, be it rigid (b) or not
   from-failed : (b : Bool) (k : ℕ) (f : Failed) (p : Vec2) (n : ℕ) (e : List Line) (x : Line) (xs : List Line) →
-      (if b then stands (rigid_failure k p) f n else relaxed_outcome f (walk (relax_line rigid limit) e (x ∷ xs) (relaxed p 0ᶠ n)))
-      ≡ feed rigid wish limit (e ++ (x ∷ [])) xs (if b then stands (rigid_failure k p) f n else relaxed_outcome f
+      (when b then stands (rigid_failure k p) f n else relaxed_outcome f (walk (relax_line rigid limit) e (x ∷ xs) (relaxed p 0ᶠ n)))
+      ≡ feed rigid wish limit (e ++ (x ∷ [])) xs (when b then stands (rigid_failure k p) f n else relaxed_outcome f
       (relax_line rigid limit e x (relaxed p 0ᶠ n)))
-  unfolding if◌then◌else◌
+  unfolding when◌then◌else◌
   from-failed true k f p n e x xs = sym (feed-rigid k p f n (e ++ (x ∷ [])) xs)
   from-failed false k f p n e x xs = sym (feed-relaxed f (e ++ (x ∷ [])) xs (relax_line rigid limit e x (relaxed p 0ᶠ n)))
 

@@ -1,7 +1,7 @@
 -- 01, "The whole-list rules run the 2D pass over the list, then relaxation from k": over a complete list, pass by pass.
 -- Definitions only. Assumes nothing.
 use Rattle.std.specs.Prelude.{ℕ, List, take, drop, ltb, Float}
-use Rattle.arithmetic.specs.Binary32.{0ᶠ, if◌then◌else◌}
+use Rattle.arithmetic.specs.Binary32.{0ᶠ, when◌then◌else◌}
 use Rattle.common.specs.declared.Vec2.{Vec2}
 use Rattle.lines.specs.declared.Line.{Line}
 use Rattle.pass_2d.specs.Walk.{walk}
@@ -34,7 +34,7 @@ unfoldable pub after_pass : ℕ → Float → List Line → Pass → Outcome
 after_pass rigid limit lines (feasible p n) = stands (solving p) no_line n
 after_pass rigid limit lines (failed f p n) =
     let k = f.index in
-    if ltb k rigid then stands (rigid_failure k p) (failed_line f) n
+    when ltb k rigid then stands (rigid_failure k p) (failed_line f) n
     else relaxed_outcome (failed_line f) (walk (relax_line rigid limit) (take k lines) (drop k lines) (relaxed p 0ᶠ n))
 after_pass rigid limit lines (refused r) = refusal r
 

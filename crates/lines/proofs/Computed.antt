@@ -6,7 +6,7 @@ use mathlib.Core.Bool.{false}
 use mathlib.Core.List.{[], ◌∷◌}
 use lib.Ieee.{Float, binary32, round}
 use lib.Ieee as Ieee
-use Rattle.arithmetic.specs.Binary32.{0ᶠ, 1ᶠ, halfᶠ, if◌then◌else◌, finite}
+use Rattle.arithmetic.specs.Binary32.{0ᶠ, 1ᶠ, halfᶠ, when◌then◌else◌, finite}
 use Rattle.arithmetic.specs.Ends.{abs_of, min_of, max_of, clamp_of}
 use Rattle.arithmetic.specs.Root.{sqrt_of}
 use Rattle.common.specs.Vectors.{reach, longest, add_of, sub_of, mul_of, dot_of, perp_of, determinant_of, length_squared_of, normalize_of}
@@ -15,7 +15,7 @@ use Rattle.lines.specs.LineFaults.{line_reach, band_low, band_high}
 
 unfoldable pub computed : Unit {0}
 unfolding Ieee.add Ieee.sub Ieee.mul Ieee.div Ieee.neg Ieee.lt Ieee.le Ieee.eq Ieee.is_nan Ieee.of_int Ieee.of_bits Ieee.round
-    add_of sub_of mul_of dot_of perp_of determinant_of length_squared_of normalize_of if◌then◌else◌ abs_of finite min_of max_of clamp_of sqrt_of
+    add_of sub_of mul_of dot_of perp_of determinant_of length_squared_of normalize_of when◌then◌else◌ abs_of finite min_of max_of clamp_of sqrt_of
 computed = tt
 
 -- the f32 nearest to a ratio

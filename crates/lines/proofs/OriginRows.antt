@@ -7,7 +7,7 @@ use native.Mathlib.Numerals.{add-one, add-two}
 use lib.ListN.{length, get_or, set}
 use lib.Seq.{sets}
 use borrow.Author.Tests.{le-leb, lt-leb}
-use Rattle.arithmetic.specs.Binary32.{if◌then◌else◌}
+use Rattle.arithmetic.specs.Binary32.{when◌then◌else◌}
 use Rattle.lines.specs.declared.Origin.{Origin}
 use Rattle.lines.specs.Origins.{origin, unknown, origins_of, three_of, origin_stored}
 
@@ -48,11 +48,11 @@ three-set (x ∷ y ∷ z ∷ r) (suc i) k p q s e h =
 
 module _ (b : List ℕ) (i : ℕ) (o : Origin) where
   pub origin-sets : 3 * i + 3 ≤ length b → origin_stored b i o ≡ sets b (3 * i) (three_of o)
-  unfolding origin_stored if◌then◌else◌
+  unfolding origin_stored when◌then◌else◌
   origin-sets h = simp (le-leb (3 * i + 3) (length b) h)
 
   pub origin-not : length b < 3 * i + 3 → origin_stored b i o ≡ b
-  unfolding origin_stored if◌then◌else◌
+  unfolding origin_stored when◌then◌else◌
   origin-not h = simp (lt-leb (3 * i + 3) (length b) h)
 
   pub stored-origin : 3 * i + 3 ≤ length b → origins_of (origin_stored b i o) ≡ set (origins_of b) i o

@@ -9,7 +9,7 @@ use lib.ListN.{length, take, set}
 use lib.Seq.{sets}
 use lib.Ieee.{Float}
 use borrow.Author.Tests.{le-leb, lt-leb}
-use Rattle.arithmetic.specs.Binary32.{if◌then◌else◌}
+use Rattle.arithmetic.specs.Binary32.{when◌then◌else◌}
 use Rattle.lines.specs.declared.Line.{Line}
 use Rattle.lines.specs.Lines.{lines_of, four_of, line_stored}
 use Rattle.lines.proofs.Rows.{lines_fit, four-set}
@@ -17,11 +17,11 @@ use Rattle.lines.proofs.Fold.{take_set_next}
 
 module _ (b : List Float) (i : ℕ) (l : Line) where
   pub stored-sets : 4 * i + 4 ≤ length b → line_stored b i l ≡ sets b (4 * i) (four_of l)
-  unfolding line_stored if◌then◌else◌
+  unfolding line_stored when◌then◌else◌
   stored-sets h = simp (le-leb (4 * i + 4) (length b) h)
 
   pub stored-not : length b < 4 * i + 4 → line_stored b i l ≡ b
-  unfolding line_stored if◌then◌else◌
+  unfolding line_stored when◌then◌else◌
   stored-not h = simp (lt-leb (4 * i + 4) (length b) h)
 
   pub stored-line : 4 * i + 4 ≤ length b → lines_of (line_stored b i l) ≡ set (lines_of b) i l

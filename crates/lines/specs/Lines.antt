@@ -2,7 +2,7 @@
 use Rattle.std.specs.Prelude.{ℕ, ◌+◌, ◌*◌, List, [], ◌∷◌, ◌++◌, leb, length, Float}
 use Rattle.std.proofs.lemmas.List.Edits.{sets}
 use Rattle.std.specs.Float.{nan}
-use Rattle.arithmetic.specs.Binary32.{bits, if◌then◌else◌}
+use Rattle.arithmetic.specs.Binary32.{bits, when◌then◌else◌}
 use Rattle.common.specs.declared.Vec2.{Vec2}
 use Rattle.common.specs.Vectors.{vec}
 use Rattle.lines.specs.declared.Line.{Line}
@@ -41,4 +41,4 @@ numbers_of (l ∷ ls) = four_of l ++ numbers_of ls
 
 -- the line at an index is `l`; numbers without room for it stay as they are
 unfoldable pub line_stored : List Float → ℕ → Line → List Float
-line_stored b i l = if leb (4 * i + 4) (length b) then sets b (4 * i) (four_of l) else b
+line_stored b i l = when leb (4 * i + 4) (length b) then sets b (4 * i) (four_of l) else b

@@ -1,7 +1,7 @@
 -- Where a line comes from (02, T-06), and origins as numbers three by three. Definitions only. Assumes nothing.
 use Rattle.std.specs.Prelude.{ℕ, ◌+◌, ◌*◌, List, [], ◌∷◌, leb, length}
 use Rattle.std.proofs.lemmas.List.Edits.{sets}
-use Rattle.arithmetic.specs.Binary32.{if◌then◌else◌}
+use Rattle.arithmetic.specs.Binary32.{when◌then◌else◌}
 use Rattle.lines.specs.declared.Origin.{Origin}
 
 abbrev pub origin : ℕ → ℕ → ℕ → Origin
@@ -30,4 +30,4 @@ three_of o = o.kind ∷ o.place ∷ o.vertex ∷ []
 
 -- an origin's numbers stored as those of the i-th, where there is room for it
 unfoldable pub origin_stored : List ℕ → ℕ → Origin → List ℕ
-origin_stored b i o = if leb (3 * i + 3) (length b) then sets b (3 * i) (three_of o) else b
+origin_stored b i o = when leb (3 * i + 3) (length b) then sets b (3 * i) (three_of o) else b

@@ -9,7 +9,7 @@ use lib.Dec.{leb}
 use lib.ListN.{length, take, drop, length-take, length-drop}
 use lib.Seq.{take_all, take-take, take-add, drop_at, get_or-take, length-take-le}
 use borrow.Author.Tests.{le-leb, leb-true, leb-false}
-use Rattle.arithmetic.specs.Binary32.{if◌then◌else◌}
+use Rattle.arithmetic.specs.Binary32.{when◌then◌else◌}
 use Rattle.words.specs.Words.{pair_of}
 use Rattle.answer_records.specs.declared.Answer.{Answer}
 use Rattle.answer_records.specs.Replies as said
@@ -120,8 +120,8 @@ module _ (k : ℕ) (s t : List ℕ) (same : take k s ≡ take k t) (long : k ≤
   same-overlong h l =
       found-overlong s (omega arith) h ∙ sym (found-overlong t (omega (arith, longer)) (omega (arith, same_size (omega arith))))
 
-  same-own : (b : Bool) → leb (size_in s) longest_answer ≡ b → (if b then size_in s else longest_answer) ≤ k → found_in s ≡ found_in t
-  unfolding if◌then◌else◌
+  same-own : (b : Bool) → leb (size_in s) longest_answer ≡ b → (when b then size_in s else longest_answer) ≤ k → found_in s ≡ found_in t
+  unfolding when◌then◌else◌
   same-own true e h = same_start h
   same-own false e h = same-overlong (leb-false (size_in s) longest_answer e) h
 
@@ -150,7 +150,7 @@ module _ (k : ℕ) (s t : List ℕ) (a : Alike k s t) where
 
 -- a record's own bytes are its size
 pub own-entry : (s : List ℕ) (e : Entry) (size : ℕ) → found_in s ≡ entry e size → own_bytes s ≡ size
-unfolding own_bytes if◌then◌else◌
+unfolding own_bytes when◌then◌else◌
 own-entry s e size p =
     let z = entry_found s e size p in
     let w = size-within e in
@@ -170,9 +170,9 @@ behind-alike n k s t h f a =
     }
 
 pub own-most : (s : List ℕ) → own_bytes s ≤ longest_answer
-unfolding own_bytes if◌then◌else◌
+unfolding own_bytes when◌then◌else◌
 own-most s = go (leb (size_in s) longest_answer) refl
   where
-    go : (b : Bool) → leb (size_in s) longest_answer ≡ b → (if b then size_in s else longest_answer) ≤ longest_answer
+    go : (b : Bool) → leb (size_in s) longest_answer ≡ b → (when b then size_in s else longest_answer) ≤ longest_answer
     go true e = leb-true (size_in s) longest_answer e
     go false e = omega arith

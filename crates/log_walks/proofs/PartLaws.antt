@@ -8,7 +8,7 @@ use mathlib.Core.List.{List, [], ◌∷◌, ◌++◌, append-nil}
 use lib.Dec.{ltb}
 use lib.ListN.{length, drop, length-drop, length-append}
 use lib.Seq.{drop-drop}
-use Rattle.arithmetic.specs.Binary32.{if◌then◌else◌}
+use Rattle.arithmetic.specs.Binary32.{when◌then◌else◌}
 use Rattle.answer_records.specs.Answers.{longest_answer}
 use Rattle.answer_logs.specs.Logs.{Entry, Found, ended, bad, entry, found_in, Records, whole, refused_at, ahead, records_from, records_in}
 use Rattle.answer_logs.specs.Parts.{waits, found_whole, whole_at, Wholes, reached, stopped, ahead_whole, onward_whole, wholes_from}
@@ -23,10 +23,10 @@ use Rattle.log_walks.proofs.WalkLaws.{passed-by, bad-by, end_by}
 
 -- a record that is found whole has its size, and lies within the part
 whole-entry : (s : List ℕ) (e : Entry) (size : ℕ) → found_whole s ≡ entry e size → (size ≡ size_of e) × (size ≤ length s)
-unfolding found_whole if◌then◌else◌
+unfolding found_whole when◌then◌else◌
 whole-entry s e size p = go (waits s) p
   where
-    go : (b : Bool) → (if b then ended else found_in s) ≡ entry e size → (size ≡ size_of e) × (size ≤ length s)
+    go : (b : Bool) → (when b then ended else found_in s) ≡ entry e size → (size ≡ size_of e) × (size ≤ length s)
     go true q = absurd (let z : ◌≡◌ {A = ℕ} 0 1 = cc in omega arith)
     go false q = let z = entry_found s e size q in (z.0, z.2)
 
@@ -35,7 +35,7 @@ unplaced-ahead e size (reached l used) = refl
 unplaced-ahead e size (stopped n place) = refl
 
 pub none_found : found_whole [] ≡ ended
-unfolding found_whole waits if◌then◌else◌
+unfolding found_whole waits when◌then◌else◌
 none_found = refl
 
 none-whole : (left place : ℕ) → wholes_from left place [] ≡ reached [] 0
@@ -197,7 +197,7 @@ tells good refuse (refused_at n place) = refuse n
 
 -- bytes that are left at the end are a record cut short
 abbrev pub tells_part : {C : Type 0} → (List Entry → C) → (ℕ → C) → ℕ → Wholes → C
-tells_part good refuse n (reached l used) = if ltb used n then refuse 2 else good l
+tells_part good refuse n (reached l used) = when ltb used n then refuse 2 else good l
 tells_part good refuse n (stopped r place) = refuse r
 
 module _ {C : Type 0} (refuse : ℕ → C) where
@@ -218,12 +218,12 @@ module _ {C : Type 0} (refuse : ℕ → C) where
 
   module _ (good : List Entry → C) where
     closing-tells : (n place : ℕ) (w : Wholes) → tells good refuse (closing n place w) ≡ tells_part good refuse n (unplaced w)
-    unfolding if◌then◌else◌
+    unfolding when◌then◌else◌
     closing-tells n place (stopped r p) = refl
     closing-tells n place (reached l used) = go (ltb used n)
       where
-        go : (b : Bool) → tells good refuse (ahead_all l (if b then refused_at 2 (place + length l) else whole []))
-            ≡ (if b then refuse 2 else good l)
+        go : (b : Bool) → tells good refuse (ahead_all l (when b then refused_at 2 (place + length l) else whole []))
+            ≡ (when b then refuse 2 else good l)
         go true = tells_all good l (refused_at 2 (place + length l))
         go false = tells_all good l (whole []) ∙ ap good (append-nil l)
 

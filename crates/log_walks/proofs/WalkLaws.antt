@@ -7,7 +7,7 @@ use mathlib.Core.Bool.{Bool, true, false}
 use mathlib.Core.List.{List}
 use lib.ListN.{length, take, drop, length-take, length-drop}
 use lib.Seq.{take-take, drop-drop}
-use Rattle.arithmetic.specs.Binary32.{if◌then◌else◌}
+use Rattle.arithmetic.specs.Binary32.{when◌then◌else◌}
 use Rattle.answer_records.specs.Answers.{longest_answer}
 use Rattle.answer_logs.specs.Logs.{Entry, outcome, refusal, Found, ended, bad, entry, found_in, logged_as, logged_at}
 use Rattle.log_walks.specs.declared.Met.{Met}
@@ -63,10 +63,10 @@ stretch-walked n s =
 -- ---- a record that is passed
 
 pub one-fallback : (e : Entry) → fallback e ≤ 1
-unfolding if◌then◌else◌
+unfolding when◌then◌else◌
 one-fallback (outcome a) = go (is_fallback a.code)
   where
-    go : (b : Bool) → (if b then 1 else 0) ≤ 1
+    go : (b : Bool) → (when b then 1 else 0) ≤ 1
     go true = omega arith
     go false = omega arith
 one-fallback (refusal n) = omega arith

@@ -1,6 +1,6 @@
 -- What of a log's records is a fallback, and how many bytes they have (02, T-10). Definitions only. Assumes nothing.
 use Rattle.std.specs.Prelude.{ℕ, ◌+◌, ◌-◌, Bool, ◌&&◌, List, [], ◌∷◌, leb, take, drop}
-use Rattle.arithmetic.specs.Binary32.{if◌then◌else◌}
+use Rattle.arithmetic.specs.Binary32.{when◌then◌else◌}
 use Rattle.answer_logs.specs.Logs.{Entry, outcome, refusal}
 
 -- "outcomes 3, 4 or 5", whatever the point; a refusal is a record and no fallback
@@ -8,7 +8,7 @@ unfoldable pub is_fallback : ℕ → Bool
 is_fallback code = leb 3 code && leb code 5
 
 abbrev pub fallback : Entry → ℕ
-fallback (outcome a) = if is_fallback a.code then 1 else 0
+fallback (outcome a) = when is_fallback a.code then 1 else 0
 fallback (refusal n) = 0
 
 unfoldable pub fallbacks : List Entry → ℕ

@@ -1,7 +1,7 @@
 -- A walk over some records from the start of the bytes, and how many bytes it rests on (02, T-10). Definitions only.
 -- Assumes nothing.
 use Rattle.std.specs.Prelude.{ℕ, zero, suc, ◌+◌, List, leb, drop}
-use Rattle.arithmetic.specs.Binary32.{if◌then◌else◌}
+use Rattle.arithmetic.specs.Binary32.{when◌then◌else◌}
 use Rattle.answer_records.specs.Answers.{longest_answer}
 use Rattle.answer_logs.specs.Logs.{Found, ended, bad, entry, size_in, found_in}
 use Rattle.answer_logs.specs.declared.Logged.{Logged}
@@ -33,7 +33,7 @@ walked (suc n) s = onward (λ size. walked n (drop size s)) (found_in s)
 
 -- a record's own bytes; one that names more than an answer has is bad by those that an answer has
 unfoldable pub own_bytes : List ℕ → ℕ
-own_bytes s = if leb (size_in s) longest_answer then size_in s else longest_answer
+own_bytes s = when leb (size_in s) longest_answer then size_in s else longest_answer
 
 abbrev pub reach_by : ℕ → (ℕ → ℕ) → Found → ℕ
 reach_by own next ended = 0

@@ -2,7 +2,7 @@
 #![tactic(auto)]
 
 ghost use Rattle.std.specs.Prelude.{◌≡◌};
-ghost use Rattle.arithmetic.specs.Binary32.{if◌then◌else◌};
+ghost use Rattle.arithmetic.specs.Binary32.{when◌then◌else◌};
 ghost use Rattle.log_walks.specs.Figures.{is_fallback};
 ghost use Rattle.log_walks.specs.Walks.{walked, passed_by};
 
@@ -64,7 +64,7 @@ pub fn pass(logged: Logged) -> Passed
 
 // 1 for an outcome 3, 4 or 5, else 0.
 pub fn fallback(code: u8) -> u64
-    ensures { result ≡ (if is_fallback code then 1 else 0) }
+    ensures { result ≡ (when is_fallback code then 1 else 0) }
 {
     match code {
         3..=5 => 1,

@@ -10,7 +10,7 @@ use lib.Dec.{eqb}
 use lib.ListN.{length, length-append}
 use lib.Ieee.{Float}
 use borrow.Author.Tests.{lt-ltb}
-use Rattle.arithmetic.specs.Binary32.{if◌then◌else◌}
+use Rattle.arithmetic.specs.Binary32.{when◌then◌else◌}
 use Rattle.arithmetic.proofs.Choice.{if-all}
 use Rattle.common.specs.declared.Vec2.{Vec2}
 use Rattle.lines.specs.declared.Line.{Line}
@@ -59,7 +59,7 @@ module _ (agent : Agent) (kind n : ℕ) (vs : List Vec2) (margin horizon : Float
   -- an edge's line that is asked for alone is its line
   pub alone-edge : (xs : List Float) (i : ℕ) (ls : List Line) → length xs / 2 ≡ n → vertices_of xs ≡ vs →
       i < edge_count kind n → line_alone agent kind xs i margin horizon ls ≡ edge i ls
-  unfolding line_alone if◌then◌else◌
+  unfolding line_alone when◌then◌else◌
   alone-edge xs i ls e f h = rw (e, f, lt-ltb i (edge_count kind n) h)
 
   pub add_kept : (i : ℕ) (ls : List Line) (l : Line) → up_to i ≡ lines ls → kept l ≡ edge i ls →

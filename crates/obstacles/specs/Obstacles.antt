@@ -1,7 +1,7 @@
 -- The lines of one obstacle: all its edges in order, alone and behind its faults (01, "Rules of the edges", "Refusal
 -- numbers"). Definitions only. Assumes nothing.
 use Rattle.std.specs.Prelude.{ℕ, zero, suc, ◌-◌, ◌/◌, List, [], ◌∷◌, ◌++◌, eqb, ltb, length, Float}
-use Rattle.arithmetic.specs.Binary32.{if◌then◌else◌}
+use Rattle.arithmetic.specs.Binary32.{when◌then◌else◌}
 use Rattle.common.specs.declared.Vec2.{Vec2}
 use Rattle.lines.specs.declared.Line.{Line}
 use Rattle.lines.specs.LineFaults.{line_fault}
@@ -52,14 +52,14 @@ lines_up_to agent kind n vs margin horizon (suc k) =
 -- as many edges as vertices where the obstacle is closed, one less where it is open: "Closed with no vertices and open
 -- with one give no line"
 unfoldable pub edge_count : ℕ → ℕ → ℕ
-edge_count kind n = if eqb kind open_kind then (n - 1) else n
+edge_count kind n = when eqb kind open_kind then (n - 1) else n
 
 -- the ends of the edge from the vertex i to the next; or there is no such edge
 unfoldable pub ends_of : ℕ → List Float → ℕ → EdgeEnds
 ends_of kind xs i =
     let n = length xs / 2 in
     let edge = edge_at kind n (vertices_of xs) i in
-    if ltb i (edge_count kind n) then ends.Between edge.left.point edge.right.point else ends.Absent
+    when ltb i (edge_count kind n) then ends.Between edge.left.point edge.right.point else ends.Absent
 
 -- n is how many vertices there are
 unfoldable pub obstacle_lines : Agent → ℕ → ℕ → List Vec2 → Float → Float → Answer
@@ -95,7 +95,7 @@ obstacle_edges agent kind n vs margin horizon = makers_up_to agent kind n vs mar
 unfoldable pub line_alone : Agent → ℕ → List Float → ℕ → Float → Float → List Line → Admitted
 line_alone agent kind xs i margin horizon ls =
     let n = length xs / 2 in
-    if ltb i (edge_count kind n) then admitted (line_for_edge agent (edge_at kind n (vertices_of xs) i) margin horizon ls)
+    when ltb i (edge_count kind n) then admitted (line_for_edge agent (edge_at kind n (vertices_of xs) i) margin horizon ls)
     else nothing_kept
 
 -- the agent's first fault, then the obstacle's, then its lines

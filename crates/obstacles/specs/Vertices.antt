@@ -2,7 +2,7 @@
 -- lines (01, "Rules of the edges"). Definitions only. Assumes nothing.
 use Rattle.std.specs.Prelude.{ℕ, ◌+◌, ◌-◌, Bool, ◌&&◌, ◌||◌, List, [], ◌∷◌, eqb, get_or, Float}
 use Rattle.std.specs.Float.{nan}
-use Rattle.arithmetic.specs.Binary32.{◌≤ᶠ◌, 0ᶠ, if◌then◌else◌}
+use Rattle.arithmetic.specs.Binary32.{◌≤ᶠ◌, 0ᶠ, when◌then◌else◌}
 use Rattle.admission.specs.Heads.{open_kind}
 use Rattle.common.specs.declared.Vec2.{Vec2}
 use Rattle.common.specs.Vectors.{vec, sub_of, determinant_of}
@@ -21,10 +21,10 @@ vertex_at vs i = get_or vs i (vec nan nan)
 
 -- "Closed vertices wrap": the index after i and the one before it, among n
 unfoldable pub next_of : ℕ → ℕ → ℕ
-next_of n i = if eqb i (n - 1) then 0 else (i + 1)
+next_of n i = when eqb i (n - 1) then 0 else (i + 1)
 
 unfoldable pub previous_of : ℕ → ℕ → ℕ
-previous_of n i = if eqb i 0 then (n - 1) else (i - 1)
+previous_of n i = when eqb i 0 then (n - 1) else (i - 1)
 
 -- "an open obstacle's end vertices": the first and the last of n
 unfoldable pub is_end : ℕ → ℕ → ℕ → Bool
@@ -43,7 +43,7 @@ edge_vertex_at kind n vs i = record {
 
 -- "with no outer neighbour": beyond the end of an open obstacle there is none
 unfoldable pub outer_at : ℕ → List Vec2 → ℕ → ℕ → ℕ → OuterVertex
-outer_at kind vs i end beyond = if eqb kind open_kind && eqb i end then none else at (vertex_at vs beyond)
+outer_at kind vs i end beyond = when eqb kind open_kind && eqb i end then none else at (vertex_at vs beyond)
 
 -- the edge from the vertex i of n to the next, with the vertices beyond them
 unfoldable pub edge_at : ℕ → ℕ → List Vec2 → ℕ → Edge

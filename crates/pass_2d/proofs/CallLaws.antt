@@ -6,7 +6,7 @@ use native.Mathlib.Omega.{arith}
 use lib.ListN.{length, take, drop, take-append-drop}
 use lib.Ieee.{Float}
 use borrow.Author.Tests.{le-leb}
-use Rattle.arithmetic.specs.Binary32.{if◌then◌else◌}
+use Rattle.arithmetic.specs.Binary32.{when◌then◌else◌}
 use Rattle.common.specs.declared.Vec2.{Vec2}
 use Rattle.lines.specs.declared.Line.{Line}
 use Rattle.lines.specs.Lines.{most_lines}
@@ -22,12 +22,12 @@ use Rattle.pass_2d.proofs.PassLaws.{pass-most}
 
 module _ (o : Objective) (limit : Float) (l : List Line) (short : length l ≤ most_lines) where
   pub few-called : pass_call o limit l ≡ pass o limit l
-  unfolding pass_call if◌then◌else◌
+  unfolding pass_call when◌then◌else◌
   few-called = rw (le-leb (length l) most_lines short)
 
   pub few-resumed : (from : ℕ) (p : Vec2) → resumed_pass o limit l from p
       ≡ walk (pass_line o limit) (take from l) (drop from l) (feasible p 0)
-  unfolding resumed_pass if◌then◌else◌
+  unfolding resumed_pass when◌then◌else◌
   few-resumed from p = rw (le-leb (length l) most_lines short)
 
   -- what the code counts

@@ -1,6 +1,6 @@
 -- 01, "Start" and "A line is met ..": the 2D pass over a list. Definitions only. Assumes nothing.
 use Rattle.std.specs.Prelude.{ℕ, ◌+◌, Bool, ◌&&◌, List, [], length, Float}
-use Rattle.arithmetic.specs.Binary32.{◌⊗◌, ◌<ᶠ◌, 0ᶠ, if◌then◌else◌, finite}
+use Rattle.arithmetic.specs.Binary32.{◌⊗◌, ◌<ᶠ◌, 0ᶠ, when◌then◌else◌, finite}
 use Rattle.common.specs.declared.Vec2.{Vec2}
 use Rattle.common.specs.Vectors.{sub_of, mul_of, determinant_of, length_squared_of, normalize_of}
 use Rattle.lines.specs.declared.Line.{Line}
@@ -10,7 +10,7 @@ use Rattle.one_line.specs.OneLine.{Objective, toward, along, Cause, Found, at, f
 -- "the wish, or, if its squared length > limit², its normalized form times the limit"; along a direction "its start is
 -- direction times limit"
 unfoldable pub start : Objective → Float → Vec2
-start (toward wish) limit = if limit ⊗ limit <ᶠ length_squared_of wish then mul_of (normalize_of wish) limit else wish
+start (toward wish) limit = when limit ⊗ limit <ᶠ length_squared_of wish then mul_of (normalize_of wish) limit else wish
 start (along d) limit = mul_of d limit
 
 -- the line that a pass failed at, and what left nothing of it
@@ -29,7 +29,7 @@ finite_point p = finite p.x && finite p.y
 
 -- refusal 9: the point is not finite. "An inner solve is judged only by what it hands on"
 unfoldable pub judged : Objective → Vec2 → ℕ → Pass
-judged (toward wish) p n = if finite_point p then feasible p n else refused 9
+judged (toward wish) p n = when finite_point p then feasible p n else refused 9
 judged (along d) p n = feasible p n
 
 -- what the solve of line k leaves, p the point before it and n the probes up to it, its comparison counted
@@ -41,7 +41,7 @@ solved o k p n refuses = refused 8
 -- "A line is met if determinant(direction, point now − line point) > 0. Exactly 0 is solved again."
 unfoldable pub pass_line : Objective → Float → List Line → Line → Pass → Pass
 pass_line o limit earlier own (feasible p n) =
-    if 0ᶠ <ᶠ determinant_of own.direction (sub_of p own.point) then feasible p (n + 1)
+    when 0ᶠ <ᶠ determinant_of own.direction (sub_of p own.point) then feasible p (n + 1)
     else solved o (length earlier) p (n + 1) (one_line o limit own earlier)
 pass_line o limit earlier own (failed f p n) = failed f p n
 pass_line o limit earlier own (refused r) = refused r

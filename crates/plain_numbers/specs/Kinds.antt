@@ -1,6 +1,6 @@
 -- Phases, causes and failed lines as plain numbers, and back. Definitions only. Assumes nothing.
 use Rattle.std.specs.Prelude.{ℕ, eqb, Float}
-use Rattle.arithmetic.specs.Binary32.{if◌then◌else◌}
+use Rattle.arithmetic.specs.Binary32.{when◌then◌else◌}
 use Rattle.one_line.specs.declared.Cause.{Cause}
 use Rattle.one_line.specs.declared.Cause.TheVariants as cause
 use Rattle.linear_programming.specs.declared.Phase.{Phase}
@@ -45,14 +45,14 @@ failed_cause (failed-line.At f) = cause_line f.cause
 
 -- and back: any other number is the last kind
 unfoldable pub phase_in : ℕ → ℕ → Float → Float → Float → Phase
-phase_in kind k x y depth = if eqb kind 0 then phase.Solving x y else
-    (if eqb kind 1 then phase.Relaxing x y depth else phase.RigidFailure k x y)
+phase_in kind k x y depth = when eqb kind 0 then phase.Solving x y else
+    (when eqb kind 1 then phase.Relaxing x y depth else phase.RigidFailure k x y)
 
 unfoldable pub cause_in : ℕ → ℕ → Cause
-cause_in kind k = if eqb kind 1 then cause.Circle else (if eqb kind 2 then cause.Parallel k else cause.Crossing k)
+cause_in kind k = when eqb kind 1 then cause.Circle else (when eqb kind 2 then cause.Parallel k else cause.Crossing k)
 
 unfoldable pub failed_in : ℕ → ℕ → ℕ → FailedLine
-failed_in kind index k = if eqb kind 0 then failed-line.NoLine else failed-line.At (record {
+failed_in kind index k = when eqb kind 0 then failed-line.NoLine else failed-line.At (record {
   index = index;
   cause = cause_in kind k;
 })

@@ -7,7 +7,7 @@ use mathlib.Core.List.{List}
 use lib.Dec.{leb}
 use lib.ListN.{length}
 use borrow.Author.Tests.{le-leb, lt-leb, leb-true}
-use Rattle.arithmetic.specs.Binary32.{if◌then◌else◌}
+use Rattle.arithmetic.specs.Binary32.{when◌then◌else◌}
 use Rattle.arithmetic.proofs.Choice.{if-all}
 use Rattle.admission.specs.declared.Judged.TheVariants as judged
 use Rattle.admission.specs.Faults.{Fault, fine, fault, fault_of}
@@ -57,16 +57,16 @@ outcome-read (got x at) = rw (outcome-said (scene_outcome x.scene) (scene_origin
 
 module _ (bytes buffer : List ℕ) where
   pub some-room : longest_answer ≤ length buffer → answer_to bytes buffer ≡ laid_answer (answered bytes) buffer
-  unfolding answer_to if◌then◌else◌
+  unfolding answer_to when◌then◌else◌
   some-room h = rw (le-leb longest_answer (length buffer) h)
 
   pub no-room-solved : length buffer < longest_answer → solved (code.Refused 10) buffer ≡ scene_answer_to bytes buffer
-  unfolding answer_to scene_answer if◌then◌else◌
+  unfolding answer_to scene_answer when◌then◌else◌
   no-room-solved h = rw (lt-leb longest_answer (length buffer) h)
 
   room-solved : longest_answer ≤ length buffer → (a : SceneAnswer) → a ≡ solved_in (scene_in bytes) → (l : List ℕ) →
       l ≡ (laid_answer (of_outcome (outcome_of a)) buffer).contents → solved a l ≡ scene_answer_to bytes buffer
-  unfolding answer_to answered scene_answer if◌then◌else◌
+  unfolding answer_to answered scene_answer when◌then◌else◌
   room-solved h a e l f = rw (le-leb longest_answer (length buffer) h, outcome-read (scene_in bytes), ← e, f)
 
   module _ (h : longest_answer ≤ length buffer) (r : NumberedScene) (read : r ≡ numbered_as (scene_in bytes)) where
@@ -94,7 +94,7 @@ laid-told (code.Refused r) buffer h = refl
 module _ (bytes buffer : List ℕ) where
   told-by-room : (b : Bool) → leb longest_answer (length buffer) ≡ b → (answer_to bytes buffer).told
       ≡ fault_in (scene_answer bytes buffer)
-  unfolding answer_to answered scene_answer if◌then◌else◌
+  unfolding answer_to answered scene_answer when◌then◌else◌
   told-by-room true e = rw (e, outcome-read (scene_in bytes)) (laid-told (solved_in (scene_in bytes)) buffer
       (leb-true longest_answer (length buffer) e))
   told-by-room false e = rw e

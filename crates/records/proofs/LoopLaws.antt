@@ -8,7 +8,7 @@ use lib.Dec.{leb}
 use lib.ListN.{length, take, drop, length-drop, length-append, take-append-drop}
 use lib.Seq.{drop-drop, take_at, drop_at, length-take-le}
 use borrow.Author.Tests.{leb-true, le-leb}
-use Rattle.arithmetic.specs.Binary32.{if◌then◌else◌}
+use Rattle.arithmetic.specs.Binary32.{when◌then◌else◌}
 use Rattle.arithmetic.proofs.Choice.{if-case}
 use Rattle.fields.specs.Bytes.{big_endian}
 use Rattle.answer_records.specs.Answers.{longest_answer, refusal_bytes}
@@ -104,7 +104,7 @@ module _ (s out : List ℕ) (p : Place) (room : longest_answer ≤ length out - 
 
   module _ (q : Part) (e : part_in p.skip (drop p.used s) ≡ q) where
     with_part : left_at s out p ≡ onward worked (bytes (length out - p.put)) p.skip (drop p.used s) q
-    unfolding if◌then◌else◌
+    unfolding when◌then◌else◌
     with_part = work-on (bytes (length out - p.put)) p.skip (drop p.used s)
         ∙ rw (le-leb longest_answer (length out - p.put) room, e)
 
@@ -120,7 +120,7 @@ module _ (s out : List ℕ) (p : Place) (room : longest_answer ≤ length out - 
       (reply-length (take k (drop p.used s))) (with_part (whole k) e))
 
 pub does : (s out : List ℕ) (p : Place) → p.used ≤ length s → Does s out p (step_over s out p)
-unfolding step_over if◌then◌else◌
+unfolding step_over when◌then◌else◌
 does s out p h =
     if-case (Does s out p) (leb longest_answer (length out - p.put))
     (λ room. by_part s out p (leb-true longest_answer (length out - p.put) room) h (part_in p.skip (drop p.used s))

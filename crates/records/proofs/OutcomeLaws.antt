@@ -7,7 +7,7 @@ use mathlib.Core.Bool.{Bool, true, false}
 use mathlib.Core.List.{List}
 use lib.Ieee.{Float, binary32, fits, is_nan, to_bits}
 use lib.Ieee.Bits.{to_bits-lt}
-use Rattle.arithmetic.specs.Binary32.{if◌then◌else◌}
+use Rattle.arithmetic.specs.Binary32.{when◌then◌else◌}
 use Rattle.arithmetic.proofs.Choice.{if-all}
 use Rattle.words.proofs.Laws.{nan_pattern}
 use Rattle.admission.specs.Faults.{fine}
@@ -44,8 +44,8 @@ pattern-whole x h = mod-eq_of_lt (to_bits-lt binary32 x (rw h tt))
 
 -- so its pattern is its bits, those of the quiet NaN too
 pattern-by : (x : Float) → fits binary32 x ≡ true → (b : Bool) → is_nan x ≡ b →
-    (if b then 0x7FC0_0000 else to_bits binary32 x % 2 ^ 32) ≡ to_bits binary32 x
-unfolding if◌then◌else◌
+    (when b then 0x7FC0_0000 else to_bits binary32 x % 2 ^ 32) ≡ to_bits binary32 x
+unfolding when◌then◌else◌
 pattern-by x h true n = nan_pattern x n
 pattern-by x h false n = pattern-whole x h
 

@@ -6,7 +6,7 @@ use mathlib.Core.List.{List, ◌++◌}
 use lib.Dec.{eqb, ltb}
 use lib.ListN.{length, length-append, get_or-append}
 use borrow.Author.Tests.{ltb-true, ltb-false, eqb-true, eqb-false, lt-ltb, le-ltb, ne_eqb}
-use Rattle.arithmetic.specs.Binary32.{if◌then◌else◌}
+use Rattle.arithmetic.specs.Binary32.{when◌then◌else◌}
 use Rattle.arithmetic.proofs.Choice.{if-case}
 use Rattle.words.specs.Words.{pair_of}
 use Rattle.scene_records.specs.Versions.{longest_either}
@@ -47,12 +47,12 @@ hold-lies (holds a b c d e) = (b, d)
 module _ (skip : ℕ) (l : List ℕ) (some : 1 ≤ skip) (there : 1 ≤ length l) where
   -- all that are there ..
   pub all-skipped : length l < skip → part_in skip l ≡ skipped (length l)
-  unfolding part_in skipped_of if◌then◌else◌
+  unfolding part_in skipped_of when◌then◌else◌
   all-skipped h = rw (lt-ltb 0 skip (omega arith), ne_eqb (length l) 0 (λ e. omega arith), lt-ltb (length l) skip h)
 
   -- .. or all that are to be
   pub as-many-skipped : skip ≤ length l → part_in skip l ≡ skipped skip
-  unfolding part_in skipped_of if◌then◌else◌
+  unfolding part_in skipped_of when◌then◌else◌
   as-many-skipped h = rw (lt-ltb 0 skip (omega arith), ne_eqb (length l) 0 (λ e. omega arith), le-ltb (length l) skip h)
 
 -- ---- bytes behind a part
@@ -63,13 +63,13 @@ same-length-field a b h = rw (get_or-append a b 0 0 (omega arith), get_or-append
 
 module _ (skip : ℕ) (a b : List ℕ) where
   pub overlong-stays : {n : ℕ} → Lies skip a (overlong n) → part_in skip (a ++ b) ≡ overlong n
-  unfolding part_in if◌then◌else◌
+  unfolding part_in when◌then◌else◌
   overlong-stays {n} (names z two far e) =
       let more : 2 ≤ length (a ++ b) = rw length-append (omega arith) in
       rw (le-ltb 0 skip z, le-ltb (length (a ++ b)) 2 more, same-length-field a b two, ← e, lt-ltb longest_either n far)
 
   pub whole-stays : {k : ℕ} → Lies skip a (whole k) → part_in skip (a ++ b) ≡ whole k
-  unfolding part_in if◌then◌else◌
+  unfolding part_in when◌then◌else◌
   whole-stays {k} (holds z two near there e) =
       let more : k ≤ length (a ++ b) = rw length-append (omega arith) in
       let low : pair_of a 0 ≤ longest_either = omega arith in

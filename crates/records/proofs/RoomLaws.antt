@@ -6,7 +6,7 @@ use mathlib.Core.List.{List}
 use lib.ListN.{length, take, drop, length-drop}
 use lib.Seq.{length-take-le}
 use borrow.Author.Tests.{le-leb}
-use Rattle.arithmetic.specs.Binary32.{if◌then◌else◌}
+use Rattle.arithmetic.specs.Binary32.{when◌then◌else◌}
 use Rattle.dodgy_2d.specs.Outcomes.{scene_outcome}
 use Rattle.fields.specs.Bytes.{big_endian}
 use Rattle.fields.specs.Got.{Got, refused, got}
@@ -66,7 +66,7 @@ part_free n skip l cut_short (none few) h next = refl
 
 -- With two bytes of output for each of the input and 18 more, the work is that with unlimited room.
 pub room-enough : (n skip : ℕ) (l : List ℕ) → 2 * length l + longest_answer ≤ n → worked (bytes n) skip l ≡ worked unlimited skip l
-unfolding if◌then◌else◌
+unfolding when◌then◌else◌
 room-enough n skip l =
     by_parts (λ (l : List ℕ). (n skip : ℕ) → 2 * length l + longest_answer ≤ n → worked (bytes n) skip l ≡ worked unlimited skip l)
     (λ l next n skip h. work-on (bytes n) skip l

@@ -5,7 +5,7 @@ use mathlib.Core.Path.{◌≡◌, refl, sym, ap, ◌∙◌}
 use mathlib.Core.List.{List, [], ◌∷◌, ◌++◌, append_assoc, append-nil}
 use lib.ListN.{length, take, drop, length-drop, length-append}
 use lib.Seq.{drop-drop, drop-append-le}
-use Rattle.arithmetic.specs.Binary32.{if◌then◌else◌}
+use Rattle.arithmetic.specs.Binary32.{when◌then◌else◌}
 use Rattle.arithmetic.proofs.Choice.{if-all}
 use Rattle.answer_records.specs.Answers.{refusal_bytes}
 use Rattle.records.specs.Answered.{reply_to}
@@ -101,7 +101,7 @@ cut-answers skip a b =
 
 run-from : (reads : List (List ℕ)) (kept : List ℕ) (skip : ℕ) → worked unlimited skip kept ≡ stopped skip →
     run kept skip reads ≡ answers_from skip (kept ++ joined reads)
-unfolding run joined answers_from if◌then◌else◌
+unfolding run joined answers_from when◌then◌else◌
 run-from [] kept skip e = rw (append-nil, e)
 run-from ([] ∷ reads) kept skip e = rw (append-nil, append-nil, e)
 run-from ((b ∷ read) ∷ reads) kept skip e =
@@ -122,5 +122,5 @@ any-reads reads = run-from reads [] 0 nothing_read
 
 -- "no input, no output"
 pub no_output : answers_to [] ≡ []
-unfolding answers_from worked parts last_answer if◌then◌else◌
+unfolding answers_from worked parts last_answer when◌then◌else◌
 no_output = refl

@@ -8,7 +8,7 @@ use lib.ListN.{length, take, drop, length-drop, drop_of_length-le}
 use lib.Seq.{take_all, drop-drop}
 use borrow.Author.Tests.{le-leb, lt-leb}
 use borrow.Rule.Slice.PartMut.{put_mid, post_of}
-use Rattle.arithmetic.specs.Binary32.{if◌then◌else◌}
+use Rattle.arithmetic.specs.Binary32.{when◌then◌else◌}
 use Rattle.admission.specs.Faults.{Fault}
 use Rattle.fields.specs.Bytes.{big_endian}
 use Rattle.answer_records.specs.Answers.{longest_answer, answer_bytes, refusal_bytes, Written, written, laid}
@@ -48,13 +48,13 @@ reply-length bytes = reply-bytes (answered bytes)
 
 module _ (s out : List ℕ) (p : Place) where
   pub no_room : length out - p.put < longest_answer → stops out ≡ step_over s out p
-  unfolding step_over if◌then◌else◌
+  unfolding step_over when◌then◌else◌
   no_room h = rw (lt-leb longest_answer (length out - p.put) h)
 
   module _ (room : longest_answer ≤ length out - p.put) (q : PartCode) (there : part_of q
       ≡ part_in p.skip (take (length s - p.used) (drop p.used s))) where
     by_part : step_over s out p ≡ step_by s out p (part_of q)
-    unfolding step_over if◌then◌else◌
+    unfolding step_over when◌then◌else◌
     by_part = rw (le-leb longest_answer (length out - p.put) room, there, rest_of p.used s)
 
     known : Lies p.skip (drop p.used s) (part_of q)

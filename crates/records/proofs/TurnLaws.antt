@@ -11,7 +11,7 @@ use lib.ListN.{length, take, drop, length-drop, length-append}
 use lib.Seq.{take-add, take_at, drop_at, length-take-le}
 use borrow.Rule.Slice.PartMut.{mid_of, put_mid, same_len_mid}
 use borrow.Author.Tests.{leb-true, le-leb}
-use Rattle.arithmetic.specs.Binary32.{if◌then◌else◌}
+use Rattle.arithmetic.specs.Binary32.{when◌then◌else◌}
 use Rattle.arithmetic.proofs.Choice.{if-all, and_left, and_right}
 use Rattle.admission.specs.Faults.{fits_behind}
 use Rattle.kept.specs.Kept.{shifted}
@@ -63,7 +63,7 @@ freely input output kept skip read room there =
 module _ (input output : List ℕ) (before : Stream) (read : ℕ) where
   pub no-turn : has_room_for (length input) (length output) before.kept read ≡ false → lent closed input output
       ≡ turn_over input output before read
-  unfolding turn_over if◌then◌else◌
+  unfolding turn_over when◌then◌else◌
   no-turn e = rw e
 
   module _ (room : has_room_for (length input) (length output) before.kept read ≡ true) where
@@ -73,7 +73,7 @@ module _ (input output : List ℕ) (before : Stream) (read : ℕ) where
     pub stepped : turn_over input output before read
         ≡ lent_by (turned (take before.kept input) before.skip (take read (drop before.kept input))) input
         output
-    unfolding turn_over if◌then◌else◌
+    unfolding turn_over when◌then◌else◌
     stepped = rw room
 
     pub last_turn : read ≡ 0 → (n : ℕ) (out : List ℕ) → put n out ≡ put_at 0 (last_answer before.kept) output →

@@ -9,7 +9,7 @@ use mathlib.Core.List.{List, [], ◌++◌, append_assoc}
 use lib.ListN.{length, take, drop, length-drop}
 use lib.Seq.{drop-drop}
 use native.Mathlib.Decide.{dec_lt}
-use Rattle.arithmetic.specs.Binary32.{if◌then◌else◌}
+use Rattle.arithmetic.specs.Binary32.{when◌then◌else◌}
 use Rattle.answer_records.specs.Answers.{refusal_bytes}
 use Rattle.records.specs.Answered.{reply_to}
 use Rattle.records.specs.Parts.{Part, skipped, overlong, whole, cut_short, part_in}
@@ -42,8 +42,8 @@ no_part skip l (overlong n) (names z two far e) h = absurd (omega arith)
 no_part skip l (whole k) (holds z two near there e) h = absurd (omega arith)
 no_part skip l cut_short (none few) h = refl
 
-either_way : {A : Type 0} (b : Bool) (x : A) → (if b then x else x) ≡ x
-unfolding if◌then◌else◌
+either_way : {A : Type 0} (b : Bool) (x : A) → (when b then x else x) ≡ x
+unfolding when◌then◌else◌
 either_way true x = refl
 either_way false x = refl
 
@@ -59,23 +59,23 @@ enough zero zero room skip l h k = refl
 enough zero (suc m) room skip l h k = sym (at-end (suc m) room skip l h)
 enough (suc n) zero room skip l h k = at-end (suc n) room skip l k
 enough (suc n) (suc m) room skip l h k =
-    ap (λ (w : Worked). if has_room room then w else stopped skip)
+    ap (λ (w : Worked). when has_room room then w else stopped skip)
     (onward-agrees (parts n) (parts m) room skip l (part_in skip l) (lies skip l)
     (λ r s j a c. enough n m r s (drop j l) (rw length-drop (omega arith)) (rw length-drop (omega arith))))
 
 -- the work is a part, where there is room, and the work on what lies behind it
 pub work-on : (room : Room) (skip : ℕ) (l : List ℕ) →
-    worked room skip l ≡ (if has_room room then onward worked room skip l (part_in skip l) else stopped skip)
+    worked room skip l ≡ (when has_room room then onward worked room skip l (part_in skip l) else stopped skip)
 unfolding worked parts
 work-on room skip l =
     enough (length l) (suc (length l)) room skip l (omega arith) (omega arith)
-    ∙ ap (λ (w : Worked). if has_room room then w else stopped skip)
+    ∙ ap (λ (w : Worked). when has_room room then w else stopped skip)
     (onward-agrees (parts (length l)) worked room skip l (part_in skip l) (lies skip l)
     (λ r s j a c. enough (length l) (length (drop j l)) r s (drop j l) (rw length-drop (omega arith)) (omega arith)))
 
 -- with room enough
 pub work-freely : (skip : ℕ) (l : List ℕ) → worked unlimited skip l ≡ onward worked unlimited skip l (part_in skip l)
-unfolding if◌then◌else◌
+unfolding when◌then◌else◌
 work-freely skip l = work-on unlimited skip l
 
 -- what holds of a stream wherever it holds of all that may lie behind a part of it holds of every stream

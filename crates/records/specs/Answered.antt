@@ -3,7 +3,7 @@
 use Rattle.std.specs.Prelude.{ℕ, ◌%◌, ◌^◌, List, leb, length, Float}
 use Rattle.std.specs.Float.{binary32}
 use Rattle.std.specs.Float.Ieee.{is_nan, to_bits}
-use Rattle.arithmetic.specs.Binary32.{if◌then◌else◌}
+use Rattle.arithmetic.specs.Binary32.{when◌then◌else◌}
 use Rattle.admission.specs.Faults.{fault}
 use Rattle.common.specs.declared.Vec2.{Vec2}
 use Rattle.linear_programming.specs.Whole.{Failed, no_line, failed_line}
@@ -24,7 +24,7 @@ pub data Answered : Type 0 where
 
 -- a number's bits, four bytes of them, which an f32 has; a NaN, which no solve hands out, has those of the quiet one
 unfoldable pub pattern_of : Float → ℕ
-pattern_of x = if is_nan x then 0x7FC0_0000 else to_bits binary32 x % 2 ^ 32
+pattern_of x = when is_nan x then 0x7FC0_0000 else to_bits binary32 x % 2 ^ 32
 
 -- "failed line (2 bytes, FFFF for none)"; an index of a list of at most 256 lines is itself
 abbrev pub place_in : Failed → ℕ
@@ -55,7 +55,7 @@ laid_answer (refusal r) buffer = written (fault r) buffer
 -- "Record: 10;" comes first, then the record's own faults, then the scene's
 unfoldable pub answer_to : List ℕ → List ℕ → Written
 answer_to bytes buffer =
-    if leb longest_answer (length buffer) then laid_answer (answered bytes) buffer else written (fault 10) buffer
+    when leb longest_answer (length buffer) then laid_answer (answered bytes) buffer else written (fault 10) buffer
 
 -- ---- with the failed line's cause and origin, which the record does not say
 
@@ -72,7 +72,7 @@ solved_in (refused r) = answer-code.Refused r
 solved_in (got x at) = scene_answer_as (scene_outcome x.scene) (scene_origin x.scene)
 
 unfoldable pub scene_answer : List ℕ → List ℕ → SceneAnswer
-scene_answer bytes buffer = if leb longest_answer (length buffer) then solved_in (scene_in bytes) else answer-code.Refused 10
+scene_answer bytes buffer = when leb longest_answer (length buffer) then solved_in (scene_in bytes) else answer-code.Refused 10
 
 -- the bytes are those of `answer_to`
 abbrev pub scene_answer_to : List ℕ → List ℕ → Solved

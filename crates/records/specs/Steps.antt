@@ -1,6 +1,6 @@
 -- One part of a stream worked: where it leads, and what the output holds then. Definitions only. Assumes nothing.
 use Rattle.std.specs.Prelude.{ℕ, ◌+◌, ◌-◌, List, ◌++◌, leb, length, take, drop}
-use Rattle.arithmetic.specs.Binary32.{if◌then◌else◌}
+use Rattle.arithmetic.specs.Binary32.{when◌then◌else◌}
 use Rattle.answer_records.specs.Answers.{longest_answer, refusal_bytes}
 use Rattle.records.specs.declared.Place.{Place}
 use Rattle.records.specs.declared.Step.{Step}
@@ -44,4 +44,4 @@ step_by s out p (whole k) = goes_with (p.used + k) (put_at p.put (reply_to (take
 -- a part is worked where there is room for the longest answer
 unfoldable pub step_over : List ℕ → List ℕ → Place → Stepped
 step_over s out p =
-    if leb longest_answer (length out - p.put) then step_by s out p (part_in p.skip (drop p.used s)) else stops out
+    when leb longest_answer (length out - p.put) then step_by s out p (part_in p.skip (drop p.used s)) else stops out

@@ -1,7 +1,7 @@
 -- A stream of scene records worked part by part, and what stands at its end (01, "Records (ours)"). Definitions only.
 -- Assumes nothing.
 use Rattle.std.specs.Prelude.{ℕ, zero, suc, ◌+◌, ◌-◌, Bool, true, List, [], ◌++◌, eqb, leb, length, take, drop}
-use Rattle.arithmetic.specs.Binary32.{if◌then◌else◌}
+use Rattle.arithmetic.specs.Binary32.{when◌then◌else◌}
 use Rattle.answer_records.specs.Answers.{longest_answer, refusal_bytes}
 use Rattle.records.specs.declared.Place.{Place}
 use Rattle.records.specs.Answered.{reply_to}
@@ -46,7 +46,7 @@ onward next room skip s (whole k) = after k (reply_to (take k s)) (next (less ro
 -- at most so many parts
 unfoldable pub parts : ℕ → Room → ℕ → List ℕ → Worked
 parts zero room skip s = stopped skip
-parts (suc n) room skip s = if has_room room then onward (parts n) room skip s (part_in skip s) else stopped skip
+parts (suc n) room skip s = when has_room room then onward (parts n) room skip s (part_in skip s) else stopped skip
 
 -- all parts: each has a byte at least
 unfoldable pub worked : Room → ℕ → List ℕ → Worked
@@ -74,7 +74,7 @@ worked_over s out skip = standing_by (worked (bytes (length out)) skip s) out
 
 -- "a last one cut short gets 2, or 4 if overlong": one that is overlong has had its 4
 unfoldable pub last_answer : ℕ → List ℕ
-last_answer left = if eqb left 0 then [] else refusal_bytes 2
+last_answer left = when eqb left 0 then [] else refusal_bytes 2
 
 -- all answers to a stream, with so many bytes still to be skipped
 abbrev pub ended : List ℕ → Worked → List ℕ

@@ -1,7 +1,7 @@
 -- The program (01, "Records (ours)"): turn behind turn, each on what a read brings; and a turn over lent memory.
 -- Definitions only. Assumes nothing.
 use Rattle.std.specs.Prelude.{ℕ, ◌+◌, ◌*◌, ◌≤◌, ◌≡◌, Bool, true, false, ◌&&◌, List, [], ◌∷◌, ◌++◌, leb, length, take, drop}
-use Rattle.arithmetic.specs.Binary32.{if◌then◌else◌}
+use Rattle.arithmetic.specs.Binary32.{when◌then◌else◌}
 use Rattle.admission.specs.Faults.{fits_behind}
 use Rattle.scene_records.specs.Versions.{longest_either}
 use Rattle.answer_records.specs.Answers.{longest_answer}
@@ -32,7 +32,7 @@ unfoldable pub run : List ℕ → ℕ → List (List ℕ) → List ℕ
 run kept skip [] = (turned kept skip []).answers
 run kept skip (read ∷ reads) =
     let t = turned kept skip read in
-    t.answers ++ (if t.more then run t.kept t.skip reads else [])
+    t.answers ++ (when t.more then run t.kept t.skip reads else [])
 
 -- its input: the reads one behind the other, up to the one that brings nothing
 unfoldable pub joined : List (List ℕ) → List ℕ
@@ -68,7 +68,7 @@ closed = record { put = 0; kept = 0; skip = 0; more = false }
 -- what was kept stands at the input's start, and behind it what was read; without room nothing is done
 unfoldable pub turn_over : List ℕ → List ℕ → Stream → ℕ → Lent
 turn_over input output before read =
-    if has_room_for (length input) (length output) before.kept read
+    when has_room_for (length input) (length output) before.kept read
     then lent_by (turned (take before.kept input) before.skip (take read (drop before.kept input))) input output
     else lent closed input output
 

@@ -6,7 +6,7 @@ use native.Mathlib.Omega.{arith}
 use lib.ListN.{length, take, drop, take-append-drop}
 use lib.Ieee.{Float}
 use borrow.Author.Tests.{le-leb}
-use Rattle.arithmetic.specs.Binary32.{if◌then◌else◌}
+use Rattle.arithmetic.specs.Binary32.{when◌then◌else◌}
 use Rattle.common.specs.declared.Vec2.{Vec2}
 use Rattle.lines.specs.declared.Line.{Line}
 use Rattle.lines.specs.Lines.{most_lines}
@@ -21,7 +21,7 @@ use Rattle.relaxation.proofs.RelaxedProbes.{CountsRelaxed, counts-relaxed, walk-
 module _ (rigid : ℕ) (limit : Float) (l : List Line) (short : length l ≤ most_lines) (from : ℕ) (p : Vec2) (depth : Float) where
   pub few-relaxed : resumed_relaxation rigid limit l from p depth
       ≡ walk (relax_line rigid limit) (take from l) (drop from l) (relaxed p depth 0)
-  unfolding resumed_relaxation if◌then◌else◌
+  unfolding resumed_relaxation when◌then◌else◌
   few-relaxed = rw (le-leb (length l) most_lines short)
 
   -- what the code counts

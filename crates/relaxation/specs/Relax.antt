@@ -1,7 +1,7 @@
 -- 01, "Relaxation". Definitions only. Assumes nothing.
 use Rattle.std.specs.Prelude.{ℕ, ◌+◌, ◌&&◌, length, take, drop, Float}
 use mathlib.Core.List.{List, [], ◌∷◌, ◌++◌, foldl}
-use Rattle.arithmetic.specs.Binary32.{◌⊘◌, ◌<ᶠ◌, ◌≤ᶠ◌, 0ᶠ, halfᶠ, if◌then◌else◌, finite}
+use Rattle.arithmetic.specs.Binary32.{◌⊘◌, ◌<ᶠ◌, ◌≤ᶠ◌, 0ᶠ, halfᶠ, when◌then◌else◌, finite}
 use Rattle.arithmetic.specs.Ends.{abs_of}
 use Rattle.common.specs.declared.Vec2.{Vec2}
 use Rattle.common.specs.Vectors.{add_of, sub_of, mul_of, dot_of, determinant_of, perp_of, normalize_of}
@@ -35,8 +35,8 @@ intersection own prev =
 -- "if |determinant| of the two directions ≤ 0.00001: skip if their dot > 0, else the midpoint; if not parallel, the intersection"
 unfoldable pub tighten : Line → Line → Tight
 tighten own prev =
-    if abs_of (determinant_of own.direction prev.direction) ≤ᶠ epsilon
-    then (if 0ᶠ <ᶠ dot_of own.direction prev.direction then skipped else tight_at own prev (midpoint own prev))
+    when abs_of (determinant_of own.direction prev.direction) ≤ᶠ epsilon
+    then (when 0ᶠ <ᶠ dot_of own.direction prev.direction then skipped else tight_at own prev (midpoint own prev))
     else tight_at own prev (intersection own prev)
 
 -- behind the tightened lines made before it
@@ -71,7 +71,7 @@ depth_in own p = determinant_of own.direction (sub_of own.point p)
 -- is not finite
 unfoldable pub replaced : Line → Vec2 → Float → ℕ → Pass → Relaxed
 replaced own p depth n (feasible q m) =
-    if finite_point q && finite (depth_in own q) then relaxed q (depth_in own q) (n + m) else relax_refused 9
+    when finite_point q && finite (depth_in own q) then relaxed q (depth_in own q) (n + m) else relax_refused 9
 replaced own p depth n (failed f q m) = relaxed p depth (n + m)
 replaced own p depth n (refused r) = relax_refused r
 
@@ -79,7 +79,7 @@ replaced own p depth n (refused r) = relax_refused r
 -- perp(own direction)."
 unfoldable pub relax_line : ℕ → Float → List Line → Line → Relaxed → Relaxed
 relax_line rigid limit earlier own (relaxed p depth n) =
-    if depth_in own p ≤ᶠ depth then relaxed p depth (n + 1)
+    when depth_in own p ≤ᶠ depth then relaxed p depth (n + 1)
     else replaced own p depth (n + 1 + build_probes rigid earlier) (pass (along (perp_of own.direction)) limit
     (tightened rigid own earlier))
 relax_line rigid limit earlier own (relax_refused r) = relax_refused r

@@ -2,7 +2,7 @@
 use Rattle.std.proofs.Common.{◌≡◌, ℕ, zero, suc, ◌+◌, ◌-◌, ◌<◌, ◌≤◌, Bool, true, false, ltb, leb, List, [], ◌∷◌, ◌++◌, length, get_or, take, drop, set, sym, refl, ap, ◌∙◌, append_assoc, append-nil, add-zero, add-one, arith, length-set, drop_of_length-le, length-take-le, take_all, drop-cons, ltb-true, le-ltb, lt-ltb, le-leb, leb-true}
 use lib.Ieee.{Float}
 use borrow.Author.Tests.{lt-leb}
-use Rattle.arithmetic.specs.Binary32.{if◌then◌else◌}
+use Rattle.arithmetic.specs.Binary32.{when◌then◌else◌}
 use Rattle.lines.specs.declared.Origin.{Origin}
 use Rattle.lines.specs.Lines.{most_lines}
 use Rattle.lines.specs.Origins.{unknown}
@@ -46,12 +46,12 @@ module _ (count low : ℕ) (is : List ℕ) (k : ℕ) where
 -- ---- indices below the rigid count
 
 pub below_on : (rigid : ℕ) (is : List ℕ) (k : ℕ) → k < length is → below_in rigid (drop k is)
-    ≡ (if ltb (get_or is k 0) rigid then 1 else 0) + below_in rigid (drop (k + 1) is)
+    ≡ (when ltb (get_or is k 0) rigid then 1 else 0) + below_in rigid (drop (k + 1) is)
 unfolding below_in
 below_on rigid is k h = rw (drop-cons is k 0 h, add-one k) refl
 
-pub at_most_one : (b : Bool) → (if b then 1 else 0) ≤ 1
-unfolding if◌then◌else◌
+pub at_most_one : (b : Bool) → (when b then 1 else 0) ≤ 1
+unfolding when◌then◌else◌
 at_most_one true = omega arith
 at_most_one false = omega arith
 
@@ -92,11 +92,11 @@ module _ (kind place : ℕ) (os : List Origin) (count i : ℕ) (size : count ≤
   found_all h all p g = sym (g ∙ rw (found-done h) (append-nil p))
 
 pub noted : (l : List ℕ) (n i : ℕ) → n < length l → take (n + 1) (set l n i) ≡ take n l ++ index_if true i
-unfolding index_if if◌then◌else◌
+unfolding index_if when◌then◌else◌
 noted l n i h = take_set_next l n h i
 
 pub not_noted : (l : List ℕ) (n i : ℕ) → take n l ≡ take n l ++ index_if false i
-unfolding index_if if◌then◌else◌
+unfolding index_if when◌then◌else◌
 not_noted l n i = sym (append-nil (take n l))
 
 -- ---- the call

@@ -2,7 +2,7 @@
 -- what is left, and the call's parts. Assumes nothing.
 use Rattle.std.proofs.Common.{◌≡◌, ℕ, zero, suc, ◌+◌, ◌-◌, ◌*◌, ◌%◌, ◌<◌, ◌≤◌, Bool, true, false, ltb, leb, List, [], ◌∷◌, ◌++◌, length, get_or, take, drop, sym, refl, ap, ◌∙◌, add-one, arith, drop_of_length-le, length-take-le, take_all, drop-cons, get_or-take, ltb-false, ltb-true, le-ltb, lt-ltb, leb-true}
 use lib.Ieee.{Float}
-use Rattle.arithmetic.specs.Binary32.{if◌then◌else◌}
+use Rattle.arithmetic.specs.Binary32.{when◌then◌else◌}
 use Rattle.common.specs.declared.Vec2.{Vec2}
 use Rattle.lines.specs.declared.Line.{Line}
 use Rattle.lines.specs.declared.Origin.{Origin}
@@ -24,11 +24,11 @@ use Rattle.session.specs.Withdrawals.{or_given, then_fed, started_with, fresh_as
 -- ---- which element comes to stand where
 
 pub source-below : (i n : ℕ) → n < i → source_of i n ≡ n
-unfolding source_of if◌then◌else◌
+unfolding source_of when◌then◌else◌
 source-below i n h = simp (lt-ltb n i h)
 
 pub source-above : (i n : ℕ) → i ≤ n → source_of i n ≡ n + 1
-unfolding source_of if◌then◌else◌
+unfolding source_of when◌then◌else◌
 source-above i n h = simp (le-ltb n i h)
 
 -- turn by turn over the indices

@@ -1,7 +1,7 @@
 -- Lines taken back and a batch added in one step (docs/changes/change.md): what comes back, whole. Definitions only.
 -- Assumes nothing.
 use Rattle.std.specs.Prelude.{ℕ, ◌+◌, ◌-◌, Bool, ◌&&◌, ltb, List, [], ◌∷◌, ◌++◌, length, ◌==◌, nat_le, nat_lt, Float}
-use Rattle.arithmetic.specs.Binary32.{if◌then◌else◌}
+use Rattle.arithmetic.specs.Binary32.{when◌then◌else◌}
 use Rattle.lines.specs.declared.Origin.{Origin}
 use Rattle.lines.specs.Lines.{most_lines}
 use Rattle.admission.specs.Faults.{Fault, fine, must, ◌⊳◌, unless_fault, fault_of}
@@ -23,7 +23,7 @@ change_fault count is = must (nat_le count most_lines) 4 ⊳ ascending_fault cou
 -- the rigid count is lowered by one for each index below it
 unfoldable pub below_in : ℕ → List ℕ → ℕ
 below_in rigid [] = 0
-below_in rigid (i ∷ is) = (if ltb i rigid then 1 else 0) + below_in rigid is
+below_in rigid (i ∷ is) = (when ltb i rigid then 1 else 0) + below_in rigid is
 
 unfoldable pub lowered_by : List ℕ → ℕ → ℕ
 lowered_by is rigid = rigid - below_in rigid is
@@ -43,7 +43,7 @@ is_of kind place o = o.kind == kind && o.place == place
 
 -- the index n, where it is one of those
 unfoldable pub index_if : Bool → ℕ → List ℕ
-index_if b n = if b then n ∷ [] else []
+index_if b n = when b then n ∷ [] else []
 
 -- the indices of such origins, counted from n on
 unfoldable pub indices_from : ℕ → ℕ → ℕ → List Origin → List ℕ

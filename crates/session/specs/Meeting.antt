@@ -1,7 +1,7 @@
 -- Lines that a point strictly meets (02, T-13): which line of a batch is the first that it does not. Definitions only.
 -- Assumes nothing.
 use Rattle.std.specs.Prelude.{ℕ, ◌+◌, Bool, List, [], ◌∷◌, length, nat_lt, Float}
-use Rattle.arithmetic.specs.Binary32.{◌<ᶠ◌, 0ᶠ, if◌then◌else◌}
+use Rattle.arithmetic.specs.Binary32.{◌<ᶠ◌, 0ᶠ, when◌then◌else◌}
 use Rattle.common.specs.declared.Vec2.{Vec2}
 use Rattle.common.specs.Vectors.{sub_of, determinant_of}
 use Rattle.lines.specs.declared.Line.{Line}
@@ -23,7 +23,7 @@ is_met p l = 0ᶠ <ᶠ determinant_of l.direction (sub_of p l.point)
 -- count where all are
 unfoldable pub first_unmet : Vec2 → List Line → ℕ
 first_unmet p [] = 0
-first_unmet p (l ∷ ls) = if is_met p l then first_unmet p ls + 1 else 0
+first_unmet p (l ∷ ls) = when is_met p l then first_unmet p ls + 1 else 0
 
 -- the point now, whatever the phase
 unfoldable pub point_now : Phase → Vec2
@@ -33,7 +33,7 @@ point_now (rigid_failure k p) = p
 
 -- the index that line k of a batch gets in a session of `count` lines, where it is one of the `n` lines of the batch
 unfoldable pub named : ℕ → ℕ → ℕ → Unmet
-named count n k = if nat_lt k n then unmet.At (count + k) else unmet.Nothing
+named count n k = when nat_lt k n then unmet.At (count + k) else unmet.Nothing
 
 -- "a line that the point at its arrival did not strictly meet, and the session can name the first":
 -- by the index that it gets in the session, as a withdrawal and the failed line count;

@@ -1,6 +1,6 @@
 -- A line taken back (02, T-12): what comes back, whole. Definitions only. Assumes nothing.
 use Rattle.std.specs.Prelude.{ℕ, zero, suc, ◌+◌, ◌-◌, List, [], ◌∷◌, length, take, nat_le, nat_lt, Float}
-use Rattle.arithmetic.specs.Binary32.{if◌then◌else◌}
+use Rattle.arithmetic.specs.Binary32.{when◌then◌else◌}
 use Rattle.common.specs.declared.Vec2.{Vec2}
 use Rattle.lines.specs.declared.Line.{Line}
 use Rattle.lines.specs.declared.Origin.{Origin}
@@ -58,7 +58,7 @@ module _ {A : Type 0} where
 
 -- where the element that comes to stand at n stood before one was taken out, and before several were
 unfoldable pub source_of : ℕ → ℕ → ℕ
-source_of i n = if nat_lt n i then n else n + 1
+source_of i n = when nat_lt n i then n else n + 1
 
 unfoldable pub source_in : List ℕ → ℕ → ℕ
 source_in [] n = n
@@ -66,7 +66,7 @@ source_in (i ∷ is) n = source_in is (source_of i n)
 
 -- "the rigid count is one less if the index was below it"
 unfoldable pub lowered : ℕ → ℕ → ℕ
-lowered i rigid = if nat_lt i rigid then rigid - 1 else rigid
+lowered i rigid = when nat_lt i rigid then rigid - 1 else rigid
 
 -- ---- the call
 

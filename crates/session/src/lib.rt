@@ -5,7 +5,7 @@
 
 ghost use Rattle.std.specs.Prelude.{◌≡◌, ◌+◌, ◌-◌, ◌*◌, ◌/◌, ◌<◌, ◌≤◌, true, ◌++◌, length, take, nat_lt};
 ghost use Rattle.std.proofs.lemmas.List.Edits.{sets};
-ghost use Rattle.arithmetic.specs.Binary32.{if◌then◌else◌};
+ghost use Rattle.arithmetic.specs.Binary32.{when◌then◌else◌};
 ghost use Rattle.lines.specs.Lines.{most_lines, lines_of};
 ghost use Rattle.lines.specs.Origins.{origins_of};
 ghost use Rattle.admission.specs.Faults.{fault_of};
@@ -337,7 +337,7 @@ fn judge_ascending(count: usize, withdrawn: &[usize]) -> Judged
 // One more where the index is below the rigid count.
 fn more_below(next: usize, rigid: usize, below: usize) -> usize
     requires { below < 18446744073709551615 }
-    ensures { result ≡ below + (if nat_lt next rigid then 1 else 0) }
+    ensures { result ≡ below + (when nat_lt next rigid then 1 else 0) }
 {
     if next < rigid {
         return below + 1;

@@ -10,7 +10,7 @@ use lib.ListN.{length, take, drop, get_or, length-append}
 use lib.Seq.{drop-drop}
 use lib.Ieee.{Float}
 use borrow.Author.Tests.{lt-ltb, le-ltb, ltb-true, ltb-false}
-use Rattle.arithmetic.specs.Binary32.{if◌then◌else◌}
+use Rattle.arithmetic.specs.Binary32.{when◌then◌else◌}
 use Rattle.common.specs.declared.Vec2.{Vec2}
 use Rattle.obstacles.specs.Vertices.{vertices_of, edge_at}
 use Rattle.obstacles.specs.Obstacles.{edge_count, ends_of}
@@ -66,11 +66,11 @@ module _ (from to : Vec2) where
     edges_from j = crossed_in from to (walls_from o kind xs j (most - j))
 
     edge-there : i < most → crosses from to (ends_of kind xs i) ≡ is_crossed from to here
-    unfolding ends_of if◌then◌else◌
+    unfolding ends_of when◌then◌else◌
     edge-there h = rw (lt-ltb i most h)
 
     edge-absent : most ≤ i → crosses from to (ends_of kind xs i) ≡ false
-    unfolding ends_of crosses if◌then◌else◌
+    unfolding ends_of crosses when◌then◌else◌
     edge-absent h = rw (le-ltb i most h)
 
     pub edges-on : (s : WallCheck) {r : WallCheck} → r ≡ one_more s (crosses from to (ends_of kind xs i)) o i

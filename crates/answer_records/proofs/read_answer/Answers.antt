@@ -1,6 +1,6 @@
 -- `answer_records::read_answer` meets its contract. Assumes nothing.
 use Rattle.std.proofs.Common.{sym, ◌∙◌, arith, eq-eqb, ne_eqb}
-use Rattle.arithmetic.specs.Binary32.{if◌then◌else◌}
+use Rattle.arithmetic.specs.Binary32.{when◌then◌else◌}
 use Rattle.answer_records.specs.Replies.{answer_in}
 use Rattle.answer_records.proofs.ReplyLaws.{code-there, refusal-coded}
 use Rattle.answer_records.proofs.read_answer.Goals as goal
@@ -15,7 +15,7 @@ outcome_in-requires c =
     omega (arith, code-there _ (sym fault))
 
 pub returns-then-pair_at-eq-LENGTH : goal.returns-then-pair_at-eq-LENGTH
-unfolding answer_in if◌then◌else◌
+unfolding answer_in when◌then◌else◌
 returns-then-pair_at-eq-LENGTH c = simp (
   ← c.outcome_in.ensures,
   eq-eqb _ _ c.if-pair_at-eq-LENGTH.true,
@@ -37,7 +37,7 @@ overflow_sub-result c =
     refusal-coded _ (sym fault) (λ n. c.if-pair_at-eq-LENGTH.false (c.pair_at.ensures ∙ n))
 
 pub returns : goal.returns
-unfolding answer_in if◌then◌else◌
+unfolding answer_in when◌then◌else◌
 returns c = simp (
   ne_eqb _ _ c.if-pair_at-eq-LENGTH.false,
   ← c.pair_at.ensures,

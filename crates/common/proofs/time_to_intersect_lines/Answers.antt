@@ -1,11 +1,11 @@
 -- `common::time_to_intersect_lines` meets its contract. Assumes nothing.
-use Rattle.arithmetic.specs.Binary32.{if◌then◌else◌}
+use Rattle.arithmetic.specs.Binary32.{when◌then◌else◌}
 use Rattle.common.specs.Meetings.{times_of}
 use borrow.Author.Rules.{rules}
 use Rattle.common.proofs.time_to_intersect_lines.Goals as goal
 
 pub returns-then-matrix_determinant : goal.returns-then-matrix_determinant
-unfolding times_of if◌then◌else◌
+unfolding times_of when◌then◌else◌
 returns-then-matrix_determinant c = simp (
   c.if-matrix_determinant.true,
   ← c.determinant-matrix_determinant.ensures,
@@ -15,7 +15,7 @@ returns-then-matrix_determinant c = simp (
 )
 
 pub returns : goal.returns
-unfolding times_of if◌then◌else◌
+unfolding times_of when◌then◌else◌
 returns c =
     simp (
       ← c.div.ensures,

@@ -1,10 +1,10 @@
 -- `edges::get_line_for_agent_to_edge` meets its contract. Assumes nothing.
-use Rattle.arithmetic.specs.Binary32.{if◌then◌else◌}
+use Rattle.arithmetic.specs.Binary32.{when◌then◌else◌}
 use Rattle.edges.specs.EdgeLines.{line_for_edge}
 use Rattle.edges.proofs.get_line_for_agent_to_edge.Goals as goal
 
 pub returns-then-determinant : goal.returns-then-determinant
-unfolding line_for_edge if◌then◌else◌
+unfolding line_for_edge when◌then◌else◌
 returns-then-determinant c = simp (
   c.if-determinant.true,
   ← c.determinant.ensures,
@@ -15,7 +15,7 @@ returns-then-determinant c = simp (
 )
 
 pub returns-then-is_edge_covered : goal.returns-then-is_edge_covered
-unfolding line_for_edge if◌then◌else◌
+unfolding line_for_edge when◌then◌else◌
 returns-then-is_edge_covered c =
     simp (
       c.if-is_edge_covered.true,
@@ -29,7 +29,7 @@ returns-then-is_edge_covered c =
     )
 
 pub returns : goal.returns
-unfolding line_for_edge if◌then◌else◌
+unfolding line_for_edge when◌then◌else◌
 returns c =
     simp (
       ← c.line_in_front.ensures,

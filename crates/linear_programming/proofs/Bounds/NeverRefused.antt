@@ -8,7 +8,7 @@ use mathlib.Core.Bool.{false}
 use mathlib.Core.List.{List, foldl}
 use lib.Dec.{lit≤}
 use lib.Ieee.{Float, of_bits}
-use Rattle.arithmetic.specs.Binary32.{◌<ᶠ◌, ◌≤ᶠ◌, 0ᶠ, halfᶠ, if◌then◌else◌}
+use Rattle.arithmetic.specs.Binary32.{◌<ᶠ◌, ◌≤ᶠ◌, 0ᶠ, halfᶠ, when◌then◌else◌}
 use Rattle.arithmetic.specs.Ends.{abs_of}
 use Rattle.arithmetic.proofs.Choice.{if-all, if-case}
 use Rattle.arithmetic.proofs.Lists.{All, all_snoc, all_take, all_drop, all_map, none, more}
@@ -94,7 +94,7 @@ data Relaxes : Relaxed → Type 0 where
 
 replaced-relaxes : (own : Line) (p : Vec2) (depth : Float) (n : ℕ) → Admitted own → {s : Pass} → Goes 221 s →
     Relaxes (replaced own p depth n s)
-unfolding replaced finite_point depth_in if◌then◌else◌
+unfolding replaced finite_point depth_in when◌then◌else◌
 replaced-relaxes own p depth n O ends = relaxes
 replaced-relaxes own p depth n O (goes {q} h) =
     let d = determinant-within 224 O.line-in.direction-in (sub-inside 222 O.line-in.point-in h (omega arith))

@@ -8,7 +8,7 @@ use mathlib.Core.List.{List, foldl}
 use lib.ListN.{length}
 use lib.Dec.{lit≤, T}
 use lib.Ieee.{Float, of_bits}
-use Rattle.arithmetic.specs.Binary32.{◌⊘◌, ◌<ᶠ◌, ◌≤ᶠ◌, 0ᶠ, if◌then◌else◌}
+use Rattle.arithmetic.specs.Binary32.{◌⊘◌, ◌<ᶠ◌, ◌≤ᶠ◌, 0ᶠ, when◌then◌else◌}
 use Rattle.arithmetic.specs.Ends.{abs_of}
 use Rattle.arithmetic.proofs.Choice.{if-all, if-case}
 use Rattle.arithmetic.proofs.Lists.{All, none, more}
@@ -82,7 +82,7 @@ unfolding start
 along-inside limit D L = mul-inside 160 D L (omega arith)
 
 judged-goes : (o : Objective) {k : ℕ} {q : Vec2} (n : ℕ) → Inside k q → Goes k (judged o q n)
-unfolding judged finite_point if◌then◌else◌
+unfolding judged finite_point when◌then◌else◌
 judged-goes (toward w) n h = rw (inside-finite h) (goes h)
 judged-goes (along d) n h = goes h
 
@@ -139,7 +139,7 @@ module _ (p : ℕ) (P : (177 ≤ p) × (p ≤ 199)) where
 
   choose-lands : (own : Line) → LineIn p own → {o : Objective} → Aimed o → {i : Interval} → Good (p + 20) i →
       Lands (p + 22) (choose o own i)
-  unfolding choose if◌then◌else◌
+  unfolding choose when◌then◌else◌
   choose-lands own O (aimed W) gone = misses
   choose-lands own O (pointed D) gone = misses
   choose-lands own O (aimed W) (good h g t) =

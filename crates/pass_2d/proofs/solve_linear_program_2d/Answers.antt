@@ -2,7 +2,7 @@
 use mathlib.Core.Path.{sym, ◌∙◌}
 use lib.ListN.{take}
 use borrow.Author.Tests.{lt-leb}
-use Rattle.arithmetic.specs.Binary32.{if◌then◌else◌}
+use Rattle.arithmetic.specs.Binary32.{when◌then◌else◌}
 use Rattle.lines.specs.Lines.{lines_of}
 use Rattle.lines.proofs.Fold.{count-taken}
 use Rattle.lines.proofs.Rows.{count_fits}
@@ -13,7 +13,7 @@ use Rattle.pass_2d.proofs.Variants.{ended-start}
 use Rattle.pass_2d.proofs.solve_linear_program_2d.Goals as goal
 
 pub returns-then-given-gt-MOST : goal.returns-then-given-gt-MOST
-unfolding pass_call if◌then◌else◌
+unfolding pass_call when◌then◌else◌
 returns-then-given-gt-MOST c = simp (lt-leb _ _ (rw c.count_given-given.ensures at c.if-given-gt-MOST.true))
 
 pub returns-in_default : goal.returns-in_default

@@ -3,7 +3,7 @@
 use mathlib.Core.Path.{sym, ◌∙◌}
 use lib.ListN.{take}
 use borrow.Author.Tests.{lt-leb}
-use Rattle.arithmetic.specs.Binary32.{if◌then◌else◌}
+use Rattle.arithmetic.specs.Binary32.{when◌then◌else◌}
 use Rattle.lines.specs.Lines.{lines_of}
 use Rattle.lines.proofs.Fold.{count-taken}
 use Rattle.lines.proofs.Rows.{count_fits}
@@ -13,7 +13,7 @@ use Rattle.relaxation.proofs.CallLaws.{few-relaxed}
 use Rattle.relaxation.proofs.solve_linear_program_3d.Goals as goal
 
 pub returns-then-given-gt-MOST : goal.returns-then-given-gt-MOST
-unfolding resumed_relaxation if◌then◌else◌
+unfolding resumed_relaxation when◌then◌else◌
 returns-then-given-gt-MOST c = simp (lt-leb _ _ (rw c.count_given-given.ensures at c.if-given-gt-MOST.true))
 
 pub relax_from-requires : goal.relax_from-requires

@@ -1,10 +1,10 @@
 -- `edges::cutoffs::nearest_line` meets its contract. Assumes nothing.
-use Rattle.arithmetic.specs.Binary32.{if◌then◌else◌}
+use Rattle.arithmetic.specs.Binary32.{when◌then◌else◌}
 use Rattle.edges.specs.Cutoffs.{nearest_line}
 use Rattle.edges.proofs.cutoffs.nearest_line.Goals as goal
 
 pub returns-then-at_most_both : goal.returns-then-at_most_both
-unfolding nearest_line if◌then◌else◌
+unfolding nearest_line when◌then◌else◌
 returns-then-at_most_both c =
     simp (
       ← c.cutoff_line.ensures,
@@ -17,7 +17,7 @@ returns-then-at_most_both c =
     )
 
 pub returns-then-left_distance-right_distance : goal.returns-then-left_distance-right_distance
-unfolding nearest_line if◌then◌else◌
+unfolding nearest_line when◌then◌else◌
 returns-then-left_distance-right_distance c =
     simp (
       ← c.shadow_line.ensures,
@@ -31,7 +31,7 @@ returns-then-left_distance-right_distance c =
     )
 
 pub returns : goal.returns
-unfolding nearest_line if◌then◌else◌
+unfolding nearest_line when◌then◌else◌
 returns c =
     simp (
       ← c.shadow_line-2.ensures,

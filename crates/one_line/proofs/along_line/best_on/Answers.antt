@@ -1,10 +1,10 @@
 -- `one_line::along_line::best_on` meets its contract. Assumes nothing.
-use Rattle.arithmetic.specs.Binary32.{if◌then◌else◌}
+use Rattle.arithmetic.specs.Binary32.{when◌then◌else◌}
 use Rattle.one_line.specs.OneLine.{choose}
 use Rattle.one_line.proofs.along_line.best_on.Goals as goal
 
 pub returns-then-dot : goal.returns-then-dot
-unfolding choose if◌then◌else◌
+unfolding choose when◌then◌else◌
 returns-then-dot c = simp (
   ← c.point_on.ensures,
   c.if-dot.true,
@@ -14,7 +14,7 @@ returns-then-dot c = simp (
 )
 
 pub returns-then-left-right : goal.returns-then-left-right
-unfolding choose if◌then◌else◌
+unfolding choose when◌then◌else◌
 returns-then-left-right c =
     simp (
       ← c.point_on-then-left-right.ensures,
@@ -27,7 +27,7 @@ returns-then-left-right c =
     )
 
 pub returns-else-dot : goal.returns-else-dot
-unfolding choose if◌then◌else◌
+unfolding choose when◌then◌else◌
 returns-else-dot c = simp (
   ← c.point_on-in-Direction.ensures,
   c.if-dot.false,
@@ -37,5 +37,5 @@ returns-else-dot c = simp (
 )
 
 pub returns-else-left-right : goal.returns-else-left-right
-unfolding choose if◌then◌else◌
+unfolding choose when◌then◌else◌
 returns-else-left-right c = simp (c.if-left-right.false, c.in-Point.is)

@@ -1,11 +1,11 @@
 -- `one_line::along_line::narrow_by` meets its contract. Assumes nothing.
-use Rattle.arithmetic.specs.Binary32.{if◌then◌else◌}
+use Rattle.arithmetic.specs.Binary32.{when◌then◌else◌}
 use Rattle.admission.specs.Faults.{within}
 use Rattle.one_line.specs.OneLine.{narrow}
 use Rattle.one_line.proofs.along_line.narrow_by.Goals as goal
 
 pub returns-then-is_within : goal.returns-then-is_within
-unfolding narrow if◌then◌else◌ within
+unfolding narrow when◌then◌else◌ within
 returns-then-is_within c = simp (
   ← c.unless_fails.ensures,
   c.if-is_within.true,
@@ -16,7 +16,7 @@ returns-then-is_within c = simp (
 )
 
 pub returns : goal.returns
-unfolding narrow if◌then◌else◌ within
+unfolding narrow when◌then◌else◌ within
 returns c = simp (
   ← c.cut_at.ensures,
   c.if-is_within.false,

@@ -1,5 +1,5 @@
 -- `pass_2d::solve_2d::pass_line` meets its contract. In each need `s` is where the one-line solve has answered. Assumes nothing.
-use Rattle.arithmetic.specs.Binary32.{if◌then◌else◌}
+use Rattle.arithmetic.specs.Binary32.{when◌then◌else◌}
 use native.Mathlib.Omega.{arith}
 use lib.Seq.{length-take-le}
 use Rattle.lines.specs.Lines.{lines_of}
@@ -10,7 +10,7 @@ use Rattle.pass_2d.proofs.Variants.{few-looked}
 use Rattle.pass_2d.proofs.solve_2d.pass_line.Goals as goal
 
 pub returns-then-determinant : goal.returns-then-determinant
-unfolding pass_line if◌then◌else◌
+unfolding pass_line when◌then◌else◌
 returns-then-determinant c = simp (
   c.if-determinant.true,
   ← c.determinant.ensures,
@@ -19,7 +19,7 @@ returns-then-determinant c = simp (
 )
 
 pub returns-in_default-along : goal.returns-in_default-along
-unfolding pass_line if◌then◌else◌ solved
+unfolding pass_line when◌then◌else◌ solved
 returns-in_default-along c =
     let refuses = refuses-left c.solve_linear_program_along_line-along.result c.in_default.not-At c.in_default-along.not-Fails in
     simp (
@@ -50,7 +50,7 @@ overflow_add-counted-in_default c =
     )
 
 pub returns-in_default : goal.returns-in_default
-unfolding pass_line if◌then◌else◌ solved
+unfolding pass_line when◌then◌else◌ solved
 returns-in_default c =
     let a = c.args in
     let short = length-take-le a.index (lines_of a.lines.now) (lines_fit a.lines.now a.index (omega arith)) in
@@ -83,7 +83,7 @@ overflow_add-probes-2 c =
     )
 
 pub returns : goal.returns
-unfolding pass_line if◌then◌else◌ solved
+unfolding pass_line when◌then◌else◌ solved
 returns c =
     simp (
       ← c.judge_point.ensures,

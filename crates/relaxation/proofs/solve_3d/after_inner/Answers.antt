@@ -1,6 +1,6 @@
 -- `relaxation::solve_3d::after_inner` meets its contract. Assumes nothing.
 use native.Mathlib.Omega.{arith}
-use Rattle.arithmetic.specs.Binary32.{if◌then◌else◌}
+use Rattle.arithmetic.specs.Binary32.{when◌then◌else◌}
 use Rattle.relaxation.specs.Relax.{replaced}
 use Rattle.relaxation.proofs.solve_3d.after_inner.Goals as goal
 
@@ -11,7 +11,7 @@ overflow_add-result c =
     omega arith
 
 pub returns-then-are_finite : goal.returns-then-are_finite
-unfolding replaced if◌then◌else◌
+unfolding replaced when◌then◌else◌
 returns-then-are_finite c = simp (
   c.if-are_finite.true,
   ← c.are_finite.ensures,
@@ -25,7 +25,7 @@ overflow_add-result-in-Infeasible c =
     omega arith
 
 pub returns-else-are_finite : goal.returns-else-are_finite
-unfolding replaced if◌then◌else◌
+unfolding replaced when◌then◌else◌
 returns-else-are_finite c = simp (
   c.if-are_finite.false,
   ← c.are_finite.ensures,
@@ -34,9 +34,9 @@ returns-else-are_finite c = simp (
 )
 
 pub returns-in-Infeasible : goal.returns-in-Infeasible
-unfolding replaced if◌then◌else◌
+unfolding replaced when◌then◌else◌
 returns-in-Infeasible c = simp c.in-Infeasible.is
 
 pub returns-in-Refused : goal.returns-in-Refused
-unfolding replaced if◌then◌else◌
+unfolding replaced when◌then◌else◌
 returns-in-Refused c = simp c.in-Refused.is

@@ -3,7 +3,7 @@ use mathlib.Core.Path.{◌∙◌}
 use native.Mathlib.Omega.{arith}
 use lib.ListN.{take, length-take}
 use lib.Seq.{length-take-le}
-use Rattle.arithmetic.specs.Binary32.{if◌then◌else◌}
+use Rattle.arithmetic.specs.Binary32.{when◌then◌else◌}
 use Rattle.lines.specs.Lines.{lines_of}
 use Rattle.relaxation.specs.Relax.{relax_line}
 use Rattle.relaxation.proofs.RelaxedProbes.{inner-solve-most}
@@ -12,7 +12,7 @@ use Rattle.relaxation.proofs.TightLaws.{lesser-rigid, examined}
 use Rattle.relaxation.proofs.solve_3d.relax_line.Goals as goal
 
 pub returns-then-depth_in-penetration : goal.returns-then-depth_in-penetration
-unfolding relax_line if◌then◌else◌
+unfolding relax_line when◌then◌else◌
 returns-then-depth_in-penetration c = simp (c.if-depth_in-penetration.true, ← c.depth_in.ensures, ← c.line_at-constraint.ensures)
 
 pub after_inner-requires : goal.after_inner-requires
@@ -24,7 +24,7 @@ after_inner-requires c =
     )
 
 pub returns : goal.returns
-unfolding relax_line if◌then◌else◌
+unfolding relax_line when◌then◌else◌
 returns c =
     let a = c.args in
     let short = length-take-le a.index (lines_of a.lines.now)

@@ -1,11 +1,11 @@
 -- `relaxation::solve_3d::tighten` meets its contract. Assumes nothing.
-use Rattle.arithmetic.specs.Binary32.{if◌then◌else◌}
+use Rattle.arithmetic.specs.Binary32.{when◌then◌else◌}
 use Rattle.admission.specs.Faults.{within}
 use Rattle.relaxation.specs.Relax.{tighten}
 use Rattle.relaxation.proofs.solve_3d.tighten.Goals as goal
 
 pub returns-then-dot : goal.returns-then-dot
-unfolding tighten if◌then◌else◌ within
+unfolding tighten when◌then◌else◌ within
 returns-then-dot c = simp (
   c.if-dot.true,
   ← c.dot.ensures,
@@ -15,7 +15,7 @@ returns-then-dot c = simp (
 )
 
 pub returns-then-is_within : goal.returns-then-is_within
-unfolding tighten if◌then◌else◌ within
+unfolding tighten when◌then◌else◌ within
 returns-then-is_within c = simp (
   ← c.tighten_at.ensures,
   ← c.middle_point.ensures,
@@ -27,7 +27,7 @@ returns-then-is_within c = simp (
 )
 
 pub returns : goal.returns
-unfolding tighten if◌then◌else◌ within
+unfolding tighten when◌then◌else◌ within
 returns c = simp (
   ← c.tighten_at-2.ensures,
   ← c.intersection_point.ensures,
