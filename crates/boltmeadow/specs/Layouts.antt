@@ -7,8 +7,8 @@ use Rattle.edges.specs.declared.Agent.{Agent}
 use Rattle.obstacles.specs.declared.ObstacleLines.{ObstacleLines}
 use Rattle.wall_check.specs.declared.WallCheck.{WallCheck}
 use Rattle.wall_check.specs.declared.WallCheck.TheVariants as check
-use Rattle.boltmeadow.specs.declared.layouts.BmCrossing.{BmCrossing}
-use Rattle.boltmeadow.specs.declared.layouts.BmObstacleLines.{BmObstacleLines}
+use Rattle.boltmeadow.specs.declared.walls.BmCrossing.{BmCrossing}
+use Rattle.boltmeadow.specs.declared.walls.BmObstacleLines.{BmObstacleLines}
 
 -- a cart by its four numbers
 abbrev pub agent_at : Float → Float → Float → Float → Agent

@@ -3,8 +3,8 @@
 // which leaves what was lent as it was.
 #![tactic(auto)]
 
-mod layouts;
 mod lists;
 mod logs;
 mod scenes;
 mod sessions;
+mod walls;

@@ -8,7 +8,7 @@ ghost use Rattle.records.specs.Answered.{scene_answer_to};
 ghost use Rattle.index_building.specs.Indexes.{standing};
 ghost use Rattle.boltmeadow.specs.Scenes.{outcome_with, refused_scene, answer_left, cart_of, scene_told, cart_in, written_told, written_left};
 
-use crate::layouts::number_of;
+use crate::walls::number_of;
 use common::Vec2;
 use dodgy_2d::{Scene, SceneAnswer};
 use edges::Agent;

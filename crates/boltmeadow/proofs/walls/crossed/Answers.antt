@@ -1,7 +1,7 @@
--- `boltmeadow::layouts::crossed` meets its contract. Assumes nothing.
+-- `boltmeadow::walls::crossed` meets its contract. Assumes nothing.
 use mathlib.Core.Path.{refl}
 use Rattle.boltmeadow.specs.Layouts.{crossing}
-use Rattle.boltmeadow.proofs.layouts.crossed.Goals as goal
+use Rattle.boltmeadow.proofs.walls.crossed.Goals as goal
 
 pub returns : goal.returns
 unfolding crossing

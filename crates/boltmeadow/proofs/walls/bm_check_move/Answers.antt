@@ -1,7 +1,7 @@
--- `boltmeadow::layouts::bm_check_move` meets its contract. Assumes nothing.
+-- `boltmeadow::walls::bm_check_move` meets its contract. Assumes nothing.
 use mathlib.Core.Path.{sym, ap, ◌∙◌}
 use Rattle.boltmeadow.specs.Layouts.{crossing_told}
-use Rattle.boltmeadow.proofs.layouts.bm_check_move.Goals as goal
+use Rattle.boltmeadow.proofs.walls.bm_check_move.Goals as goal
 
 pub returns-in-Crossed : goal.returns-in-Crossed
 returns-in-Crossed c = c.crossed.ensures ∙ ap crossing_told (sym c.in-Crossed.is
