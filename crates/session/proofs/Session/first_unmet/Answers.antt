@@ -1,4 +1,5 @@
 -- `session::Session::first_unmet` meets its contract. Assumes nothing.
+use Rattle.std.proofs.Common.{[]}
 use Rattle.lines.proofs.Rows.{lines_long}
 use Rattle.session.specs.Meeting.{unmet_as}
 use Rattle.session.proofs.BatchWork.{batch-counts}
