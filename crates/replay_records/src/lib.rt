@@ -118,14 +118,14 @@ impl Walk {
 }
 
 // The set's file, open to be read; none where it cannot be opened. A file's name is text.
-fn open_set(rt: &impl Files<File = File>, set: &[u8]) -> Option<File> {
+pub fn open_set(rt: &impl Files<File = File>, set: &[u8]) -> Option<File> {
     let name = str::from_utf8(set).ok()?;
     File::open(rt, name).ok()
 }
 
 // Reads until `bytes` is full, the file ends or a read fails, and answers how many bytes it put at the start: of a file
 // that is not there none.
-fn read_full(file: &mut Option<File>, bytes: &mut [u8]) -> usize
+pub fn read_full(file: &mut Option<File>, bytes: &mut [u8]) -> usize
     ensures { result ≤ length bytes.new }
 {
     let Some(file) = file else {
