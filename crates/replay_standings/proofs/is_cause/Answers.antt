@@ -1,5 +1,4 @@
 -- `replay_standings::is_cause` meets its contract. Assumes nothing.
-use borrow.Author.Rules.{rules}
 use Rattle.replay_standings.specs.Standings.{is_cause}
 use Rattle.replay_standings.proofs.is_cause.Goals as goal
 

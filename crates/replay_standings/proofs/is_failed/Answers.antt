@@ -1,5 +1,4 @@
 -- `replay_standings::is_failed` meets its contract. Assumes nothing.
-use borrow.Author.Rules.{rules}
 use Rattle.replay_standings.specs.Standings.{is_failed}
 use Rattle.replay_standings.proofs.is_failed.Goals as goal
 

@@ -1,5 +1,4 @@
 -- `replay_standings::is_standing` meets its contract. Assumes nothing.
-use borrow.Author.Rules.{rules}
 use Rattle.replay_standings.specs.Standings.{is_standing}
 use Rattle.replay_standings.proofs.is_standing.Goals as goal
 

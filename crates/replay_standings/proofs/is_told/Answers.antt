@@ -1,5 +1,4 @@
 -- `replay_standings::is_told` meets its contract. Assumes nothing.
-use borrow.Author.Rules.{rules}
 use Rattle.replay_standings.specs.Standings.{is_told}
 use Rattle.replay_standings.proofs.is_told.Goals as goal
 
