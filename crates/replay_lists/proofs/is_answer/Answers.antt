@@ -1,5 +1,4 @@
 -- `replay_lists::is_answer` meets its contract. Assumes nothing.
-use borrow.Author.Rules.{rules}
 use Rattle.replay_lists.specs.ListsSet.{is_answer}
 use Rattle.replay_lists.proofs.is_answer.Goals as goal
 

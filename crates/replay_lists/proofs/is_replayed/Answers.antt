@@ -2,7 +2,6 @@
 use mathlib.Core.Path.{◌∙◌, ap}
 use native.Mathlib.Nat.{sub-zero}
 use borrow.Author.Tests.{le-leb, lt-leb}
-use borrow.Author.Rules.{rules}
 use Rattle.replay_lists.specs.ListsSet.{is_answer, is_replayed}
 use Rattle.replay_lists.proofs.is_replayed.Goals as goal
 
