@@ -1,9 +1,6 @@
 -- `replay_edges::are_numbers` meets its contract. The invariant: the answer is that of the first i numbers. Assumes nothing.
 use Prim.Native.Nat.{◌-◌, ◌≤◌}
-use mathlib.Core.Path.{◌≡◌, refl}
-use native.Mathlib.Omega.{arith}
-use native.Mathlib.Numerals.{add-one}
-use borrow.Author.Rules.{rules}
+use mathlib.Core.Path.{◌≡◌}
 use Rattle.replay_edges.specs.EdgesSet.{are_numbers}
 use Rattle.replay_edges.proofs.are_numbers.Given as goal
 

@@ -1,6 +1,5 @@
 -- `replay_edges::is_answer` meets its contract. Assumes nothing.
 use borrow.Author.Tests.{le-leb, lt-leb}
-use borrow.Author.Rules.{rules}
 use Rattle.replay_edges.specs.EdgesSet.{is_answer, is_lines_or_refusal}
 use Rattle.replay_edges.proofs.is_answer.Goals as goal
 

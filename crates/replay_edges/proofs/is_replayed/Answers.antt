@@ -3,7 +3,6 @@ use mathlib.Core.Path.{◌∙◌, ap}
 use native.Mathlib.Nat.{sub-zero}
 use native.Mathlib.Omega.{arith}
 use borrow.Author.Tests.{le-leb, lt-leb}
-use borrow.Author.Rules.{rules}
 use Rattle.replay_edges.specs.EdgesSet.{is_answer, is_replayed}
 use Rattle.replay_edges.proofs.is_replayed.Goals as goal
 

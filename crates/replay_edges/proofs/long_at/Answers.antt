@@ -1,5 +1,4 @@
 -- `replay_edges::long_at` meets its contract. Assumes nothing.
-use borrow.Author.Rules.{rules}
 use Rattle.replay_edges.specs.EdgesSet.{long_at}
 use Rattle.replay_edges.proofs.long_at.Goals as goal
 
