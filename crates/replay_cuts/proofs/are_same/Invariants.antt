@@ -1,6 +1,5 @@
 -- `replay_cuts::are_same` meets its contract: it ends. Assumes nothing.
 use Prim.Native.Nat.{◌-◌, ◌≤◌}
-use borrow.Author.Rules.{rules}
 use Rattle.replay_cuts.proofs.are_same.Given as goal
 
 abbrev pub invariant-loop-i : goal.invariant-loop-i

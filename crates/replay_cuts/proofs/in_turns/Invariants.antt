@@ -1,6 +1,5 @@
 -- `replay_cuts::in_turns` meets its contract: each turn leaves the place among the lines. Assumes nothing.
 use Prim.Native.Nat.{◌-◌, ◌≤◌}
-use borrow.Author.Rules.{rules}
 use Rattle.replay_cuts.proofs.in_turns.Given as goal
 
 abbrev pub invariant-loop-turn : goal.invariant-loop-turn

@@ -1,5 +1,4 @@
 -- `replay_cuts::same_judgement` meets its contract. Assumes nothing.
-use borrow.Author.Rules.{rules}
 use Rattle.replay_cuts.specs.CutsSet.{same_fault}
 use Rattle.replay_cuts.proofs.same_judgement.Goals as goal
 

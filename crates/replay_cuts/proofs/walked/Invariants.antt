@@ -1,7 +1,6 @@
 -- `replay_cuts::walked` meets its contract: it ends, since each turn leaves fewer indices. Assumes nothing.
 use mathlib.Core.Path.{◌≡◌}
 use lib.ListN.{length}
-use borrow.Author.Rules.{rules}
 use Rattle.replay_cuts.proofs.walked.Given as goal
 
 abbrev pub invariant-loop-walk : goal.invariant-loop-walk

@@ -1,6 +1,5 @@
 -- `replay_histories::are_origins` meets its contract: it ends. Assumes nothing.
 use Prim.Native.Nat.{◌-◌, ◌≤◌}
-use borrow.Author.Rules.{rules}
 use Rattle.replay_histories.proofs.are_origins.Given as goal
 
 abbrev pub invariant-loop-i : goal.invariant-loop-i
