@@ -10,6 +10,7 @@ ghost use Rattle.replay_common.specs.CommonSet.{operators_agree, functions_agree
 
 use common::{Times, Vec2};
 use replay_records::{Walk, is_flag, is_number, is_vector, number_at, vector_at};
+use std::io;
 
 // Whether the record is whole, and each answer is the one that `common` gives, bit for bit.
 fn is_replayed(bytes: &[u8]) -> bool
@@ -70,7 +71,8 @@ fn turn(walk: Walk, head: &mut [u8]) -> Walk
         return read;
     }
     let tally = read.tally;
-    read.behind(tally.with(is_replayed(head), read.index()))
+    let index = read.index();
+    read.behind(tally.with(is_replayed(head), index))
 }
 
 // The walk to its end.
@@ -83,6 +85,7 @@ fn walked(start: Walk) -> Walk {
     walk
 }
 
-fn main() {
-    walked(Walk::open(b"common")).tell(b"common");
+fn main(rt: HostRuntime) -> io::Result<()> {
+    walked(Walk::open(&rt, b"common")).tell(&rt, b"common")?;
+    Ok(())
 }

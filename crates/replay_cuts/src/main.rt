@@ -13,6 +13,7 @@ use lines::{Line, Origin};
 use replay_records::{Walk, first_numbers, number_at, vector_at};
 use replay_standings::is_standing;
 use session::{Fed, Session};
+use std::io;
 use verdict::Tally;
 
 // A session on its way through a record: the origins that it was fed, how many lines, the last number drawn, the
@@ -479,7 +480,8 @@ fn turn(walk: Walk, head: &mut [u8], rest: &mut [u8]) -> Walk
         return read;
     }
     let tally = read.tally;
-    read.behind(with_record(tally, head, rest, read.index()))
+    let index = read.index();
+    read.behind(with_record(tally, head, rest, index))
 }
 
 // The walk to its end.
@@ -494,6 +496,7 @@ fn walked(start: Walk) -> Walk {
     walk
 }
 
-fn main() {
-    walked(Walk::open(b"cuts")).tell(b"cuts");
+fn main(rt: HostRuntime) -> io::Result<()> {
+    walked(Walk::open(&rt, b"cuts")).tell(&rt, b"cuts")?;
+    Ok(())
 }

@@ -11,6 +11,7 @@ use admission::{Head, Judged};
 use edges::Agent;
 use obstacles::ObstacleLines;
 use replay_records::{Walk, agrees, first_numbers, number_at, vector_at};
+use std::io;
 
 // How many lines stand behind the numbers: none where the answer is a refusal.
 fn line_count(answer: u32) -> usize
@@ -107,7 +108,8 @@ fn turn(walk: Walk, head: &mut [u8], rest: &mut [u8]) -> Walk
         return read;
     }
     let tally = read.tally;
-    read.behind(tally.with(is_replayed(head, rest), read.index()))
+    let index = read.index();
+    read.behind(tally.with(is_replayed(head, rest), index))
 }
 
 // The walk to its end.
@@ -122,6 +124,7 @@ fn walked(start: Walk) -> Walk {
     walk
 }
 
-fn main() {
-    walked(Walk::open(b"edges")).tell(b"edges");
+fn main(rt: HostRuntime) -> io::Result<()> {
+    walked(Walk::open(&rt, b"edges")).tell(&rt, b"edges")?;
+    Ok(())
 }

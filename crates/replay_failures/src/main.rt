@@ -10,6 +10,7 @@ use dodgy_2d::SceneAnswer;
 use lines::Origin;
 use replay_records::Walk;
 use replay_standings::is_failed;
+use std::io;
 
 // Whether failed line, cause and origin are those that the head has. A record that is not read, or is refused, is bad.
 fn is_replayed(head: &[u8], rest: &[u8]) -> bool {
@@ -49,7 +50,8 @@ fn turn(walk: Walk, head: &mut [u8], rest: &mut [u8]) -> Walk
         return read;
     }
     let tally = read.tally;
-    read.behind(tally.with(is_replayed(head, rest), read.index()))
+    let index = read.index();
+    read.behind(tally.with(is_replayed(head, rest), index))
 }
 
 // The walk to its end.
@@ -64,6 +66,7 @@ fn walked(start: Walk) -> Walk {
     walk
 }
 
-fn main() {
-    walked(Walk::open(b"failures")).tell(b"failures");
+fn main(rt: HostRuntime) -> io::Result<()> {
+    walked(Walk::open(&rt, b"failures")).tell(&rt, b"failures")?;
+    Ok(())
 }

@@ -10,9 +10,10 @@ use lines::{Line, Origin};
 use replay_records::{Walk, first_numbers, number_at, vector_at};
 use replay_standings::is_standing;
 use session::{Fed, Session, Unmet};
+use std::io;
 
 // A walk over the records, and the session on its way.
-#[derive(Clone, Copy)]
+#[derive(Drop)]
 struct Playing {
     walk: Walk,
     session: Session,
@@ -326,7 +327,8 @@ fn replayed(read: Walk, session: Session, head: &[u8], rest: &[u8]) -> Playing
         & stands(after, head, rest)
         & is_forged_refused(session, head);
     let tally = read.tally;
-    let walk = read.behind(tally.with(good, read.index()));
+    let index = read.index();
+    let walk = read.behind(tally.with(good, index));
     let next = next_session(session, fed, head);
     Playing {
         walk,
@@ -365,10 +367,11 @@ fn walked(start: Playing) -> Walk {
     walk
 }
 
-fn main() {
+fn main(rt: HostRuntime) -> io::Result<()> {
     let none = Session::start(common::Vec2::ZERO, 0.0, 0);
     let session = none.session;
-    let walk = Walk::open(b"histories");
+    let walk = Walk::open(&rt, b"histories");
     let start = Playing { walk, session };
-    walked(start).tell(b"histories");
+    walked(start).tell(&rt, b"histories")?;
+    Ok(())
 }

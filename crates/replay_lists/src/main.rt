@@ -9,6 +9,7 @@ ghost use Rattle.replay_lists.specs.ListsSet.{is_answer, is_replayed};
 use linear_programming::{Answer, FailedLine};
 use replay_records::{Walk, first_numbers, number_at, vector_at};
 use replay_standings::{is_standing, is_told};
+use std::io;
 
 // Whether the record's answer is the one that `linear_programming` gives.
 fn is_replayed(head: &[u8], rest: &[u8]) -> bool
@@ -55,7 +56,8 @@ fn turn(walk: Walk, head: &mut [u8], rest: &mut [u8]) -> Walk
         return read;
     }
     let tally = read.tally;
-    read.behind(tally.with(is_replayed(head, rest), read.index()))
+    let index = read.index();
+    read.behind(tally.with(is_replayed(head, rest), index))
 }
 
 // The walk to its end.
@@ -70,6 +72,7 @@ fn walked(start: Walk) -> Walk {
     walk
 }
 
-fn main() {
-    walked(Walk::open(b"lists")).tell(b"lists");
+fn main(rt: HostRuntime) -> io::Result<()> {
+    walked(Walk::open(&rt, b"lists")).tell(&rt, b"lists")?;
+    Ok(())
 }

@@ -2,32 +2,36 @@
 // inputs, and answers to compare with. Words are big-endian.
 #![tactic(auto)]
 
-ghost use Rattle.std.specs.Prelude.{◌≡◌, ◌-◌, ◌≤◌, take};
+ghost use Rattle.std.specs.Prelude.{◌≡◌, ◌-◌, ◌≤◌, IfOk, length, take};
 ghost use Rattle.verdict.specs.Tallies.{no_vectors, is_good};
 ghost use Rattle.replay_records.specs.Answers.{number_at, vector_at, is_number, is_vector, is_flag, agrees_with};
 ghost use Rattle.replay_records.specs.Records.{first_numbers};
 
 use common::Vec2;
+use std::fs::File;
+use std::io;
+use std::io::Read;
+use std::rt::Files;
 use verdict::Tally;
 
 // A walk over the records of a file: how many indices are left to name records by, none once it is over, and the
-// comparisons so far.
-#[derive(Clone, Copy)]
+// comparisons so far. The file is none where it could not be opened.
+#[derive(Drop)]
 pub struct Walk {
-    pub fd: i32,
+    pub file: Option<File>,
     pub left: u32,
     pub tally: Tally,
 }
 
 impl Walk {
     // The walk at the start of the set's file. A file that is not there has no vectors.
-    pub fn open(set: &[u8]) -> Walk
+    pub fn open(rt: &impl Files<File = File>, set: &[u8]) -> Walk
         ensures { result.tally ≡ no_vectors }
     {
-        let fd = os::open_read(set);
-        let left = if fd < 0 { 0 } else { u32::MAX };
+        let file = open_set(rt, set);
+        let left = if file.is_some() { u32::MAX } else { 0 };
         Walk {
-            fd,
+            file,
             left,
             tally: Tally::NONE,
         }
@@ -38,17 +42,18 @@ impl Walk {
     pub fn read_head(self, head: &mut [u8]) -> Walk
         ensures { result.left ≤ self.left }
     {
-        let n = io::read_full(self.fd, head);
+        let mut walk = self;
+        let n = read_full(&mut walk.file, head);
         if n == 0 {
-            return Walk { left: 0, ..self };
+            return Walk { left: 0, ..walk };
         }
         if n < head.len() {
-            return self.broken();
+            return walk.broken();
         }
-        if self.left < 2 {
-            return self.broken();
+        if walk.left < 2 {
+            return walk.broken();
         }
-        self
+        walk
     }
 
     // Reads the bytes behind a head to the start of `rest`. A record that is cut short, or longer than any, is bad, and
@@ -62,15 +67,16 @@ impl Walk {
         if size > rest.len() {
             return self.broken();
         }
-        if io::read_full(self.fd, &mut rest[0..size]) < size {
-            return self.broken();
+        let mut walk = self;
+        if read_full(&mut walk.file, &mut rest[0..size]) < size {
+            return walk.broken();
         }
-        self
+        walk
     }
 
     // The index of the record that the walk is at.
-    pub fn index(self) -> u32
-        ensures { result ≡ 0xffff_ffff - self.left }
+    pub fn index(&self) -> u32
+        ensures { result ≡ 0xffff_ffff - self.now.left }
     {
         u32::MAX - self.left
     }
@@ -90,12 +96,11 @@ impl Walk {
     }
 
     // Writes the set's line, as a tally tells it, and answers whether it is good.
-    pub fn tell(self, set: &[u8]) -> bool
-        ensures { result ≡ is_good self.tally }
+    pub fn tell(self, rt: &impl Print, set: &[u8]) -> io::Result<bool>
+        ensures { IfOk result (λ good. good ≡ is_good self.tally) }
     {
-        libc::close(self.fd);
         let tally = self.tally;
-        tally.tell(set)
+        tally.tell(rt, set)
     }
 
     // The walk that is over at a bad record.
@@ -103,12 +108,38 @@ impl Walk {
         ensures { result.left ≡ 0 }
     {
         let tally = self.tally;
+        let index = self.index();
         Walk {
             left: 0,
-            tally: tally.with(false, self.index()),
+            tally: tally.with(false, index),
             ..self
         }
     }
+}
+
+// The set's file, open to be read; none where it cannot be opened. A file's name is text.
+pub fn open_set(rt: &impl Files<File = File>, set: &[u8]) -> Option<File> {
+    let name = str::from_utf8(set).ok()?;
+    File::open(rt, name).ok()
+}
+
+// Reads until `bytes` is full, the file ends or a read fails, and answers how many bytes it put at the start: of a file
+// that is not there none.
+pub fn read_full(file: &mut Option<File>, bytes: &mut [u8]) -> usize
+    ensures { result ≤ length bytes.new }
+{
+    let Some(file) = file else {
+        return 0;
+    };
+    let mut done = 0;
+    while done < bytes.len() {
+        let n = file.read(&mut bytes[done..]).unwrap_or(0);
+        if n == 0 {
+            break;
+        }
+        done += n;
+    }
+    done
 }
 
 // The number at the place.

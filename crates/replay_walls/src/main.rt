@@ -8,6 +8,7 @@
 ghost use Rattle.std.specs.Prelude.{◌<◌};
 
 use replay_records::{Walk, first_numbers, vector_at};
+use std::io;
 use wall_check::WallCheck;
 
 // The word at the place as a size.
@@ -74,7 +75,8 @@ fn turn(walk: Walk, head: &mut [u8], rest: &mut [u8]) -> Walk
         return read;
     }
     let tally = read.tally;
-    read.behind(tally.with(is_replayed(head, rest), read.index()))
+    let index = read.index();
+    read.behind(tally.with(is_replayed(head, rest), index))
 }
 
 // The walk to its end.
@@ -89,6 +91,7 @@ fn walked(start: Walk) -> Walk {
     walk
 }
 
-fn main() {
-    walked(Walk::open(b"walls")).tell(b"walls");
+fn main(rt: HostRuntime) -> io::Result<()> {
+    walked(Walk::open(&rt, b"walls")).tell(&rt, b"walls")?;
+    Ok(())
 }

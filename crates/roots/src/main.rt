@@ -9,6 +9,9 @@ ghost use Rattle.arithmetic.specs.Root.{sqrt_of};
 ghost use Rattle.words.specs.Words.{word_of};
 ghost use Rattle.words.specs.Patterns.{has_pattern};
 
+use std::fs::File;
+use std::io;
+use std::rt::Files;
 use verdict::Tally;
 
 // Whether the root of the vector's number is the root that it names, bit for bit.
@@ -44,12 +47,13 @@ fn all_counted(chunk: &[u8], t: Tally) -> Tally
 }
 
 // The tally of a file, read in chunks that are full of whole vectors, but for the last.
-fn tally_of(fd: i32) -> Tally {
+fn tally_of(file: Option<File>) -> Tally {
+    let mut file = file;
     let mut tally = Tally::NONE;
-    let mut chunk = io::large_buffer();
+    let mut chunk = [0u8; 65536];
     let mut turns = u64::MAX;
     while turns > 0 {
-        let n = io::read_full(fd, &mut chunk);
+        let n = replay_records::read_full(&mut file, &mut chunk);
         if n == 0 {
             return tally;
         }
@@ -60,13 +64,12 @@ fn tally_of(fd: i32) -> Tally {
 }
 
 // One set of vectors: a file of data/, and its line of output. A file that is not there has no vectors.
-fn run(set: &[u8]) {
-    let fd = os::open_read(set);
-    tally_of(fd).tell(set);
-    libc::close(fd);
+fn run(rt: &(impl Files<File = File> + Print), set: &[u8]) -> io::Result<()> {
+    tally_of(replay_records::open_set(rt, set)).tell(rt, set)?;
+    Ok(())
 }
 
-fn main() {
-    run(b"glibc");
-    run(b"spread");
+fn main(rt: HostRuntime) -> io::Result<()> {
+    run(&rt, b"glibc")?;
+    run(&rt, b"spread")
 }

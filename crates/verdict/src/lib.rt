@@ -1,10 +1,10 @@
 // How many vectors of a set were good, and the line that tells it.
 #![tactic(auto)]
 
-ghost use Rattle.std.specs.Prelude.{◌≡◌};
+ghost use Rattle.std.specs.Prelude.{◌≡◌, IfOk};
 ghost use Rattle.verdict.specs.Tallies.{more_of, first_of, with_of, is_good};
 
-use libc::STDOUT_FILENO;
+use std::io;
 
 // How many vectors were good and how many bad, and the name of the first bad one, which says nothing while none is bad.
 #[derive(Clone, Copy)]
@@ -49,33 +49,31 @@ impl Tally {
 
     // Writes the set's line to standard output, and answers whether the tally is good. The line is
     // `SET: ok N`, `SET: bad N, the first is NAME` with the name in eight hexadecimal digits, or `SET: bad, no vectors`.
-    // The answer is proved. What is written no contract can say: programs are run, and their lines compared.
-    pub fn tell(self, set: &[u8]) -> bool
-        ensures { result ≡ is_good self }
+    // The answer is proved, where the line could be written. What is written no contract can say: programs are run, and
+    // their lines compared.
+    pub fn tell(self, rt: &impl Print, set: &[u8]) -> io::Result<bool>
+        ensures { IfOk result (λ good. good ≡ is_good self) }
     {
         let good = self.is_good();
-        io::write_all(STDOUT_FILENO, set);
+        rt.write_all(set)?;
         if good {
-            io::write_all(STDOUT_FILENO, b": ok ");
-            io::print_decimal(STDOUT_FILENO, self.good);
+            let count = self.good;
+            println!(rt; ": ok {count}")?;
         } else {
-            tell_bad(self);
+            tell_bad(self, rt)?;
         }
-        io::write_all(STDOUT_FILENO, b"\n");
-        good
+        Ok(good)
     }
 }
 
 // What follows the set's name in the line of a tally that is not good.
-fn tell_bad(t: Tally) {
+fn tell_bad(t: Tally, rt: &impl Print) -> io::Result<()> {
     if t.bad == 0 {
-        io::write_all(STDOUT_FILENO, b": bad, no vectors");
-        return;
+        return println!(rt; ": bad, no vectors");
     }
-    io::write_all(STDOUT_FILENO, b": bad ");
-    io::print_decimal(STDOUT_FILENO, t.bad);
-    io::write_all(STDOUT_FILENO, b", the first is ");
-    io::print_hex(STDOUT_FILENO, t.first as u64, 8);
+    let bad = t.bad;
+    let first = t.first;
+    println!(rt; ": bad {bad}, the first is {first:08x}")
 }
 
 // One more than n, or n at the last u64.
