@@ -39,7 +39,12 @@ pub fn argument<'a, R: Env>(rt: &R, i: usize, buffer: &'a mut [u8]) -> io::Resul
         Err(FillError::NotPresent) => return Err(Error::from_raw_os_error(INVALID)),
         Err(FillError::TooLong) => return Err(Error::from_raw_os_error(TOO_LONG)),
     };
-    match str::from_utf8(&buffer[0..n]) {
+    text(&buffer[0..n])
+}
+
+// Bytes as text, where they are UTF-8.
+pub fn text(bytes: &[u8]) -> io::Result<&str> {
+    match str::from_utf8(bytes) {
         Ok(text) => Ok(text),
         Err(_) => Err(Error::from_raw_os_error(NO_TEXT)),
     }
