@@ -4,10 +4,9 @@
 
 use std::env::FillError;
 use std::fmt::InlineText;
-use std::io;
 use std::io::Error;
 use std::rt::Env;
-use std::str;
+use std::{io, str};
 
 // The system's numbers for an argument that is missing, one that is too long, and one that is no text.
 const INVALID: i32 = 22;

@@ -1,5 +1,4 @@
 -- `tally::end` meets its contract. Assumes nothing.
-use borrow.Author.Rules.{rules}
 use mathlib.Core.Path.{ap}
 use Rattle.daily_tally.specs.declared.Tallied.{Tallied}
 use Rattle.tally.specs.Turns.{ended_as, ended_over}

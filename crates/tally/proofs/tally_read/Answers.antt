@@ -1,5 +1,4 @@
 -- `tally::tally_read` meets its contract. Assumes nothing.
-use borrow.Author.Rules.{rules}
 use Rattle.tally.proofs.TurnLaws.{refused-read, whole-read}
 use Rattle.tally.proofs.tally_read.Goals as goal
 
