@@ -1,7 +1,7 @@
 // Compares a partner's answer records with ours (02, T-09): `compare SCENES ANSWERS` reads both files in turns, answers
 // the scenes as `feed` does, and writes `all agree`, `differs at N` and how, or `refused R at N`. A file that cannot be
-// opened or read is told on standard error by its name, the one sign of it that a program can give: it has no exit
-// status.
+// opened or read is told on standard error by its name, the one sign of it that the program gives: its exit status is 0
+// all the same.
 #![tactic(auto)]
 
 ghost use Rattle.std.specs.Prelude.{◌≡◌, true, ◌≤◌, length};
@@ -10,8 +10,10 @@ ghost use Rattle.compare.specs.Turns.{brought_in, beginning, Ready, Advances, Fo
 
 use answer_records::Answer;
 use comparison::{Compared, Difference, Found};
-use libc::{STDERR_FILENO, STDOUT_FILENO};
 use records::Stream;
+use std::fs::File;
+use std::io::Read;
+use std::{io, rt};
 
 // The file whose read has failed, or none.
 #[derive(Clone, Copy)]
@@ -42,21 +44,31 @@ struct Reading {
     trouble: Trouble,
 }
 
-// The descriptors of the two files.
-#[derive(Clone, Copy)]
-struct Files {
-    scenes: i32,
-    answers: i32,
+// An open file and its name.
+#[derive(Drop)]
+struct Opened<'a> {
+    file: File,
+    name: &'a str,
 }
 
-fn read(buffer: &mut [u8], file: i32) -> Brought
+// The two files.
+#[derive(Drop)]
+struct Files<'a> {
+    scenes: Opened<'a>,
+    answers: Opened<'a>,
+}
+
+fn read(rt: &impl Eprint, buffer: &mut [u8], from: &Opened<'_>) -> Brought
     ensures { brought_in result ≤ length buffer.new }
 {
-    let got = libc::read(file, buffer);
-    if got < 0 {
-        return Brought::Failed;
+    let mut file = &from.file;
+    match file.read(buffer) {
+        Ok(got) => Brought::Bytes(got),
+        Err(error) => {
+            fail(rt, from.name, error);
+            Brought::Failed
+        }
     }
-    Brought::Bytes(io::count(got, buffer))
 }
 
 // Whether a side wants more: fewer bytes wait than the longest answer has, and there may be more.
@@ -102,10 +114,11 @@ fn compare_next(
 
 // One read of the scenes, behind what waits; their answers go behind ours that wait.
 fn scenes_turn(
+    rt: &impl Eprint,
     input: &mut [u8],
     ours: &mut [u8],
     theirs: &mut [u8],
-    file: i32,
+    file: &Opened<'_>,
     before: Reading,
 ) -> Reading
     requires { Ready (length input.old) (length ours.old) (length theirs.old) before
@@ -116,7 +129,7 @@ fn scenes_turn(
 {
     let stream = before.stream;
     let kept = stream.kept;
-    let Brought::Bytes(brought) = read(&mut input[kept..], file) else {
+    let Brought::Bytes(brought) = read(rt, &mut input[kept..], file) else {
         return Reading {
             trouble: Trouble::OfScenes,
             ..before
@@ -140,10 +153,11 @@ fn scenes_turn(
 
 // One read of the answers, behind those that wait.
 fn answers_turn(
+    rt: &impl Eprint,
     input: &[u8],
     ours: &mut [u8],
     theirs: &mut [u8],
-    file: i32,
+    file: &Opened<'_>,
     before: Reading,
 ) -> Reading
     requires { Ready (length input.now) (length ours.old) (length theirs.old) before }
@@ -152,7 +166,7 @@ fn answers_turn(
     ensures ready { Ready (length input.now) (length ours.new) (length theirs.new) result }
 {
     let waiting = before.theirs;
-    let Brought::Bytes(brought) = read(&mut theirs[waiting..], file) else {
+    let Brought::Bytes(brought) = read(rt, &mut theirs[waiting..], file) else {
         return Reading {
             trouble: Trouble::OfAnswers,
             ..before
@@ -166,10 +180,11 @@ fn answers_turn(
 
 // One read of the side that wants more; where neither does, the verdict is told.
 fn turn(
+    rt: &impl Eprint,
     input: &mut [u8],
     ours: &mut [u8],
     theirs: &mut [u8],
-    files: Files,
+    files: &Files<'_>,
     before: Reading,
 ) -> Reading
     requires { Ready (length input.old) (length ours.old) (length theirs.old) before }
@@ -181,10 +196,10 @@ fn turn(
     let other = before.theirs;
     let stream = before.stream;
     if is_wanted(mine, stream.more) {
-        return scenes_turn(input, ours, theirs, files.scenes, before);
+        return scenes_turn(rt, input, ours, theirs, &files.scenes, before);
     }
     if is_wanted(other, before.more) {
-        return answers_turn(input, ours, theirs, files.answers, before);
+        return answers_turn(rt, input, ours, theirs, &files.answers, before);
     }
     let verdict = comparison::finish(&ours[0..mine], &theirs[0..other], before.place);
     Reading {
@@ -194,7 +209,13 @@ fn turn(
 }
 
 // Turn behind turn until a verdict is found or a read fails. The count only bounds the loop.
-fn turns(input: &mut [u8], ours: &mut [u8], theirs: &mut [u8], files: Files) -> Reading
+fn turns(
+    rt: &impl Eprint,
+    input: &mut [u8],
+    ours: &mut [u8],
+    theirs: &mut [u8],
+    files: &Files<'_>,
+) -> Reading
     requires { Ready (length input.old) (length ours.old) (length theirs.old) beginning }
 {
     let mut reading = Reading {
@@ -208,7 +229,7 @@ fn turns(input: &mut [u8], ours: &mut [u8], theirs: &mut [u8], files: Files) -> 
     };
     let mut left = u64::MAX;
     while left > 0 {
-        reading = turn(input, ours, theirs, files, reading);
+        reading = turn(rt, input, ours, theirs, files, reading);
         let found = reading.found;
         let Found::Going = found else {
             return reading;
@@ -223,169 +244,169 @@ fn turns(input: &mut [u8], ours: &mut [u8], theirs: &mut [u8], files: Files) -> 
 }
 
 // The buffers: scenes as `feed` reads them, their answers behind a record of ours that waits, and 64 KiB behind one of theirs.
-fn compare(files: Files) -> Reading {
+fn compare(rt: &impl Eprint, files: &Files<'_>) -> Reading {
     let mut input = [0u8; Stream::INPUT];
     let mut ours = [0u8; Stream::OUTPUT + Answer::BYTES];
     let mut theirs = [0u8; 65536 + Answer::BYTES];
-    turns(&mut input, &mut ours, &mut theirs, files)
+    turns(rt, &mut input, &mut ours, &mut theirs, files)
 }
 
 // ---- what is told
 
-fn write(text: &[u8]) -> bool {
-    io::write_all(STDOUT_FILENO, text)
+fn write(rt: &impl Print, text: &str) -> io::Result<()> {
+    rt.print(text)
 }
 
-fn write_number(number: u64) -> bool {
-    io::print_decimal(STDOUT_FILENO, number)
+fn write_number(rt: &impl Print, number: u64) -> io::Result<()> {
+    rt.print(number)
 }
 
 // A line of a field's name and its numbers, ours and theirs.
-fn tell_numbers(name: &[u8], ours: u64, theirs: u64) -> bool {
-    write(name)
-        && write(b": ours ")
-        && write_number(ours)
-        && write(b", theirs ")
-        && write_number(theirs)
-        && write(b"\n")
+fn tell_numbers(rt: &impl Print, name: &str, ours: u64, theirs: u64) -> io::Result<()> {
+    write(rt, name)?;
+    write(rt, ": ours ")?;
+    write_number(rt, ours)?;
+    write(rt, ", theirs ")?;
+    write_number(rt, theirs)?;
+    write(rt, "\n")
 }
 
 // The same of bits, as eight hex digits.
-fn tell_bits(name: &[u8], ours: u32, theirs: u32) -> bool {
-    write(name)
-        && write(b": ours ")
-        && io::print_hex(STDOUT_FILENO, ours as u64, 8)
-        && write(b", theirs ")
-        && io::print_hex(STDOUT_FILENO, theirs as u64, 8)
-        && write(b"\n")
+fn tell_bits(rt: &impl Print, name: &str, ours: u32, theirs: u32) -> io::Result<()> {
+    println!(rt; "{name}: ours {ours:08x}, theirs {theirs:08x}")
 }
 
-fn write_line(failed: u16) -> bool {
+fn write_line(rt: &impl Print, failed: u16) -> io::Result<()> {
     if failed == Answer::NO_LINE {
-        return write(b"none");
+        return write(rt, "none");
     }
-    write_number(failed as u64)
+    write_number(rt, failed as u64)
 }
 
-fn tell_lines(ours: u16, theirs: u16) -> bool {
-    write(b"failed line: ours ")
-        && write_line(ours)
-        && write(b", theirs ")
-        && write_line(theirs)
-        && write(b"\n")
+fn tell_lines(rt: &impl Print, ours: u16, theirs: u16) -> io::Result<()> {
+    write(rt, "failed line: ours ")?;
+    write_line(rt, ours)?;
+    write(rt, ", theirs ")?;
+    write_line(rt, theirs)?;
+    write(rt, "\n")
 }
 
 // Where one side is an outcome and the other a refusal.
-fn tell_kinds(mine: &[u8], ours: u8, other: &[u8], theirs: u8) -> bool {
-    write(b"answer: ours ")
-        && write(mine)
-        && write_number(ours as u64)
-        && write(b", theirs ")
-        && write(other)
-        && write_number(theirs as u64)
-        && write(b"\n")
+fn tell_kinds(rt: &impl Print, mine: &str, ours: u8, other: &str, theirs: u8) -> io::Result<()> {
+    write(rt, "answer: ours ")?;
+    write(rt, mine)?;
+    write_number(rt, ours as u64)?;
+    write(rt, ", theirs ")?;
+    write(rt, other)?;
+    write_number(rt, theirs as u64)?;
+    write(rt, "\n")
 }
 
-fn tell_difference(difference: Difference) -> bool {
+fn tell_difference(rt: &impl Print, difference: Difference) -> io::Result<()> {
     match difference {
-        Difference::Outcome(ours, theirs) => tell_numbers(b"outcome", ours as u64, theirs as u64),
-        Difference::PointX(ours, theirs) => tell_bits(b"x", ours, theirs),
-        Difference::PointY(ours, theirs) => tell_bits(b"y", ours, theirs),
-        Difference::FailedLine(ours, theirs) => tell_lines(ours, theirs),
-        Difference::Probes(ours, theirs) => tell_numbers(b"probes", ours as u64, theirs as u64),
-        Difference::Refusal(ours, theirs) => tell_numbers(b"refusal", ours as u64, theirs as u64),
-        Difference::OutcomeAndRefusal(ours, theirs) => tell_kinds(
-            b"outcome ",
-            ours,
-            b"refusal ",
-            theirs,
-        ),
-        Difference::RefusalAndOutcome(ours, theirs) => tell_kinds(
-            b"refusal ",
-            ours,
-            b"outcome ",
-            theirs,
-        ),
-        Difference::NoneOfOurs => write(b"record: ours has none\n"),
-        Difference::NoneOfTheirs => write(b"record: theirs has none\n"),
+        Difference::Outcome(ours, theirs) => {
+            tell_numbers(rt, "outcome", ours as u64, theirs as u64)
+        }
+        Difference::PointX(ours, theirs) => tell_bits(rt, "x", ours, theirs),
+        Difference::PointY(ours, theirs) => tell_bits(rt, "y", ours, theirs),
+        Difference::FailedLine(ours, theirs) => tell_lines(rt, ours, theirs),
+        Difference::Probes(ours, theirs) => tell_numbers(rt, "probes", ours as u64, theirs as u64),
+        Difference::Refusal(ours, theirs) => {
+            tell_numbers(rt, "refusal", ours as u64, theirs as u64)
+        }
+        Difference::OutcomeAndRefusal(ours, theirs) => {
+            tell_kinds(rt, "outcome ", ours, "refusal ", theirs)
+        }
+        Difference::RefusalAndOutcome(ours, theirs) => {
+            tell_kinds(rt, "refusal ", ours, "outcome ", theirs)
+        }
+        Difference::NoneOfOurs => write(rt, "record: ours has none\n"),
+        Difference::NoneOfTheirs => write(rt, "record: theirs has none\n"),
     }
 }
 
-fn tell(verdict: Compared) -> bool {
+fn tell(rt: &impl Print, verdict: Compared) -> io::Result<()> {
     match verdict {
-        Compared::Agree => write(b"all agree\n"),
+        Compared::Agree => write(rt, "all agree\n"),
         Compared::Differs(place, difference) => {
-            write(b"differs at ")
-                && write_number(place)
-                && write(b"\n")
-                && tell_difference(difference)
+            write(rt, "differs at ")?;
+            write_number(rt, place)?;
+            write(rt, "\n")?;
+            tell_difference(rt, difference)
         }
         Compared::Unreadable(number, place) => {
-            write(b"refused ")
-                && write_number(number as u64)
-                && write(b" at ")
-                && write_number(place)
-                && write(b"\n")
+            write(rt, "refused ")?;
+            write_number(rt, number as u64)?;
+            write(rt, " at ")?;
+            write_number(rt, place)?;
+            write(rt, "\n")
         }
     }
 }
 
 // ---- files
 
-// What failed last, of the file by its name.
-fn fail(name: &[u8]) {
-    io::write_all(STDERR_FILENO, b"compare: ");
-    os::fail(name);
+// What failed, of the file by its name.
+fn fail(rt: &impl Eprint, name: &str, error: io::Error) {
+    let _ = rt.eprint("compare: ");
+    troubles::tell(rt, name, error);
 }
 
-fn open(name: &[u8]) -> i32 {
-    let file = os::open_read(name);
-    if file < 0 {
-        fail(name);
+fn open<'a, R: rt::Files<File = File> + Eprint>(rt: &R, name: &'a str) -> Option<Opened<'a>> {
+    match File::open(rt, name) {
+        Ok(file) => Some(Opened { file, name }),
+        Err(error) => {
+            fail(rt, name, error);
+            None
+        }
     }
-    file
 }
 
-fn compare_files(scenes: &[u8], answers: &[u8]) {
-    let first = open(scenes);
-    if first < 0 {
+fn compare_files<R: rt::Files<File = File> + Print + Eprint>(rt: &R, scenes: &str, answers: &str) {
+    let Some(first) = open(rt, scenes) else {
         return;
-    }
-    let second = open(answers);
-    if second < 0 {
+    };
+    let Some(second) = open(rt, answers) else {
         return;
-    }
-    let reading = compare(Files {
-        scenes: first,
-        answers: second,
-    });
+    };
+    let reading = compare(
+        rt,
+        &Files {
+            scenes: first,
+            answers: second,
+        },
+    );
     let trouble = reading.trouble;
     match trouble {
-        Trouble::OfScenes => fail(scenes),
-        Trouble::OfAnswers => fail(answers),
+        // A read that failed is told where it was tried.
+        Trouble::OfScenes | Trouble::OfAnswers => {}
         Trouble::NoTrouble => {
             let found = reading.found;
             if let Found::Ended(verdict) = found {
-                if !tell(verdict) {
-                    os::fail(b"compare: standard output");
+                if let Err(error) = tell(rt, verdict) {
+                    troubles::tell(rt, "compare: standard output", error);
                 }
             }
         }
     }
 }
 
-fn main() {
-    let mut scenes = io::buffer();
-    let first = os::arg(1, &mut scenes);
-    if os::errno() != 0 {
-        os::fail(b"compare: the name of the scenes");
-        return;
-    }
-    let mut answers = io::buffer();
-    let second = os::arg(2, &mut answers);
-    if os::errno() != 0 {
-        os::fail(b"compare: the name of the answers");
-        return;
-    }
-    compare_files(&scenes[0..first], &answers[0..second]);
+fn main(rt: HostRuntime) {
+    let mut scenes = [0u8; 4096];
+    let first = match troubles::argument(&rt, 1, &mut scenes) {
+        Ok(name) => name,
+        Err(error) => {
+            troubles::tell(&rt, "compare: the name of the scenes", error);
+            return;
+        }
+    };
+    let mut answers = [0u8; 4096];
+    let second = match troubles::argument(&rt, 2, &mut answers) {
+        Ok(name) => name,
+        Err(error) => {
+            troubles::tell(&rt, "compare: the name of the answers", error);
+            return;
+        }
+    };
+    compare_files(&rt, first, second);
 }

@@ -3,7 +3,7 @@
 use Prim.Native.Nat.{ℕ, ◌+◌, ◌-◌, ◌≤◌, ◌<◌}
 use native.Mathlib.Omega.{arith}
 use native.Mathlib.Nat.{sub-zero}
-use mathlib.Core.Path.{◌≡◌, refl, sym, ap, ◌∙◌}
+use mathlib.Core.Path.{◌≡◌, sym, ap, ◌∙◌}
 use mathlib.Core.List.{List}
 use lib.ListN.{length, take}
 use lib.Seq.{length-take-le}
@@ -13,7 +13,7 @@ use Rattle.kept.proofs.KeptLaws.{kept_there, kept-stays}
 use Rattle.index_building.specs.declared.Extent.{Extent}
 use Rattle.index_building.specs.declared.PartBuilt.{PartBuilt}
 use Rattle.index_building.specs.declared.PartBuilt.TheVariants as built
-use Rattle.index_building.specs.Indexes.{Standing, standing}
+use Rattle.index_building.specs.Indexes.{standing}
 use Rattle.index_building.specs.Builds.{part_over}
 use Rattle.index_building.proofs.BuildLaws.{Within, part-within}
 use Rattle.fallbacks.specs.declared.Stage.TheVariants as stage

@@ -6,42 +6,65 @@ ghost use Rattle.std.specs.Prelude.{◌≤◌, length};
 use crate::{Brought, Pair, files, questions};
 use fallback_index::Update;
 use index_building::IndexWritten;
-use libc::STDIN_FILENO;
+use std::fs;
+use std::fs::{File, OpenOptions};
+use std::io::Read;
+use std::rt::{Env, Files};
 
 // `append LOG INDEX RECORD`; a RECORD of - is standard input. More bytes than the buffer takes are no answer record
 // either.
-pub(crate) fn append(log: &[u8], index: &[u8]) {
-    let mut name = io::buffer();
-    let mut record = io::buffer();
-    let brought = read_record(&mut name, &mut record);
+pub(crate) fn append<R: Env + Input + Files<File = File> + Print + Eprint>(
+    rt: &R,
+    log: &str,
+    index: &str,
+) {
+    let mut name = [0u8; 4096];
+    let mut record = [0u8; 4096];
+    let brought = read_record(rt, &mut name, &mut record);
     let n = brought.count;
     if brought.good {
-        append_bytes(log, index, &record[0..n]);
+        append_bytes(rt, log, index, &record[0..n]);
     }
 }
 
-fn append_bytes(log: &[u8], index: &[u8], record: &[u8]) {
-    let pair = questions::open_pair(log, index);
-    if pair.good {
-        append_to(pair, log, index, record);
+fn append_bytes<R: Env + Files<File = File> + Print + Eprint>(
+    rt: &R,
+    log: &str,
+    index: &str,
+    record: &[u8],
+) {
+    if let Some(pair) = questions::open_pair(rt, log, index) {
+        append_to(rt, &pair, log, index, record);
     }
 }
 
-fn read_record(name: &mut [u8], record: &mut [u8]) -> Brought
+fn read_record<R: Env + Input + Files<File = File> + Eprint>(
+    rt: &R,
+    name: &mut [u8],
+    record: &mut [u8],
+) -> Brought
     ensures { result.count ≤ length «record».new }
 {
-    let n = os::arg(4, name);
+    let n = rt.arg(4, name).unwrap_or(0);
     if is_dash(&name[0..n]) {
-        return files::fill(STDIN_FILENO, record, b"standard input");
+        let mut reader = rt.reader();
+        return files::fill(rt, &mut reader, record, "standard input");
     }
-    let file = files::open(&name[0..n]);
-    if file < 0 {
-        return Brought {
-            good: false,
-            count: 0,
-        };
-    }
-    files::fill(file, record, &name[0..n])
+    let none = Brought {
+        good: false,
+        count: 0,
+    };
+    let text = match troubles::text(&name[0..n]) {
+        Ok(text) => text,
+        Err(error) => {
+            troubles::tell(rt, "fallbacks: the name of the record", error);
+            return none;
+        }
+    };
+    let Some(mut file) = files::open(rt, text) else {
+        return none;
+    };
+    files::fill(rt, &mut file, record, text)
 }
 
 fn is_dash(name: &[u8]) -> bool {
@@ -51,12 +74,19 @@ fn is_dash(name: &[u8]) -> bool {
     false
 }
 
-fn append_to(pair: Pair, log: &[u8], index: &[u8], record: &[u8]) {
+fn append_to<R: Env + Files<File = File> + Print + Eprint>(
+    rt: &R,
+    pair: &Pair,
+    log: &str,
+    index: &str,
+    record: &[u8],
+) {
     let mut head = [0u8; 13];
     let mut first = [0u8; 8];
     let mut last = [0u8; 8];
     let mut stretch = [0u8; 1134];
     judge(
+        rt,
         pair,
         &mut head,
         &mut first,
@@ -69,30 +99,32 @@ fn append_to(pair: Pair, log: &[u8], index: &[u8], record: &[u8]) {
 }
 
 // Reads the parts, each to its buffer, and goes on where nothing is refused.
-fn judge(
-    pair: Pair,
+fn judge<R: Env + Files<File = File> + Print + Eprint>(
+    rt: &R,
+    pair: &Pair,
     head: &mut [u8],
     first: &mut [u8],
     last: &mut [u8],
     stretch: &mut [u8],
-    log: &[u8],
-    index: &[u8],
+    log: &str,
+    index: &str,
     record: &[u8],
 )
     requires { 1134 ≤ length stretch.old }
 {
     let some = files::there(pair.size, 0, IndexWritten::HEAD_BYTES);
-    let start = files::read_at(pair.index, 0, some, head, index);
+    let start = files::read_at(rt, &pair.index, 0, some, head, index);
     let more = files::there(pair.size, 13, IndexWritten::ENTRY_BYTES);
-    let next = files::read_at(pair.index, 13, more, first, index);
+    let next = files::read_at(rt, &pair.index, 13, more, first, index);
     let n = start.count;
     let count = words::word_at(&head[0..n], 9) as usize;
-    let end = questions::read_side(pair, count, last, stretch, log, index);
+    let end = questions::read_side(rt, pair, count, last, stretch, log, index);
     let of_first = next.count;
     let of_last = end.entry;
     let to = end.stretch;
     if start.good && next.good && end.good {
         update(
+            rt,
             pair,
             &head[0..n],
             &first[0..of_first],
@@ -105,14 +137,15 @@ fn judge(
     }
 }
 
-fn update(
-    pair: Pair,
+fn update<R: Env + Files<File = File> + Print + Eprint>(
+    rt: &R,
+    pair: &Pair,
     head: &[u8],
     first: &[u8],
     last: &[u8],
     stretch: &[u8],
-    log: &[u8],
-    index: &[u8],
+    log: &str,
+    index: &str,
     record: &[u8],
 ) {
     let update = fallback_index::update_by_parts(
@@ -120,59 +153,52 @@ fn update(
     );
     let named = words::word_at(head, 5);
     match update {
-        Update::Refused(number) => crate::tell_refused(number, named as u64),
+        Update::Refused(number) => crate::tell_refused(rt, number, named as u64),
         Update::Numbers(total, raised, before) => {
-            store(pair, named, total, raised, before, log, index, record)
+            store(rt, pair, named, total, raised, before, log, index, record)
         }
     }
 }
 
 // Where the new file does not take the index's place, it goes.
-fn store(
-    pair: Pair,
+fn store<R: Env + Files<File = File> + Print + Eprint>(
+    rt: &R,
+    pair: &Pair,
     named: u32,
     total: u64,
     count: u64,
     before: u64,
-    log: &[u8],
-    index: &[u8],
+    log: &str,
+    index: &str,
     record: &[u8],
 ) {
-    let mut name = io::buffer();
-    let n = files::new_name(&mut name);
-    let new = files::create(&name[0..n]);
-    if new < 0 {
+    let mut bytes = [0u8; 4096];
+    let n = files::new_name(rt, &mut bytes);
+    let name = files::as_text(&bytes[0..n]);
+    let Some(new) = files::create(rt, name) else {
         return;
-    }
+    };
     let mut ends = [0u8; 21];
-    if renew(
-        pair,
-        new,
-        total,
-        count,
-        before,
-        &mut ends,
-        index,
-        &name[0..n],
-    ) {
-        if settle(named, log, index, record, &name[0..n]) {
-            crate::tell_written(count as usize);
+    if renew(rt, pair, &new, total, count, before, &mut ends, index, name) {
+        if settle(rt, named, log, index, record, name) {
+            crate::tell_written(rt, count as usize);
             return;
         }
     }
-    os::unlink(&name[0..n]);
+    let _ = fs::remove_file(rt, name);
 }
 
 // Writes the new index: its ends, and the old one's entries between them. Whether all of it is on the device.
 fn renew(
-    pair: Pair,
-    new: i32,
+    rt: &impl Eprint,
+    pair: &Pair,
+    new: &File,
     total: u64,
     count: u64,
     before: u64,
     ends: &mut [u8],
-    index: &[u8],
-    name: &[u8],
+    index: &str,
+    name: &str,
 ) -> bool {
     let written = index_building::put_ends(ends, total, count, before);
     let IndexWritten::Length(length) = written else {
@@ -182,15 +208,14 @@ fn renew(
         return false;
     }
     let last = entry_of(length);
-    if libc::lseek(pair.index, 13, libc::SEEK_SET) != 13 {
-        files::fail(index);
+    if !files::go_to(rt, &pair.index, 13, index) {
         return false;
     }
-    let mut block = io::large_buffer();
-    files::write(new, &ends[0..13], name)
-        && copy(pair.index, new, &mut block, pair.size, index, name)
-        && files::write(new, &ends[13..last], name)
-        && files::sync(new, name)
+    let mut block = [0u8; 65536];
+    files::write(rt, new, &ends[0..13], name)
+        && copy(rt, &pair.index, new, &mut block, pair.size, index, name)
+        && files::write(rt, new, &ends[13..last], name)
+        && files::sync(rt, new, name)
 }
 
 // Where the new entry ends, of ends of so many bytes.
@@ -204,14 +229,22 @@ fn entry_of(length: usize) -> usize
 }
 
 // Copies an index of so many bytes from its entries on. Whether they were all there.
-fn copy(from: i32, to: i32, block: &mut [u8], size: usize, index: &[u8], name: &[u8]) -> bool {
+fn copy(
+    rt: &impl Eprint,
+    from: &File,
+    to: &File,
+    block: &mut [u8],
+    size: usize,
+    index: &str,
+    name: &str,
+) -> bool {
     let mut left = size;
     if left < 13 {
         return false;
     }
     left -= 13;
     while left > 0 {
-        let more = copy_some(from, to, block, index, name);
+        let more = copy_some(rt, from, to, block, index, name);
         if more == 0 {
             return false;
         }
@@ -224,31 +257,52 @@ fn copy(from: i32, to: i32, block: &mut [u8], size: usize, index: &[u8], name: &
 }
 
 // One read, which is written: how many bytes, or 0.
-fn copy_some(from: i32, to: i32, block: &mut [u8], index: &[u8], name: &[u8]) -> usize {
-    let got = libc::read(from, block);
-    if got < 0 {
-        files::fail(index);
-        return 0;
-    }
-    let n = io::count(got, block);
-    if files::write(to, &block[0..n], name) {
+fn copy_some(
+    rt: &impl Eprint,
+    from: &File,
+    to: &File,
+    block: &mut [u8],
+    index: &str,
+    name: &str,
+) -> usize {
+    let mut file = from;
+    let n = match file.read(block) {
+        Ok(n) => n,
+        Err(error) => {
+            files::fail(rt, index, error);
+            return 0;
+        }
+    };
+    if files::write(rt, to, &block[0..n], name) {
         return n;
     }
     0
 }
 
 // The record to the log, then the new index to its place; where one of them fails, the log is cut to its old length.
-fn settle(old: u32, log: &[u8], index: &[u8], record: &[u8], name: &[u8]) -> bool {
-    let file = os::open_append(log);
-    if file < 0 {
-        files::fail(log);
-        return false;
-    }
-    if files::write(file, record, log) && files::sync(file, log) && files::replace(index, name) {
+fn settle<R: Files<File = File> + Eprint>(
+    rt: &R,
+    old: u32,
+    log: &str,
+    index: &str,
+    record: &[u8],
+    name: &str,
+) -> bool {
+    let file = match OpenOptions::new().append(true).open(rt, log) {
+        Ok(file) => file,
+        Err(error) => {
+            files::fail(rt, log, error);
+            return false;
+        }
+    };
+    if files::write(rt, &file, record, log)
+        && files::sync(rt, &file, log)
+        && files::replace(rt, index, name)
+    {
         return true;
     }
-    if libc::ftruncate(file, old as i64) != 0 {
-        files::fail(log);
+    if let Err(error) = file.set_len(old as u64) {
+        files::fail(rt, log, error);
     }
     false
 }

@@ -5,62 +5,78 @@ ghost use Rattle.fallbacks.specs.Turns.{Steps, Follows};
 
 use crate::{Reading, Stage, files};
 use index_building::{Extent, IndexWritten, PartBuilt};
+use std::fs;
+use std::fs::File;
+use std::io::Read;
+use std::rt::{Env, Files};
 
 // `build LOG INDEX`.
-pub(crate) fn build(log: &[u8], index: &[u8]) {
-    let file = files::open(log);
-    if file < 0 {
+pub(crate) fn build<R: Env + Files<File = File> + Print + Eprint>(rt: &R, log: &str, index: &str) {
+    let Some(file) = files::open(rt, log) else {
         return;
-    }
-    let mut name = io::buffer();
-    let n = files::new_name(&mut name);
-    build_beside(file, log, index, &name[0..n]);
+    };
+    let mut name = [0u8; 4096];
+    let n = files::new_name(rt, &mut name);
+    build_beside(rt, &file, log, index, files::as_text(&name[0..n]));
 }
 
 // Where the new file does not take the index's place, it goes.
-fn build_beside(file: i32, log: &[u8], index: &[u8], name: &[u8]) {
-    let new = files::create(name);
-    if new < 0 {
+fn build_beside<R: Files<File = File> + Print + Eprint>(
+    rt: &R,
+    file: &File,
+    log: &str,
+    index: &str,
+    name: &str,
+) {
+    let Some(new) = files::create(rt, name) else {
         return;
-    }
+    };
     let mut input = [0u8; 65553];
-    let mut entries = io::buffer();
-    if !build_into(file, new, &mut input, &mut entries, log, index, name) {
-        os::unlink(name);
+    let mut entries = [0u8; 4096];
+    if !build_into(rt, file, &new, &mut input, &mut entries, log, index, name) {
+        let _ = fs::remove_file(rt, name);
     }
 }
 
 // Whether the new file has taken the index's place; why not is told.
-fn build_into(
-    file: i32,
-    new: i32,
+fn build_into<R: Files + Print + Eprint>(
+    rt: &R,
+    file: &File,
+    new: &File,
     input: &mut [u8],
     entries: &mut [u8],
-    log: &[u8],
-    index: &[u8],
-    name: &[u8],
+    log: &str,
+    index: &str,
+    name: &str,
 ) -> bool
     requires { 18 ≤ length input.old }
 {
-    if libc::lseek(new, 21, libc::SEEK_SET) != 21 {
-        files::fail(name);
+    if !files::go_to(rt, new, 21, name) {
         return false;
     }
-    let reading = turns(file, new, input, entries);
+    let reading = turns(rt, file, new, input, entries, log, name);
     let stage = reading.stage;
     let kept = reading.kept;
     match stage {
-        Stage::AtEnd => return end(new, &input[0..kept], reading.extent, index, name),
-        Stage::Refused(number) => crate::tell_refused(number, 0),
-        Stage::Unwritten => files::fail(name),
-        Stage::Unread => files::fail(log),
-        Stage::Open => files::fail(log),
+        Stage::AtEnd => return end(rt, new, &input[0..kept], reading.extent, index, name),
+        Stage::Refused(number) => crate::tell_refused(rt, number, 0),
+        // What failed is told where it was tried.
+        Stage::Unwritten | Stage::Unread => {}
+        Stage::Open => files::fail_short(rt, log),
     };
     false
 }
 
 // Read behind read until one ends it. The count only bounds the loop.
-fn turns(file: i32, new: i32, input: &mut [u8], entries: &mut [u8]) -> Reading
+fn turns(
+    rt: &impl Eprint,
+    file: &File,
+    new: &File,
+    input: &mut [u8],
+    entries: &mut [u8],
+    log: &str,
+    name: &str,
+) -> Reading
     requires { 18 ≤ length input.old }
     ensures { result.kept < 18 }
 {
@@ -75,7 +91,7 @@ fn turns(file: i32, new: i32, input: &mut [u8], entries: &mut [u8]) -> Reading
     };
     let mut left = u64::MAX;
     while left > 0 {
-        reading = turn(file, new, input, entries, reading);
+        reading = turn(rt, file, new, input, entries, reading, log, name);
         let stage = reading.stage;
         let Stage::Open = stage else {
             return reading;
@@ -86,32 +102,53 @@ fn turns(file: i32, new: i32, input: &mut [u8], entries: &mut [u8]) -> Reading
 }
 
 // One read, behind the bytes that wait.
-fn turn(file: i32, new: i32, input: &mut [u8], entries: &mut [u8], before: Reading) -> Reading
+fn turn(
+    rt: &impl Eprint,
+    file: &File,
+    new: &File,
+    input: &mut [u8],
+    entries: &mut [u8],
+    before: Reading,
+    log: &str,
+    name: &str,
+) -> Reading
     requires { (before.kept < 18) × (18 ≤ length input.old) }
     ensures follows { Follows before input.old entries.old result input.new entries.new }
     ensures kept_bound { result.kept < 18 }
 {
     let kept = before.kept;
-    let got = libc::read(file, &mut input[kept..]);
-    if got < 0 {
-        return Reading {
-            stage: Stage::Unread,
-            ..before
-        };
-    }
+    let mut from = file;
+    let got = match from.read(&mut input[kept..]) {
+        Ok(got) => got,
+        Err(error) => {
+            files::fail(rt, log, error);
+            return Reading {
+                stage: Stage::Unread,
+                ..before
+            };
+        }
+    };
     if got == 0 {
         return Reading {
             stage: Stage::AtEnd,
             ..before
         };
     }
-    let there = kept + io::count(got, &input[kept..]);
-    step(new, input, there, entries, before)
+    let there = kept + got;
+    step(rt, new, input, there, entries, before, name)
 }
 
 // The library's step over what is there; the entries that it completes are written, and what is left waits for the
 // next read.
-fn step(new: i32, input: &mut [u8], there: usize, entries: &mut [u8], before: Reading) -> Reading
+fn step(
+    rt: &impl Eprint,
+    new: &File,
+    input: &mut [u8],
+    there: usize,
+    entries: &mut [u8],
+    before: Reading,
+    name: &str,
+) -> Reading
     requires { (before.kept < 18) × (there ≤ length input.old) }
     ensures steps { Steps before input.old there entries.old result input.new
         entries.new }
@@ -125,7 +162,7 @@ fn step(new: i32, input: &mut [u8], there: usize, entries: &mut [u8], before: Re
             ..before
         },
         PartBuilt::Whole(used, written, after) => {
-            if !io::write_all(new, &entries[0..written]) {
+            if !files::write(rt, new, &entries[0..written], name) {
                 return Reading {
                     stage: Stage::Unwritten,
                     ..before
@@ -141,30 +178,40 @@ fn step(new: i32, input: &mut [u8], there: usize, entries: &mut [u8], before: Re
 }
 
 // The log's end, with the bytes that are left of it.
-fn end(new: i32, rest: &[u8], extent: Extent, index: &[u8], name: &[u8]) -> bool {
+fn end<R: Files + Print + Eprint>(
+    rt: &R,
+    new: &File,
+    rest: &[u8],
+    extent: Extent,
+    index: &str,
+    name: &str,
+) -> bool {
     let mut start = [0u8; 21];
-    end_with(new, rest, extent, &mut start, index, name)
+    end_with(rt, new, rest, extent, &mut start, index, name)
 }
 
-fn end_with(
-    new: i32,
+fn end_with<R: Files + Print + Eprint>(
+    rt: &R,
+    new: &File,
     rest: &[u8],
     extent: Extent,
     start: &mut [u8],
-    index: &[u8],
-    name: &[u8],
+    index: &str,
+    name: &str,
 ) -> bool {
     let written = index_building::build_end(rest, extent, start);
     if let IndexWritten::Refused(number) = written {
-        crate::tell_refused(number, 0);
+        crate::tell_refused(rt, number, 0);
         return false;
     }
-    if libc::lseek(new, 0, libc::SEEK_SET) != 0 {
-        files::fail(name);
+    if !files::go_to(rt, new, 0, name) {
         return false;
     }
-    if files::write(new, start, name) && files::sync(new, name) && files::replace(index, name) {
-        crate::tell_written(extent.records as usize);
+    if files::write(rt, new, start, name)
+        && files::sync(rt, new, name)
+        && files::replace(rt, index, name)
+    {
+        crate::tell_written(rt, extent.records as usize);
         return true;
     }
     false

@@ -2,60 +2,97 @@
 ghost use Rattle.std.specs.Prelude.{◌≤◌, length};
 
 use crate::Brought;
-use libc::STDERR_FILENO;
+use std::fs;
+use std::fs::{File, OpenOptions};
+use std::io::{Error, Read, Seek, SeekFrom, Write};
+use std::rt::{Env, Files};
 
-// What failed last, of the file by its name.
-pub(crate) fn fail(name: &[u8]) {
-    io::write_all(STDERR_FILENO, b"fallbacks: ");
-    os::fail(name);
+// What failed, of the file by its name.
+pub(crate) fn fail(rt: &impl Eprint, name: &str, error: Error) {
+    let _ = rt.eprint("fallbacks: ");
+    troubles::tell(rt, name, error);
 }
 
-// A descriptor to read from, or a negative number.
-pub(crate) fn open(name: &[u8]) -> i32 {
-    let file = os::open_read(name);
-    if file < 0 {
-        fail(name);
+// The same where no call has failed, and yet not all was there.
+pub(crate) fn fail_short(rt: &impl Eprint, name: &str) {
+    fail(rt, name, Error::from_raw_os_error(0));
+}
+
+// A file to read from.
+pub(crate) fn open<R: Files<File = File> + Eprint>(rt: &R, name: &str) -> Option<File> {
+    match File::open(rt, name) {
+        Ok(file) => Some(file),
+        Err(error) => {
+            fail(rt, name, error);
+            None
+        }
     }
-    file
 }
 
-// Reads until the buffer is full or the file ends. The kit stops likewise at a read that fails, which the next one
-// does too.
-pub(crate) fn fill(file: i32, buffer: &mut [u8], name: &[u8]) -> Brought
+// Reads until the buffer is full or the file ends, and likewise at a read that fails, which the next one does too.
+fn read_full(file: &mut impl Read, buffer: &mut [u8]) -> usize
+    ensures { result ≤ length buffer.new }
+{
+    let mut done = 0;
+    while done < buffer.len() {
+        let n = file.read(&mut buffer[done..]).unwrap_or(0);
+        if n == 0 {
+            return done;
+        }
+        done += n;
+    }
+    done
+}
+
+// Reads until the buffer is full or the file ends.
+pub(crate) fn fill(rt: &impl Eprint, file: &mut impl Read, buffer: &mut [u8], name: &str) -> Brought
     ensures { result.count ≤ length buffer.new }
 {
-    let count = io::read_full(file, buffer);
+    let count = read_full(file, buffer);
     let mut next = [0u8; 1];
-    if libc::read(file, &mut next) < 0 {
-        fail(name);
+    if let Err(error) = file.read(&mut next) {
+        fail(rt, name, error);
         return Brought { good: false, count };
     }
     Brought { good: true, count }
 }
 
+// Whether the next read or write of a file is at a place.
+pub(crate) fn go_to(rt: &impl Eprint, file: &File, place: u64, name: &str) -> bool {
+    let mut of = file;
+    match of.seek(SeekFrom::Start(place)) {
+        Ok(_) => true,
+        Err(error) => {
+            fail(rt, name, error);
+            false
+        }
+    }
+}
+
 // The same from an offset on, where so many bytes must be there: fewer are a read that has failed.
 pub(crate) fn read_at(
-    file: i32,
-    offset: i64,
+    rt: &impl Eprint,
+    file: &File,
+    offset: u64,
     want: usize,
     buffer: &mut [u8],
-    name: &[u8],
+    name: &str,
 ) -> Brought
     ensures { result.count ≤ length buffer.new }
 {
-    if libc::lseek(file, offset, libc::SEEK_SET) != offset {
-        fail(name);
+    if !go_to(rt, file, offset, name) {
         return Brought {
             good: false,
             count: 0,
         };
     }
-    let brought = fill(file, buffer, name);
+    let mut from = file;
+    let brought = fill(rt, &mut from, buffer, name);
     if brought.count >= want {
         return brought;
     }
     if brought.good {
-        fail(name);
+        fail_short(rt, name);
     }
     Brought {
         good: false,
@@ -76,27 +113,29 @@ pub(crate) fn there(size: usize, at: usize, most: usize) -> usize {
 }
 
 // The length of a file.
-pub(crate) fn length(file: i32, name: &[u8]) -> Brought {
-    let end = libc::lseek(file, 0, libc::SEEK_END);
-    if end >= 0 {
-        return Brought {
+pub(crate) fn length(rt: &impl Eprint, file: &File, name: &str) -> Brought {
+    let mut of = file;
+    match of.seek(SeekFrom::End(0)) {
+        Ok(end) => Brought {
             good: true,
             count: end as usize,
-        };
-    }
-    fail(name);
-    Brought {
-        good: false,
-        count: 0,
+        },
+        Err(error) => {
+            fail(rt, name, error);
+            Brought {
+                good: false,
+                count: 0,
+            }
+        }
     }
 }
 
 // The name of the new file beside the index, into a buffer: the index's and `.new`; and its length, or 0 where it is
 // too long.
-pub(crate) fn new_name(name: &mut [u8]) -> usize
+pub(crate) fn new_name(rt: &impl Env, name: &mut [u8]) -> usize
     ensures { result ≤ length name.new }
 {
-    let n = os::arg(3, name);
+    let n = rt.arg(3, name).unwrap_or(0);
     if name.len() < 4 {
         return 0;
     }
@@ -110,39 +149,56 @@ pub(crate) fn new_name(name: &mut [u8]) -> usize
     n + 4
 }
 
-// Makes the new file, for writing; a descriptor, or a negative number. Where there is one, another run writes it or
-// was stopped.
-pub(crate) fn create(name: &[u8]) -> i32 {
-    let file = os::create(name);
-    if file < 0 {
-        fail(name);
+// The new file's name as text, which it is where the index's is.
+pub(crate) fn as_text(name: &[u8]) -> &str {
+    troubles::text(name).unwrap_or("")
+}
+
+// Makes the new file, for writing. Where there is one, another run writes it or was stopped.
+pub(crate) fn create<R: Files<File = File> + Eprint>(rt: &R, name: &str) -> Option<File> {
+    match OpenOptions::new()
+        .write(true)
+        .create_new(true)
+        .open(rt, name)
+    {
+        Ok(file) => Some(file),
+        Err(error) => {
+            fail(rt, name, error);
+            None
+        }
     }
-    file
 }
 
 // Whether all bytes were written.
-pub(crate) fn write(file: i32, bytes: &[u8], name: &[u8]) -> bool {
-    if io::write_all(file, bytes) {
-        return true;
+pub(crate) fn write(rt: &impl Eprint, file: &File, bytes: &[u8], name: &str) -> bool {
+    let mut to = file;
+    match to.write_all(bytes) {
+        Ok(()) => true,
+        Err(error) => {
+            fail(rt, name, error);
+            false
+        }
     }
-    fail(name);
-    false
 }
 
 // Whether what was written has reached the device.
-pub(crate) fn sync(file: i32, name: &[u8]) -> bool {
-    if libc::fsync(file) == 0 {
-        return true;
+pub(crate) fn sync(rt: &impl Eprint, file: &File, name: &str) -> bool {
+    match file.sync_all() {
+        Ok(()) => true,
+        Err(error) => {
+            fail(rt, name, error);
+            false
+        }
     }
-    fail(name);
-    false
 }
 
 // Whether the new file has taken the index's place.
-pub(crate) fn replace(index: &[u8], new: &[u8]) -> bool {
-    if os::rename(new, index) == 0 {
-        return true;
+pub(crate) fn replace<R: Files + Eprint>(rt: &R, index: &str, new: &str) -> bool {
+    match fs::rename(rt, new, index) {
+        Ok(()) => true,
+        Err(error) => {
+            fail(rt, index, error);
+            false
+        }
     }
-    fail(index);
-    false
 }

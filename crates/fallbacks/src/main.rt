@@ -6,7 +6,9 @@
 
 use fallback_index::Fallbacks;
 use index_building::{Extent, IndexWritten};
-use libc::{STDERR_FILENO, STDOUT_FILENO};
+use std::fs::File;
+use std::io;
+use std::rt::{Env, Files};
 
 mod appending;
 mod building;
@@ -20,12 +22,11 @@ pub(crate) struct Brought {
     count: usize,
 }
 
-// Log and index: whether both can be used, their descriptors and lengths.
-#[derive(Clone, Copy)]
+// Log and index, open, and their lengths.
+#[derive(Drop)]
 pub(crate) struct Pair {
-    good: bool,
-    log: i32,
-    index: i32,
+    log: File,
+    index: File,
     total: usize,
     size: usize,
 }
@@ -57,91 +58,83 @@ pub(crate) struct Reading {
     extent: Extent,
 }
 
-fn tell(meaning: &[u8], number: u64, end: &[u8]) {
-    if io::write_all(STDOUT_FILENO, meaning) {
-        if io::print_decimal(STDOUT_FILENO, number) {
-            if io::write_all(STDOUT_FILENO, end) {
-                return;
-            }
-        }
+fn tell<R: Print + Eprint>(rt: &R, meaning: &str, number: u64, end: &str) {
+    let told = print!(rt; "{meaning}{number}{end}");
+    if let Err(error) = told {
+        troubles::tell(rt, "fallbacks: standard output", error);
     }
-    os::fail(b"fallbacks: standard output");
 }
 
 // A refusal, and what it means; `named` is the log's length that the index names.
-pub(crate) fn tell_refused(number: u8, named: u64) {
-    tell(b"refused ", number as u64, b"\n");
-    io::write_all(STDERR_FILENO, b"means: ");
-    match number {
-        1 => io::write_all(
-            STDERR_FILENO,
-            b"the version of the index, or of a record, is not 1\n",
-        ),
-        4 => io::write_all(
-            STDERR_FILENO,
-            b"a number of the index would be over 4,294,967,295\n",
-        ),
-        12 => tell_other_log(named),
-        13 => io::write_all(
-            STDERR_FILENO,
-            b"A is over B, or B is over the record count\n",
-        ),
-        _ => io::write_all(
-            STDERR_FILENO,
-            b"the index, or a record, is cut short, too long or not one\n",
-        ),
+pub(crate) fn tell_refused<R: Print + Eprint>(rt: &R, number: u8, named: u64) {
+    tell(rt, "refused ", number as u64, "\n");
+    let _ = rt.eprint("means: ");
+    let _ = match number {
+        1 => rt.eprint("the version of the index, or of a record, is not 1\n"),
+        4 => rt.eprint("a number of the index would be over 4,294,967,295\n"),
+        12 => tell_other_log(rt, named),
+        13 => rt.eprint("A is over B, or B is over the record count\n"),
+        _ => rt.eprint("the index, or a record, is cut short, too long or not one\n"),
     };
 }
 
 // What to do with a log that an append has left longer than its index says.
-fn tell_other_log(named: u64) -> bool {
-    io::write_all(STDERR_FILENO, b"the index is of a log of ")
-        && io::print_decimal(STDERR_FILENO, named)
-        && io::write_all(
-            STDERR_FILENO,
-            b" bytes; behind an append that was stopped, cut the log to that length or build the index anew\n",
-        )
+fn tell_other_log(rt: &impl Eprint, named: u64) -> io::Result<()> {
+    rt.eprint("the index is of a log of ")?;
+    rt.eprint(named)?;
+    rt.eprint(
+        " bytes; behind an append that was stopped, cut the log to that length or build the index anew\n",
+    )
 }
 
 // The length of the index of so many records.
-pub(crate) fn tell_written(count: usize) {
+pub(crate) fn tell_written<R: Print + Eprint>(rt: &R, count: usize) {
     let length = index_building::entry_at(count) + IndexWritten::ENTRY_BYTES;
-    tell(b"index of ", length as u64, b" bytes\n");
+    tell(rt, "index of ", length as u64, " bytes\n");
 }
 
-pub(crate) fn tell_count(answer: Fallbacks, named: u64) {
+pub(crate) fn tell_count<R: Print + Eprint>(rt: &R, answer: Fallbacks, named: u64) {
     match answer {
-        Fallbacks::Count(count) => tell(b"", count, b"\n"),
-        Fallbacks::Refused(number) => tell_refused(number, named),
+        Fallbacks::Count(count) => tell(rt, "", count, "\n"),
+        Fallbacks::Refused(number) => tell_refused(rt, number, named),
     }
 }
 
 // What the first letter of the first word asks for; the command's script has looked at the words.
-fn serve(word: &[u8], log: &[u8], index: &[u8]) {
+fn serve<R: Env + Input + Files<File = File> + Print + Eprint>(
+    rt: &R,
+    word: &[u8],
+    log: &str,
+    index: &str,
+) {
     if word.len() == 0 {
         return;
     }
     match word[0] {
-        b'b' => building::build(log, index),
-        b'c' => questions::count(log, index),
-        _ => appending::append(log, index),
+        b'b' => building::build(rt, log, index),
+        b'c' => questions::count(rt, log, index),
+        _ => appending::append(rt, log, index),
     }
 }
 
-fn main() {
-    let mut word = io::buffer();
-    let asked = os::arg(1, &mut word);
-    let mut log = io::buffer();
-    let first = os::arg(2, &mut log);
-    if os::errno() != 0 {
-        os::fail(b"fallbacks: the name of the log");
-        return;
-    }
-    let mut index = io::buffer();
-    let second = os::arg(3, &mut index);
-    if os::errno() != 0 {
-        os::fail(b"fallbacks: the name of the index");
-        return;
-    }
-    serve(&word[0..asked], &log[0..first], &index[0..second]);
+fn main(rt: HostRuntime) {
+    let mut word = [0u8; 4096];
+    let asked = rt.arg(1, &mut word).unwrap_or(0);
+    let mut log = [0u8; 4096];
+    let first = match troubles::argument(&rt, 2, &mut log) {
+        Ok(name) => name,
+        Err(error) => {
+            troubles::tell(&rt, "fallbacks: the name of the log", error);
+            return;
+        }
+    };
+    let mut index = [0u8; 4096];
+    let second = match troubles::argument(&rt, 3, &mut index) {
+        Ok(name) => name,
+        Err(error) => {
+            troubles::tell(&rt, "fallbacks: the name of the index", error);
+            return;
+        }
+    };
+    serve(&rt, &word[0..asked], first, second);
 }

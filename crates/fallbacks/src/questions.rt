@@ -3,51 +3,47 @@ ghost use Rattle.std.specs.Prelude.{◌≤◌, length};
 
 use crate::{Brought, Pair, Side, files};
 use index_building::IndexWritten;
+use std::fs::File;
+use std::rt::{Env, Files};
 
-pub(crate) fn open_pair(log: &[u8], index: &[u8]) -> Pair {
-    let none = Pair {
-        good: false,
-        log: -1,
-        index: -1,
-        total: 0,
-        size: 0,
-    };
-    let first = files::open(log);
-    if first < 0 {
-        return none;
+pub(crate) fn open_pair<R: Files<File = File> + Eprint>(
+    rt: &R,
+    log: &str,
+    index: &str,
+) -> Option<Pair> {
+    let first = files::open(rt, log)?;
+    let second = files::open(rt, index)?;
+    let total = files::length(rt, &first, log);
+    let size = files::length(rt, &second, index);
+    if total.good && size.good {
+        return Some(Pair {
+            log: first,
+            index: second,
+            total: total.count,
+            size: size.count,
+        });
     }
-    let second = files::open(index);
-    if second < 0 {
-        return none;
-    }
-    let total = files::length(first, log);
-    let size = files::length(second, index);
-    Pair {
-        good: total.good && size.good,
-        log: first,
-        index: second,
-        total: total.count,
-        size: size.count,
-    }
+    None
 }
 
 // Reads the last entry at or before a record, and the log from where it points.
 pub(crate) fn read_side(
-    pair: Pair,
+    rt: &impl Eprint,
+    pair: &Pair,
     a: usize,
     entry: &mut [u8],
     stretch: &mut [u8],
-    log: &[u8],
-    index: &[u8],
+    log: &str,
+    index: &str,
 ) -> Side
     requires { 1134 ≤ length stretch.old }
     ensures result_in_bounds { result.entry ≤ length entry.new }
     ensures stretch_in_bounds { result.stretch ≤ length stretch.new }
 {
-    let of = read_entry(pair, a, entry, index);
+    let of = read_entry(rt, pair, a, entry, index);
     let n = of.count;
     let offset = words::word_at(&entry[0..n], 0);
-    let to = read_stretch(pair, a, offset, stretch, log);
+    let to = read_stretch(rt, pair, a, offset, stretch, log);
     Side {
         good: of.good && to.good,
         entry: n,
@@ -55,22 +51,36 @@ pub(crate) fn read_side(
     }
 }
 
-fn read_entry(pair: Pair, a: usize, entry: &mut [u8], index: &[u8]) -> Brought
+fn read_entry(rt: &impl Eprint, pair: &Pair, a: usize, entry: &mut [u8], index: &str) -> Brought
     ensures { result.count ≤ length entry.new }
 {
     let place = within(index_building::entry_at(a), pair.size);
     let some = files::there(pair.size, place, IndexWritten::ENTRY_BYTES);
-    files::read_at(pair.index, place as i64, some, entry, index)
+    files::read_at(rt, &pair.index, place as u64, some, entry, index)
 }
 
 // The log from an offset on, as far as the records from the entry to that one can reach.
-fn read_stretch(pair: Pair, a: usize, offset: u32, stretch: &mut [u8], log: &[u8]) -> Brought
+fn read_stretch(
+    rt: &impl Eprint,
+    pair: &Pair,
+    a: usize,
+    offset: u32,
+    stretch: &mut [u8],
+    log: &str,
+) -> Brought
     requires { 1134 ≤ length stretch.old }
     ensures { result.count ≤ length stretch.new }
 {
     let most = fallback_index::most_bytes(a);
     let some = files::there(pair.total, offset as usize, most);
-    files::read_at(pair.log, offset as i64, some, &mut stretch[0..most], log)
+    files::read_at(
+        rt,
+        &pair.log,
+        offset as u64,
+        some,
+        &mut stretch[0..most],
+        log,
+    )
 }
 
 // A place, or the end of a file of so many bytes where it lies past that: a system may refuse to go further.
@@ -84,18 +94,18 @@ fn within(at: usize, size: usize) -> usize
 }
 
 // `count LOG INDEX A B`.
-pub(crate) fn count(log: &[u8], index: &[u8]) {
-    let a = number(4);
-    let b = number(5);
-    let pair = open_pair(log, index);
-    if pair.good {
+pub(crate) fn count<R: Env + Files<File = File> + Print + Eprint>(rt: &R, log: &str, index: &str) {
+    let a = number(rt, 4);
+    let b = number(rt, 5);
+    if let Some(pair) = open_pair(rt, log, index) {
         let mut head = [0u8; 13];
         let mut entry_a = [0u8; 8];
         let mut entry_b = [0u8; 8];
         let mut stretch_a = [0u8; 1134];
         let mut stretch_b = [0u8; 1134];
         ask(
-            pair,
+            rt,
+            &pair,
             a,
             b,
             &mut head,
@@ -110,8 +120,9 @@ pub(crate) fn count(log: &[u8], index: &[u8]) {
 }
 
 // Reads the parts, each to its buffer, and tells the answer.
-fn ask(
-    pair: Pair,
+fn ask<R: Print + Eprint>(
+    rt: &R,
+    pair: &Pair,
     a: usize,
     b: usize,
     head: &mut [u8],
@@ -119,16 +130,16 @@ fn ask(
     entry_b: &mut [u8],
     stretch_a: &mut [u8],
     stretch_b: &mut [u8],
-    log: &[u8],
-    index: &[u8],
+    log: &str,
+    index: &str,
 )
     requires in_bounds { 1134 ≤ length stretch_a.old }
     requires in_bounds_2 { 1134 ≤ length stretch_b.old }
 {
     let some = files::there(pair.size, 0, IndexWritten::HEAD_BYTES);
-    let first = files::read_at(pair.index, 0, some, head, index);
-    let from = read_side(pair, a, entry_a, stretch_a, log, index);
-    let up_to = read_side(pair, b, entry_b, stretch_b, log, index);
+    let first = files::read_at(rt, &pair.index, 0, some, head, index);
+    let from = read_side(rt, pair, a, entry_a, stretch_a, log, index);
+    let up_to = read_side(rt, pair, b, entry_b, stretch_b, log, index);
     let n = first.count;
     let of_a = from.entry;
     let of_b = up_to.entry;
@@ -136,6 +147,7 @@ fn ask(
     let to_b = up_to.stretch;
     if first.good && from.good && up_to.good {
         tell(
+            rt,
             pair,
             a,
             b,
@@ -148,8 +160,9 @@ fn ask(
     }
 }
 
-fn tell(
-    pair: Pair,
+fn tell<R: Print + Eprint>(
+    rt: &R,
+    pair: &Pair,
     a: usize,
     b: usize,
     head: &[u8],
@@ -161,13 +174,13 @@ fn tell(
     let answer = fallback_index::count_by_parts(
         pair.total, pair.size, head, entry_a, entry_b, stretch_a, stretch_b, a, b,
     );
-    crate::tell_count(answer, words::word_at(head, 5) as u64);
+    crate::tell_count(rt, answer, words::word_at(head, 5) as u64);
 }
 
 // The number that an argument writes out in digits, which the command's script has looked at.
-fn number(argument: usize) -> usize {
-    let mut text = io::buffer();
-    let n = os::arg(argument, &mut text);
+fn number(rt: &impl Env, argument: usize) -> usize {
+    let mut text = [0u8; 4096];
+    let n = rt.arg(argument, &mut text).unwrap_or(0);
     value(&text[0..n])
 }
 

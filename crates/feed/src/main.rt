@@ -1,46 +1,56 @@
 // Reads scene records from standard input to its end and writes the answer to each to standard output (01, "Records
-// (ours)"). A read or a write that fails is told on standard error, the one sign of it that a program can give: it has
-// no exit status.
+// (ours)"). A read or a write that fails is told on standard error, the one sign of it that the program gives: its exit
+// status is 0 all the same.
 #![tactic(auto)]
 
 ghost use Rattle.std.specs.Prelude.{◌≤◌, length};
 ghost use Rattle.records.specs.Turns.{Ready, Follows};
 
-use libc::{STDIN_FILENO, STDOUT_FILENO};
 use records::Stream;
+use std::io::Read;
 
 // How many bytes one read brings: none at the input's end, and none where it fails.
-fn read(input: &mut [u8]) -> usize
+fn read<R: Input + Eprint>(rt: &R, input: &mut [u8]) -> usize
     ensures { result ≤ length input.new }
 {
-    let got = libc::read(STDIN_FILENO, input);
-    if got < 0 {
-        os::fail(b"feed: standard input");
+    let mut reader = rt.reader();
+    match reader.read(input) {
+        Ok(got) => got,
+        Err(error) => {
+            troubles::tell(rt, "feed: standard input", error);
+            0
+        }
     }
-    io::count(got, input)
 }
 
 // Whether all answers could be written.
-fn write(answers: &[u8]) -> bool {
-    if io::write_all(STDOUT_FILENO, answers) {
-        return true;
+fn write<R: Print + Eprint>(rt: &R, answers: &[u8]) -> bool {
+    match rt.write_all(answers) {
+        Ok(()) => true,
+        Err(error) => {
+            troubles::tell(rt, "feed: standard output", error);
+            false
+        }
     }
-    os::fail(b"feed: standard output");
-    false
 }
 
 // One read, behind what is kept, a turn of the stream, and one write. An output that fails ends it, and so does an input that
 // fails, as its end does.
-fn turn(input: &mut [u8], output: &mut [u8], before: Stream) -> Stream
+fn turn<R: Input + Print + Eprint>(
+    rt: &R,
+    input: &mut [u8],
+    output: &mut [u8],
+    before: Stream,
+) -> Stream
     requires { Ready (length input.old) (length output.old) before.kept }
     ensures follows { Follows before input.old result input.new output.new }
     ensures ready { Ready (length input.new) (length output.new) result.kept }
 {
     let kept = before.kept;
-    let brought = read(&mut input[kept..]);
+    let brought = read(rt, &mut input[kept..]);
     let next = records::turn(input, output, before, brought);
     let put = next.put;
-    if write(&output[0..put]) {
+    if write(rt, &output[0..put]) {
         return next;
     }
     Stream {
@@ -50,13 +60,13 @@ fn turn(input: &mut [u8], output: &mut [u8], before: Stream) -> Stream
 }
 
 // Turn behind turn until one closes. The count only bounds the loop.
-fn turns(input: &mut [u8], output: &mut [u8])
+fn turns<R: Input + Print + Eprint>(rt: &R, input: &mut [u8], output: &mut [u8])
     requires { Ready (length input.old) (length output.old) 0 }
 {
     let mut stream = Stream::START;
     let mut left = u64::MAX;
     while left > 0 {
-        stream = turn(input, output, stream);
+        stream = turn(rt, input, output, stream);
         if !stream.more {
             return;
         }
@@ -64,8 +74,8 @@ fn turns(input: &mut [u8], output: &mut [u8])
     }
 }
 
-fn main() {
+fn main(rt: HostRuntime) {
     let mut input = [0u8; Stream::INPUT];
     let mut output = [0u8; Stream::OUTPUT];
-    turns(&mut input, &mut output);
+    turns(&rt, &mut input, &mut output);
 }

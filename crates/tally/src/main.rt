@@ -1,13 +1,14 @@
 // Reads a log of answer records from standard input to its end and writes the page of its figures to standard output
 // (02, T-02), or the line `refused R at N`. A read or a write that fails is told on standard error, the one sign of it
-// that a program can give: it has no exit status.
+// that the program gives: its exit status is 0 all the same.
 #![tactic(auto)]
 
 ghost use Rattle.std.specs.Prelude.{◌≡◌, ◌≤◌, length};
 ghost use Rattle.tally.specs.Turns.{held, ended_over, read_over, Follows};
 
 use daily_tally::{DayTally, Walked};
-use libc::{STDIN_FILENO, STDOUT_FILENO};
+use std::io;
+use std::io::Read;
 
 // Whether there may be more to read, the walk has ended, or a read has failed.
 #[derive(Clone, Copy)]
@@ -77,34 +78,37 @@ fn tally_read(input: &mut [u8], there: usize, before: Reading) -> Reading
 }
 
 // One read, behind the bytes that wait.
-fn turn(input: &mut [u8], before: Reading) -> Reading
+fn turn<R: Input + Eprint>(rt: &R, input: &mut [u8], before: Reading) -> Reading
     ensures { Follows before input.old result input.new }
 {
     let kept = before.kept;
     if input.len() < kept {
         return before;
     }
-    let got = libc::read(STDIN_FILENO, &mut input[kept..]);
-    if got < 0 {
-        os::fail(b"tally: standard input");
-        return Reading {
-            stage: Stage::Failed,
-            ..before
-        };
-    }
+    let mut reader = rt.reader();
+    let got = match reader.read(&mut input[kept..]) {
+        Ok(got) => got,
+        Err(error) => {
+            troubles::tell(rt, "tally: standard input", error);
+            return Reading {
+                stage: Stage::Failed,
+                ..before
+            };
+        }
+    };
     if got == 0 {
         return end(&input[0..kept], before);
     }
-    let there = kept + io::count(got, &input[kept..]);
+    let there = kept + got;
     tally_read(input, there, before)
 }
 
 // Turn behind turn until one ends it. The count only bounds the loop.
-fn turns(input: &mut [u8]) -> Reading {
+fn turns<R: Input + Eprint>(rt: &R, input: &mut [u8]) -> Reading {
     let mut reading = begin();
     let mut left = u64::MAX;
     while left > 0 {
-        reading = turn(input, reading);
+        reading = turn(rt, input, reading);
         let stage = reading.stage;
         let Stage::Open = stage else {
             return reading;
@@ -114,121 +118,104 @@ fn turns(input: &mut [u8]) -> Reading {
     reading
 }
 
-// Whether all was written so far, and this too.
-fn write(good: bool, text: &[u8]) -> bool {
-    if !good {
-        return false;
-    }
-    io::write_all(STDOUT_FILENO, text)
+fn write(rt: &impl Print, text: &str) -> io::Result<()> {
+    rt.print(text)
 }
 
-fn write_number(good: bool, n: u64) -> bool {
-    if !good {
-        return false;
-    }
-    io::print_decimal(STDOUT_FILENO, n)
+fn write_number(rt: &impl Print, n: u64) -> io::Result<()> {
+    rt.print(n)
 }
 
 // One line of the page: what is counted, and the figure.
-fn line(good: bool, meaning: &[u8], figure: u64) -> bool {
-    let named = write(good, meaning);
-    let parted = write(named, b": ");
-    let told = write_number(parted, figure);
-    write(told, b"\n")
+fn line(rt: &impl Print, meaning: &str, figure: u64) -> io::Result<()> {
+    write(rt, meaning)?;
+    write(rt, ": ")?;
+    write_number(rt, figure)?;
+    write(rt, "\n")
 }
 
-fn tell_outcomes(of: [u64; 6]) -> bool {
-    let mut good = true;
-    good = line(good, b"outcome 1, every line is met", of[1]);
-    good = line(good, b"outcome 2, neighbours' lines were relaxed", of[2]);
-    good = line(good, b"outcome 3, as 1, the cart taken at rest", of[3]);
-    good = line(good, b"outcome 4, as 2, the cart taken at rest", of[4]);
-    line(
-        good,
-        b"outcome 5, walls cannot be met at rest either",
-        of[5],
-    )
+fn tell_outcomes(rt: &impl Print, of: [u64; 6]) -> io::Result<()> {
+    line(rt, "outcome 1, every line is met", of[1])?;
+    line(rt, "outcome 2, neighbours' lines were relaxed", of[2])?;
+    line(rt, "outcome 3, as 1, the cart taken at rest", of[3])?;
+    line(rt, "outcome 4, as 2, the cart taken at rest", of[4])?;
+    line(rt, "outcome 5, walls cannot be met at rest either", of[5])
 }
 
 // The numbers that an answer may have.
-fn tell_refusals(before: bool, of: [u64; 16]) -> bool {
-    let mut good = before;
-    good = line(good, b"refusal 1, the version is not 1", of[1]);
-    good = line(good, b"refusal 2, bytes are missing or left over", of[2]);
-    good = line(
-        good,
-        b"refusal 3, an obstacle is neither closed nor open",
-        of[3],
-    );
-    good = line(
-        good,
-        b"refusal 4, a count or the length is over its limit",
-        of[4],
-    );
-    good = line(good, b"refusal 5, an open obstacle has no vertices", of[5]);
-    good = line(
-        good,
-        b"refusal 6, a number is not finite or out of its range",
-        of[6],
-    );
-    good = line(
-        good,
-        b"refusal 7, a line's direction is out of its band",
-        of[7],
-    );
-    good = line(
-        good,
-        b"refusal 8, the ends of an interval are not in order",
-        of[8],
-    );
-    good = line(
-        good,
-        b"refusal 9, an edge's line breaks the admission of lines",
-        of[9],
-    );
-    good = line(good, b"refusal 10, an answer buffer is too short", of[10]);
+fn tell_refusals(rt: &impl Print, of: [u64; 16]) -> io::Result<()> {
+    line(rt, "refusal 1, the version is not 1", of[1])?;
+    line(rt, "refusal 2, bytes are missing or left over", of[2])?;
     line(
-        good,
-        b"refusal 14, an obstacle has a doubled vertex",
-        of[14],
-    )
+        rt,
+        "refusal 3, an obstacle is neither closed nor open",
+        of[3],
+    )?;
+    line(
+        rt,
+        "refusal 4, a count or the length is over its limit",
+        of[4],
+    )?;
+    line(rt, "refusal 5, an open obstacle has no vertices", of[5])?;
+    line(
+        rt,
+        "refusal 6, a number is not finite or out of its range",
+        of[6],
+    )?;
+    line(
+        rt,
+        "refusal 7, a line's direction is out of its band",
+        of[7],
+    )?;
+    line(
+        rt,
+        "refusal 8, the ends of an interval are not in order",
+        of[8],
+    )?;
+    line(
+        rt,
+        "refusal 9, an edge's line breaks the admission of lines",
+        of[9],
+    )?;
+    line(rt, "refusal 10, an answer buffer is too short", of[10])?;
+    line(rt, "refusal 14, an obstacle has a doubled vertex", of[14])
 }
 
-fn tell_figures(tally: DayTally) -> bool {
+fn tell_figures(rt: &impl Print, tally: DayTally) -> io::Result<()> {
     let outcomes = tally.outcomes;
     let refusals = tally.refusals;
-    let mut good = tell_outcomes(outcomes);
-    good = tell_refusals(good, refusals);
-    good = line(good, b"probes, their sum", tally.probes);
-    good = line(good, b"probes, the largest of one answer", tally.largest);
-    line(good, b"answers that name a failed line", tally.failed)
+    tell_outcomes(rt, outcomes)?;
+    tell_refusals(rt, refusals)?;
+    line(rt, "probes, their sum", tally.probes)?;
+    line(rt, "probes, the largest of one answer", tally.largest)?;
+    line(rt, "answers that name a failed line", tally.failed)
 }
 
-fn tell_refused(number: u8, place: u64) -> bool {
-    let begun = write(true, b"refused ");
-    let numbered = write_number(begun, number as u64);
-    let parted = write(numbered, b" at ");
-    let placed = write_number(parted, place);
-    write(placed, b"\n")
+fn tell_refused(rt: &impl Print, number: u8, place: u64) -> io::Result<()> {
+    write(rt, "refused ")?;
+    write_number(rt, number as u64)?;
+    write(rt, " at ")?;
+    write_number(rt, place)?;
+    write(rt, "\n")
 }
 
-fn tell(walked: Walked, tally: DayTally) {
+fn tell<R: Print + Eprint>(rt: &R, walked: Walked, tally: DayTally) {
     let told = match walked {
-        Walked::Whole => tell_figures(tally),
-        Walked::Refused(number, place) => tell_refused(number, place),
+        Walked::Whole => tell_figures(rt, tally),
+        Walked::Refused(number, place) => tell_refused(rt, number, place),
     };
-    if !told {
-        os::fail(b"tally: standard output");
+    if let Err(error) = told {
+        troubles::tell(rt, "tally: standard output", error);
     }
 }
 
 // Each read asks for 64 KiB behind a record cut short, of which at most 17 bytes are there.
-fn main() {
+fn main(rt: HostRuntime) {
     let mut input = [0u8; 65553];
-    let reading = turns(&mut input);
+    let reading = turns(&rt, &mut input);
     let stage = reading.stage;
     let tally = reading.tally;
     if let Stage::Ended(walked) = stage {
-        tell(walked, tally);
+        tell(&rt, walked, tally);
     }
 }

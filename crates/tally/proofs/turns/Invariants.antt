@@ -1,0 +1,9 @@
+-- `tally::turns` meets its contract. Assumes nothing.
+use Rattle.std.proofs.Common.{length, ◌≡◌}
+use Rattle.tally.proofs.turns.Given as goal
+
+abbrev pub invariant-loop-left : goal.invariant-loop-left
+invariant-loop-left g l = length l.input ≡ length l.initial.input
+
+abbrev pub decreases-loop-left : goal.decreases-loop-left
+decreases-loop-left g l = l.left

@@ -1,0 +1,50 @@
+// What a program has to tell of the system: that something failed, and why, on standard error; and an argument that
+// cannot be used. Only programs use it, and nothing is promised of it.
+#![tactic(auto)]
+
+use std::env::FillError;
+use std::fmt::InlineText;
+use std::io::Error;
+use std::rt::Env;
+use std::{io, str};
+
+// The system's numbers for an argument that is missing, one that is too long, and one that is no text.
+const INVALID: i32 = 22;
+
+const TOO_LONG: i32 = 36;
+
+const NO_TEXT: i32 = 84;
+
+// What failed, as the caller names it, a colon and the system's text for it. What cannot be told is lost.
+pub fn tell(rt: &impl Eprint, what: &str, error: Error) {
+    let whole = InlineText::<256>::of(error);
+    let text = reason(whole.as_str());
+    let _ = eprintln!(rt; "{what}: {text}");
+}
+
+// The text of an error without the system's number of it, which stands behind in brackets.
+fn reason(text: &str) -> &str {
+    match text.split_once(" (os error ") {
+        Some((reason, _)) => reason,
+        None => text,
+    }
+}
+
+// Argument `i`, put into a buffer. One that is missing, that is longer than the buffer, or that is no text, is an
+// error; a file's name can be given as text alone.
+pub fn argument<'a, R: Env>(rt: &R, i: usize, buffer: &'a mut [u8]) -> io::Result<&'a str> {
+    let n = match rt.arg(i, buffer) {
+        Ok(n) => n,
+        Err(FillError::NotPresent) => return Err(Error::from_raw_os_error(INVALID)),
+        Err(FillError::TooLong) => return Err(Error::from_raw_os_error(TOO_LONG)),
+    };
+    text(&buffer[0..n])
+}
+
+// Bytes as text, where they are UTF-8.
+pub fn text(bytes: &[u8]) -> io::Result<&str> {
+    match str::from_utf8(bytes) {
+        Ok(text) => Ok(text),
+        Err(_) => Err(Error::from_raw_os_error(NO_TEXT)),
+    }
+}
