@@ -3,9 +3,9 @@ use Prim.Native.Nat.{ℕ, zero, suc, ◌+◌, ◌-◌, ◌*◌, ◌≤◌, ◌<�
 use native.Mathlib.Omega.{arith}
 use native.Mathlib.Nat.{sub-zero}
 use mathlib.Core.Path.{◌≡◌, refl, sym, ap, ◌∙◌}
-use mathlib.Core.Bool.{Bool, true, false, ◌&&◌}
+use mathlib.Core.Bool.{true, false}
 use mathlib.Core.List.{List, [], ◌∷◌, ◌++◌}
-use lib.Dec.{ltb, leb}
+use lib.Dec.{ltb}
 use lib.ListN.{length, take, drop, length-drop}
 use lib.Seq.{take-add, take_at, drop_at, take-append-le, length-take-le}
 use borrow.Rule.Slice.PartMut.{mid_of, post_of, put_mid, same_len_mid}
@@ -13,9 +13,7 @@ use borrow.Author.Tests.{le-leb, lt-ltb, ltb-true}
 use Rattle.arithmetic.proofs.Choice.{and_left, and_right}
 use Rattle.kept.specs.Kept.{Kept as Moved, kept, shifted, kept_over}
 use Rattle.kept.proofs.KeptLaws.{kept_there, kept-stays}
-use Rattle.admission.specs.Faults.{fits_behind}
 use Rattle.answer_records.specs.Answers.{longest_answer}
-use Rattle.scene_records.specs.Versions.{longest_either}
 use Rattle.records.specs.declared.Stream.{Stream}
 use Rattle.records.specs.Turns.{Turned, turned, lent, turn_over, has_room_for}
 use Rattle.records.proofs.TurnLaws as turns
@@ -23,7 +21,7 @@ use Rattle.comparison.specs.declared.Compared.{Compared}
 use Rattle.comparison.specs.declared.Found.TheVariants as found
 use Rattle.comparison.specs.declared.Progress.{Progress}
 use Rattle.comparison.specs.Comparing.{compared_from, advanced}
-use Rattle.comparison.specs.Reads.{Kept, start, with_scenes, is_some, with_answers, goes_on, leaving, stepped_by, compared_on, wants}
+use Rattle.comparison.specs.Reads.{start, with_scenes, is_some, with_answers, leaving, stepped_by, compared_on, wants}
 use Rattle.comparison.proofs.PartLaws.{used-within}
 use Rattle.compare.specs.declared.Reading.{Reading}
 use Rattle.compare.specs.Turns.{kept_in, beginning, counted, Advances, Ready, Follows, of-scenes, of-answers, at-end}

@@ -1,5 +1,5 @@
 -- `convert::turn` meets its contract. Assumes nothing.
-use Rattle.std.proofs.Common.{rules, arith, ◌-◌, length}
+use Rattle.std.proofs.Common.{arith, ◌-◌, length}
 use borrow.Rule.Slice.PartMut.{same_len_mid}
 use Rattle.conversion.proofs.TurnLaws.{put-fits, follows, stays-ready}
 use Rattle.convert.specs.Turns.{brought-some}
@@ -23,7 +23,7 @@ returns-then-write-clause-goes_on g c =
     let a = c.args in
     let few = rw c.in-Bytes.is at c.read.ensures in
     brought-some (follows a.to a.input.now a.output.now _ _ c.read.new.input a.before _ _ c.requires c.turn-next.ensures
-        c.read.auto.input few)
+    c.read.auto.input few)
 
 pub returns-then-write-clause-ready : goal.returns-then-write-clause-ready
 returns-then-write-clause-ready g c =
@@ -36,7 +36,7 @@ returns-clause-goes_on g c =
     let a = c.args in
     let few = rw c.in-Bytes.is at c.read.ensures in
     brought-some (follows a.to a.input.now a.output.now _ _ c.read.new.input a.before _ _ c.requires c.turn-next.ensures
-        c.read.auto.input few)
+    c.read.auto.input few)
 
 pub returns-clause-ready : goal.returns-clause-ready
 returns-clause-ready g c =

@@ -1,4 +1,3 @@
-use Rattle.std.proofs.Common.{rules}
 use Rattle.conversion.specs.declared.Stream.{Stream}
 use mathlib.Core.Path.{refl, ap}
 use Rattle.convert.proofs.turns.Goals as goal

@@ -1,5 +1,5 @@
 -- `feed::turn` meets its contract. Assumes nothing.
-use Rattle.std.proofs.Common.{rules, arith}
+use Rattle.std.proofs.Common.{arith}
 use Rattle.records.proofs.TurnLaws.{put-fits, follows, follows-closed, stays-ready}
 use Rattle.feed.proofs.turn.Goals as goal
 
