@@ -10,6 +10,7 @@ use linear_programming::{Answer, FailedLine, Phase};
 use lines::Line;
 use obstacles::ObstacleLines;
 use one_line::Cause;
+use std::io;
 use verdict::Tally;
 
 // ---- whether an answer is the one that a case names, zeros of either sign equal
@@ -277,7 +278,8 @@ fn points(t: Tally) -> Tally {
         .with(is_told(made(1, &near[0..1], 0, 1.0), 2), 12)
 }
 
-fn main() {
+fn main(rt: HostRuntime) -> io::Result<()> {
     let lists = limits(examined(causes(two_lines(single_lines(starts(Tally::NONE))))));
-    points(walls(roots(lists))).tell(b"bench cases");
+    points(walls(roots(lists))).tell(&rt, b"bench cases")?;
+    Ok(())
 }

@@ -3,6 +3,7 @@
 #![tactic(auto)]
 
 use admission::Judged;
+use std::io;
 use verdict::Tally;
 
 mod in_records;
@@ -53,6 +54,7 @@ fn others(t: Tally) -> Tally {
     with(t, 10, 1, 4, &between, 0)
 }
 
-fn main() {
-    others(closings(pairs(Tally::NONE))).tell(b"doubled vertices");
+fn main(rt: HostRuntime) -> io::Result<()> {
+    others(closings(pairs(Tally::NONE))).tell(&rt, b"doubled vertices")?;
+    Ok(())
 }

@@ -7,7 +7,8 @@ ghost use Rattle.std.specs.Prelude.{◌≤◌};
 
 use fallback_index::{Fallbacks, Update};
 use index_building::{Extent, IndexWritten, PartBuilt};
-use libc::{STDIN_FILENO, STDOUT_FILENO};
+use std::io;
+use std::io::{ErrorKind, Read, Write};
 
 // How many bytes of log and index there are, and whether to go on.
 #[derive(Clone, Copy)]
@@ -41,58 +42,76 @@ struct Agreed {
 }
 
 // Writes an answer: 0 and a number, or 1 and a refusal's. Its bytes are put together in those that a command brought.
-fn put(brought: &mut [u8], refused: u8, number: u64) {
+fn put(output: &mut impl Write, brought: &mut [u8], refused: u8, number: u64) -> io::Result<()> {
     if brought.len() < 9 {
-        return;
+        return Ok(());
     }
     brought[0] = refused;
     words::put_word(brought, 1, (number / 0x1_0000_0000) as u32);
     words::put_word(brought, 5, (number % 0x1_0000_0000) as u32);
-    io::write_all(STDOUT_FILENO, &brought[0..9]);
+    output.write_all(&brought[0..9])
 }
 
-fn put_count(brought: &mut [u8], fallbacks: Fallbacks) {
+fn put_count(output: &mut impl Write, brought: &mut [u8], fallbacks: Fallbacks) -> io::Result<()> {
     match fallbacks {
-        Fallbacks::Count(count) => put(brought, 0, count),
-        Fallbacks::Refused(number) => put(brought, 1, number as u64),
+        Fallbacks::Count(count) => put(output, brought, 0, count),
+        Fallbacks::Refused(number) => put(output, brought, 1, number as u64),
     }
 }
 
-fn put_update(brought: &mut [u8], update: Update) {
+fn put_update(output: &mut impl Write, brought: &mut [u8], update: Update) -> io::Result<()> {
     match update {
-        Update::Refused(number) => put(brought, 1, number as u64),
+        Update::Refused(number) => put(output, brought, 1, number as u64),
         Update::Numbers(total, count, before) => {
-            put(brought, 0, total);
-            put(brought, 0, count);
-            put(brought, 0, before);
+            put(output, brought, 0, total)?;
+            put(output, brought, 0, count)?;
+            put(output, brought, 0, before)
         }
     }
 }
 
 // Writes what a build or an append told, and answers the index's length: the old one where it was refused.
-fn put_written(brought: &mut [u8], written: IndexWritten, old: usize) -> usize {
+fn put_written(
+    output: &mut impl Write,
+    brought: &mut [u8],
+    written: IndexWritten,
+    old: usize,
+) -> io::Result<usize> {
     match written {
         IndexWritten::Refused(number) => {
-            put(brought, 1, number as u64);
-            old
+            put(output, brought, 1, number as u64)?;
+            Ok(old)
         }
         IndexWritten::Length(length) => {
-            put(brought, 0, length as u64);
-            length
+            put(output, brought, 0, length as u64)?;
+            Ok(length)
+        }
+    }
+}
+
+// Fills the bytes from the input. False where the input ends before.
+fn fill(input: &mut impl Read, bytes: &mut [u8]) -> io::Result<bool> {
+    match input.read_exact(bytes) {
+        Ok(()) => Ok(true),
+        Err(error) => {
+            if error.kind() == ErrorKind::UnexpectedEof {
+                return Ok(false);
+            }
+            Err(error)
         }
     }
 }
 
 // Bytes of the input to a place of a buffer; whether all of them came.
-fn bring(buffer: &mut [u8], at: usize, count: usize) -> bool {
+fn bring(input: &mut impl Read, buffer: &mut [u8], at: usize, count: usize) -> io::Result<bool> {
     if buffer.len() < at {
-        return false;
+        return Ok(false);
     }
     if buffer.len() - at < count {
-        return false;
+        return Ok(false);
     }
     let end = at + count;
-    io::read_full(STDIN_FILENO, &mut buffer[at..end]) == count
+    fill(input, &mut buffer[at..end])
 }
 
 // 1: bytes of the log from a place on, which end it. 2: the same for the index. 6: their lengths. 7, 8: bytes in the
@@ -109,55 +128,78 @@ fn hold(came: bool, log: usize, index: usize) -> Held {
 }
 
 // 3: a build into the first bytes of the index's buffer, which are written out.
-fn build(log: &[u8], index: &mut [u8], brought: &mut [u8], held: Held, room: usize) -> Held {
+fn build(
+    output: &mut impl Write,
+    log: &[u8],
+    index: &mut [u8],
+    brought: &mut [u8],
+    held: Held,
+    room: usize,
+) -> io::Result<Held> {
     if log.len() < held.log {
-        return Held::CLOSED;
+        return Ok(Held::CLOSED);
     }
     if index.len() < room {
-        return Held::CLOSED;
+        return Ok(Held::CLOSED);
     }
     let there = held.log;
     let written = index_building::build_index(&log[0..there], &mut index[0..room]);
-    let length = put_written(brought, written, held.index);
-    io::write_all(STDOUT_FILENO, &index[0..room]);
-    hold(true, there, length)
+    let length = put_written(output, brought, written, held.index)?;
+    output.write_all(&index[0..room])?;
+    Ok(hold(true, there, length))
 }
 
 // 4: a question.
-fn ask(log: &[u8], index: &[u8], brought: &mut [u8], held: Held, a: usize, b: usize) -> Held {
+fn ask(
+    output: &mut impl Write,
+    log: &[u8],
+    index: &[u8],
+    brought: &mut [u8],
+    held: Held,
+    a: usize,
+    b: usize,
+) -> io::Result<Held> {
     if log.len() < held.log {
-        return Held::CLOSED;
+        return Ok(Held::CLOSED);
     }
     if index.len() < held.index {
-        return Held::CLOSED;
+        return Ok(Held::CLOSED);
     }
     let there = held.log;
     let length = held.index;
     let answer = fallback_index::count_fallbacks(&log[0..there], &index[0..length], a, b);
-    put_count(brought, answer);
-    held
+    put_count(output, brought, answer)?;
+    Ok(held)
 }
 
 // 13: every question a <= b of so many records, held to a walk's fallbacks before each, which the input brings, four bytes a
 // number: how many answers are the walk's, and the first question, if any, whose answer is not.
-fn ask_all(log: &[u8], index: &[u8], brought: &mut [u8], held: Held, count: usize) -> Held {
+fn ask_all(
+    input: &mut impl Read,
+    output: &mut impl Write,
+    log: &[u8],
+    index: &[u8],
+    brought: &mut [u8],
+    held: Held,
+    count: usize,
+) -> io::Result<Held> {
     if count > 1000 {
-        return Held::CLOSED;
+        return Ok(Held::CLOSED);
     }
-    if !bring(brought, 0, 4 * count + 4) {
-        return Held::CLOSED;
+    if !bring(input, brought, 0, 4 * count + 4)? {
+        return Ok(Held::CLOSED);
     }
     if log.len() < held.log {
-        return Held::CLOSED;
+        return Ok(Held::CLOSED);
     }
     if index.len() < held.index {
-        return Held::CLOSED;
+        return Ok(Held::CLOSED);
     }
     let there = held.log;
     let length = held.index;
     let agreed = every_first(&log[0..there], &index[0..length], brought, count);
-    put_agreed(brought, agreed);
-    held
+    put_agreed(output, brought, agreed)?;
+    Ok(held)
 }
 
 fn every_first(log: &[u8], index: &[u8], walked: &[u8], count: usize) -> Agreed
@@ -228,17 +270,19 @@ fn compared(agreed: Agreed, good: bool, a: u64, b: u64) -> Agreed {
     agreed
 }
 
-fn put_agreed(brought: &mut [u8], agreed: Agreed) {
-    put(brought, 0, agreed.good);
+fn put_agreed(output: &mut impl Write, brought: &mut [u8], agreed: Agreed) -> io::Result<()> {
+    put(output, brought, 0, agreed.good)?;
     if agreed.all {
-        return;
+        return Ok(());
     }
-    put(brought, 0, agreed.a);
-    put(brought, 0, agreed.b);
+    put(output, brought, 0, agreed.a)?;
+    put(output, brought, 0, agreed.b)
 }
 
 // 5: an append of a record that the input brings, to an index of so many bytes.
 fn append(
+    input: &mut impl Read,
+    output: &mut impl Write,
     log: &[u8],
     index: &mut [u8],
     brought: &mut [u8],
@@ -246,18 +290,18 @@ fn append(
     length: usize,
     room: usize,
     size: usize,
-) -> Held {
-    if !bring(brought, 0, size) {
-        return Held::CLOSED;
+) -> io::Result<Held> {
+    if !bring(input, brought, 0, size)? {
+        return Ok(Held::CLOSED);
     }
     if brought.len() < size {
-        return Held::CLOSED;
+        return Ok(Held::CLOSED);
     }
     if log.len() < held.log {
-        return Held::CLOSED;
+        return Ok(Held::CLOSED);
     }
     if index.len() < room {
-        return Held::CLOSED;
+        return Ok(Held::CLOSED);
     }
     let there = held.log;
     let written = fallback_index::append_record(
@@ -266,18 +310,26 @@ fn append(
         length,
         &brought[0..size],
     );
-    let told = put_written(brought, written, held.index);
-    io::write_all(STDOUT_FILENO, &index[0..room]);
-    hold(true, there, told)
+    let told = put_written(output, brought, written, held.index)?;
+    output.write_all(&index[0..room])?;
+    Ok(hold(true, there, told))
 }
 
 // 9: a question by its parts, with no bytes of the log: head, two entries, and b.
-fn ask_parts(brought: &mut [u8], held: Held, total: usize, size: usize, a: usize) -> Held {
-    if !bring(brought, 0, 33) {
-        return Held::CLOSED;
+fn ask_parts(
+    input: &mut impl Read,
+    output: &mut impl Write,
+    brought: &mut [u8],
+    held: Held,
+    total: usize,
+    size: usize,
+    a: usize,
+) -> io::Result<Held> {
+    if !bring(input, brought, 0, 33)? {
+        return Ok(Held::CLOSED);
     }
     if brought.len() < 33 {
-        return Held::CLOSED;
+        return Ok(Held::CLOSED);
     }
     let b = words::word_at(brought, 29) as usize;
     let answer = fallback_index::count_by_parts(
@@ -291,21 +343,29 @@ fn ask_parts(brought: &mut [u8], held: Held, total: usize, size: usize, a: usize
         a,
         b,
     );
-    put_count(brought, answer);
-    held
+    put_count(output, brought, answer)?;
+    Ok(held)
 }
 
 // 10: an append's numbers by its parts, with no bytes of the log: head, two entries, and a record.
-fn append_parts(brought: &mut [u8], held: Held, total: usize, size: usize, count: usize) -> Held {
+fn append_parts(
+    input: &mut impl Read,
+    output: &mut impl Write,
+    brought: &mut [u8],
+    held: Held,
+    total: usize,
+    size: usize,
+    count: usize,
+) -> io::Result<Held> {
     if count > 4000 {
-        return Held::CLOSED;
+        return Ok(Held::CLOSED);
     }
     let end = 29 + count;
-    if !bring(brought, 0, end) {
-        return Held::CLOSED;
+    if !bring(input, brought, 0, end)? {
+        return Ok(Held::CLOSED);
     }
     if brought.len() < end {
-        return Held::CLOSED;
+        return Ok(Held::CLOSED);
     }
     let update = fallback_index::update_by_parts(
         total,
@@ -316,49 +376,65 @@ fn append_parts(brought: &mut [u8], held: Held, total: usize, size: usize, count
         &brought[0..0],
         &brought[29..end],
     );
-    put_update(brought, update);
-    held
+    put_update(output, brought, update)?;
+    Ok(held)
 }
 
 // 11: a part of a log that the input brings, behind so much of one: 24 bytes of numbers, then the part. The entries go to the
 // first bytes of the index's buffer, which are written out.
-fn build_part(index: &mut [u8], brought: &mut [u8], held: Held, size: usize, room: usize) -> Held {
+fn build_part(
+    input: &mut impl Read,
+    output: &mut impl Write,
+    index: &mut [u8],
+    brought: &mut [u8],
+    held: Held,
+    size: usize,
+    room: usize,
+) -> io::Result<Held> {
     if size > 4000 {
-        return Held::CLOSED;
+        return Ok(Held::CLOSED);
     }
     let end = 24 + size;
-    if !bring(brought, 0, end) {
-        return Held::CLOSED;
+    if !bring(input, brought, 0, end)? {
+        return Ok(Held::CLOSED);
     }
     if brought.len() < end {
-        return Held::CLOSED;
+        return Ok(Held::CLOSED);
     }
     if index.len() < room {
-        return Held::CLOSED;
+        return Ok(Held::CLOSED);
     }
     let extent = extent_at(brought);
     let built = index_building::build_part(&brought[24..end], extent, &mut index[0..room]);
-    put_part(brought, built);
-    io::write_all(STDOUT_FILENO, &index[0..room]);
-    held
+    put_part(output, brought, built)?;
+    output.write_all(&index[0..room])?;
+    Ok(held)
 }
 
 // 12: the end of a log behind so much of it, with so many bytes left.
-fn build_end(index: &mut [u8], brought: &mut [u8], held: Held, left: usize, room: usize) -> Held {
-    if !bring(brought, 0, 24) {
-        return Held::CLOSED;
+fn build_end(
+    input: &mut impl Read,
+    output: &mut impl Write,
+    index: &mut [u8],
+    brought: &mut [u8],
+    held: Held,
+    left: usize,
+    room: usize,
+) -> io::Result<Held> {
+    if !bring(input, brought, 0, 24)? {
+        return Ok(Held::CLOSED);
     }
     if brought.len() < left {
-        return Held::CLOSED;
+        return Ok(Held::CLOSED);
     }
     if index.len() < room {
-        return Held::CLOSED;
+        return Ok(Held::CLOSED);
     }
     let extent = extent_at(brought);
     let written = index_building::build_end(&brought[0..left], extent, &mut index[0..room]);
-    put_written(brought, written, 0);
-    io::write_all(STDOUT_FILENO, &index[0..room]);
-    held
+    put_written(output, brought, written, 0)?;
+    output.write_all(&index[0..room])?;
+    Ok(held)
 }
 
 // Three numbers of eight bytes.
@@ -374,65 +450,81 @@ fn long(high: u32, low: u32) -> u64 {
     high as u64 * 0x1_0000_0000 + low as u64
 }
 
-fn put_part(brought: &mut [u8], built: PartBuilt) {
+fn put_part(output: &mut impl Write, brought: &mut [u8], built: PartBuilt) -> io::Result<()> {
     match built {
-        PartBuilt::Refused(number) => put(brought, 1, number as u64),
+        PartBuilt::Refused(number) => put(output, brought, 1, number as u64),
         PartBuilt::Whole(used, written, extent) => {
-            put(brought, 0, used as u64);
-            put(brought, 0, written as u64);
-            put(brought, 0, extent.bytes);
-            put(brought, 0, extent.records);
-            put(brought, 0, extent.fallbacks);
+            put(output, brought, 0, used as u64)?;
+            put(output, brought, 0, written as u64)?;
+            put(output, brought, 0, extent.bytes)?;
+            put(output, brought, 0, extent.records)?;
+            put(output, brought, 0, extent.fallbacks)
         }
     }
 }
 
 // One command. Any other byte, and an end in the middle of one, closes.
-fn command(log: &mut [u8], index: &mut [u8], brought: &mut [u8], held: Held) -> Held {
+fn command(
+    input: &mut impl Read,
+    output: &mut impl Write,
+    log: &mut [u8],
+    index: &mut [u8],
+    brought: &mut [u8],
+    held: Held,
+) -> io::Result<Held> {
     if brought.len() < 13 {
-        return Held::CLOSED;
+        return Ok(Held::CLOSED);
     }
     let kind = brought[0];
     let x = words::word_at(brought, 1) as usize;
     let y = words::word_at(brought, 5) as usize;
     let z = words::word_at(brought, 9) as usize;
     match kind {
-        1 => hold(bring(log, x, y), x + y, held.index),
-        2 => hold(bring(index, x, y), held.log, x + y),
-        3 => build(log, index, brought, held, x),
-        4 => ask(log, index, brought, held, x, y),
-        5 => append(log, index, brought, held, x, y, z),
-        6 => hold(true, x, y),
-        7 => hold(bring(log, x, 1), held.log, held.index),
-        8 => hold(bring(index, x, y), held.log, held.index),
-        9 => ask_parts(brought, held, x, y, z),
-        10 => append_parts(brought, held, x, y, z),
-        11 => build_part(index, brought, held, x, y),
-        12 => build_end(index, brought, held, x, y),
-        13 => ask_all(log, index, brought, held, x),
-        _ => Held::CLOSED,
+        1 => Ok(hold(bring(input, log, x, y)?, x + y, held.index)),
+        2 => Ok(hold(bring(input, index, x, y)?, held.log, x + y)),
+        3 => build(output, log, index, brought, held, x),
+        4 => ask(output, log, index, brought, held, x, y),
+        5 => append(input, output, log, index, brought, held, x, y, z),
+        6 => Ok(hold(true, x, y)),
+        7 => Ok(hold(bring(input, log, x, 1)?, held.log, held.index)),
+        8 => Ok(hold(bring(input, index, x, y)?, held.log, held.index)),
+        9 => ask_parts(input, output, brought, held, x, y, z),
+        10 => append_parts(input, output, brought, held, x, y, z),
+        11 => build_part(input, output, index, brought, held, x, y),
+        12 => build_end(input, output, index, brought, held, x, y),
+        13 => ask_all(input, output, log, index, brought, held, x),
+        _ => Ok(Held::CLOSED),
     }
 }
 
 // Command behind command until the input ends.
-fn serve(log: &mut [u8], index: &mut [u8], brought: &mut [u8]) {
+fn serve(
+    input: &mut impl Read,
+    output: &mut impl Write,
+    log: &mut [u8],
+    index: &mut [u8],
+    brought: &mut [u8],
+) -> io::Result<()> {
     let mut held = Held::NONE;
     let mut left = u64::MAX;
     while left > 0 {
-        if !bring(brought, 0, 13) {
-            return;
+        if !bring(input, brought, 0, 13)? {
+            return Ok(());
         }
-        held = command(log, index, brought, held);
+        held = command(input, output, log, index, brought, held)?;
         if !held.open {
-            return;
+            return Ok(());
         }
         left -= 1;
     }
+    Ok(())
 }
 
-fn main() {
-    let mut log = io::large_buffer();
-    let mut index = io::buffer();
-    let mut brought = io::buffer();
-    serve(&mut log, &mut index, &mut brought);
+fn main(rt: HostRuntime) -> io::Result<()> {
+    let mut input = rt.reader();
+    let mut output = io::writer(&rt);
+    let mut log = [0u8; 65536];
+    let mut index = [0u8; 4096];
+    let mut brought = [0u8; 4096];
+    serve(&mut input, &mut output, &mut log, &mut index, &mut brought)
 }

@@ -4,8 +4,9 @@
 // whole buffer. The oracle makes both files.
 #![tactic(auto)]
 
-use libc::{STDIN_FILENO, STDOUT_FILENO};
 use scene_records::SceneWritten;
+use std::io;
+use std::io::{ErrorKind, Read, Write};
 
 // What stands in a buffer before a move.
 const SENTINEL: u8 = 0xa5;
@@ -35,35 +36,57 @@ fn answer_call(head: &[u8], source: &[u8], answer: &mut [u8]) -> usize {
     end
 }
 
+// Fills the bytes from the input. False where the input ends before.
+fn fill(input: &mut impl Read, bytes: &mut [u8]) -> io::Result<bool> {
+    match input.read_exact(bytes) {
+        Ok(()) => Ok(true),
+        Err(error) => {
+            if error.kind() == ErrorKind::UnexpectedEof {
+                return Ok(false);
+            }
+            Err(error)
+        }
+    }
+}
+
 // One call read, made and answered. False where the input has ended, or a call has more than fits here.
-fn turn(head: &mut [u8], source: &mut [u8]) -> bool {
-    if io::read_full(STDIN_FILENO, head) < head.len() {
-        return false;
+fn turn(
+    input: &mut impl Read,
+    output: &mut impl Write,
+    head: &mut [u8],
+    source: &mut [u8],
+) -> io::Result<bool> {
+    if !fill(input, head)? {
+        return Ok(false);
     }
     let size = words::pair_at(head, 4) as usize;
     if size > source.len() {
-        return false;
+        return Ok(false);
     }
-    if io::read_full(STDIN_FILENO, &mut source[0..size]) < size {
-        return false;
+    if !fill(input, &mut source[0..size])? {
+        return Ok(false);
     }
     let mut answer: [u8; 4096] = [SENTINEL; 4096];
     let length = answer_call(head, &source[0..size], &mut answer);
     if length > answer.len() {
-        return false;
+        return Ok(false);
     }
-    io::write_all(STDOUT_FILENO, &answer[0..length])
+    output.write_all(&answer[0..length])?;
+    Ok(true)
 }
 
 // Turn behind turn; the count only bounds the loop.
-fn main() {
+fn main(rt: HostRuntime) -> io::Result<()> {
+    let mut input = rt.reader();
+    let mut output = io::writer(&rt);
     let mut head: [u8; 6] = [0; 6];
     let mut source: [u8; 4096] = [0; 4096];
     let mut left = u64::MAX;
     while left > 0 {
-        if !turn(&mut head, &mut source) {
-            return;
+        if !turn(&mut input, &mut output, &mut head, &mut source)? {
+            return Ok(());
         }
         left -= 1;
     }
+    Ok(())
 }

@@ -4,7 +4,8 @@
 
 ghost use Rattle.std.specs.Prelude.{◌≤◌, length};
 
-use libc::STDIN_FILENO;
+use std::io;
+use std::io::{ErrorKind, Read};
 use verdict::Tally;
 
 mod again;
@@ -16,35 +17,50 @@ enum Reading {
     End,
 }
 
+// Fills the bytes from the input. False where the input ends before.
+fn fill(input: &mut impl Read, bytes: &mut [u8]) -> io::Result<bool> {
+    match input.read_exact(bytes) {
+        Ok(()) => Ok(true),
+        Err(error) => {
+            if error.kind() == ErrorKind::UnexpectedEof {
+                return Ok(false);
+            }
+            Err(error)
+        }
+    }
+}
+
 // Reads a record to the start of the bytes: the two bytes of its length, then as many as they name.
-fn read(bytes: &mut [u8]) -> Reading
+fn read(input: &mut impl Read, bytes: &mut [u8]) -> io::Result<Reading>
     requires { 65537 ≤ length bytes.old }
 {
-    if io::read_full(STDIN_FILENO, &mut bytes[0..2]) < 2 {
-        return Reading::End;
+    if !fill(input, &mut bytes[0..2])? {
+        return Ok(Reading::End);
     }
     let end = 2 + words::pair_at(bytes, 0) as usize;
-    if io::read_full(STDIN_FILENO, &mut bytes[2..end]) < end - 2 {
-        return Reading::End;
+    if !fill(input, &mut bytes[2..end])? {
+        return Ok(Reading::End);
     }
-    Reading::Whole(end)
+    Ok(Reading::Whole(end))
 }
 
 // The tally of the records that are accepted, each named by its index among all of them.
-fn tally_of_input() -> Tally {
+fn tally_of_input(input: &mut impl Read) -> io::Result<Tally> {
     let mut tally = Tally::NONE;
     let mut bytes: [u8; 65537] = [0; 65537];
     let mut index: u32 = 0;
     while index < u32::MAX {
-        match read(&mut bytes) {
+        match read(input, &mut bytes)? {
             Reading::Whole(end) => tally = again::with_record(tally, &bytes, end, index),
-            Reading::End => return tally,
+            Reading::End => return Ok(tally),
         }
         index += 1;
     }
-    tally.with(false, index)
+    Ok(tally.with(false, index))
 }
 
-fn main() {
-    tally_of_input().tell(b"records written again");
+fn main(rt: HostRuntime) -> io::Result<()> {
+    let mut input = rt.reader();
+    tally_of_input(&mut input)?.tell(&rt, b"records written again")?;
+    Ok(())
 }
