@@ -62,7 +62,7 @@ fn build_into<R: Files + Print + Eprint>(
         Stage::Refused(number) => crate::tell_refused(rt, number, 0),
         // What failed is told where it was tried.
         Stage::Unwritten | Stage::Unread => {}
-        Stage::Open => files::fail_short(rt, log),
+        Stage::Open => files::fail(rt, log, files::no_error()),
     };
     false
 }

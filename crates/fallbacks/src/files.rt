@@ -1,5 +1,5 @@
 // Files on disk: what cannot be done with one is told on standard error, by its name.
-ghost use Rattle.std.specs.Prelude.{◌≤◌, length};
+ghost use Rattle.std.specs.Prelude.{◌≡◌, ◌≤◌, length};
 
 use crate::Brought;
 use std::fs;
@@ -13,11 +13,6 @@ pub(crate) fn fail(rt: &impl Eprint, name: &str, error: Error) {
     troubles::tell(rt, name, error);
 }
 
-// The same where no call has failed, and yet not all was there.
-pub(crate) fn fail_short(rt: &impl Eprint, name: &str) {
-    fail(rt, name, Error::from_raw_os_error(0));
-}
-
 // A file to read from.
 pub(crate) fn open<R: Files<File = File> + Eprint>(rt: &R, name: &str) -> Option<File> {
     match File::open(rt, name) {
@@ -29,32 +24,60 @@ pub(crate) fn open<R: Files<File = File> + Eprint>(rt: &R, name: &str) -> Option
     }
 }
 
-// Reads until the buffer is full or the file ends, and likewise at a read that fails, which the next one does too.
-fn read_full(file: &mut impl Read, buffer: &mut [u8]) -> usize
-    ensures { result ≤ length buffer.new }
+// How many bytes reads put into a buffer, and why the last of them failed.
+#[derive(Clone, Copy)]
+struct Filled {
+    count: usize,
+    error: Error,
+}
+
+// The error of a call that has not failed, as the system has it.
+pub(crate) fn no_error() -> Error {
+    Error::from_raw_os_error(0)
+}
+
+// Reads until the buffer is full, the file ends or a read fails.
+fn read_full(file: &mut impl Read, buffer: &mut [u8]) -> Filled
+    ensures { result.count ≤ length buffer.new }
 {
     let mut done = 0;
     while done < buffer.len() {
-        let n = file.read(&mut buffer[done..]).unwrap_or(0);
+        let n = match file.read(&mut buffer[done..]) {
+            Ok(n) => n,
+            Err(error) => return Filled { count: done, error },
+        };
         if n == 0 {
-            return done;
+            return Filled {
+                count: done,
+                error: no_error(),
+            };
         }
         done += n;
     }
-    done
+    Filled {
+        count: done,
+        error: no_error(),
+    }
 }
 
-// Reads until the buffer is full or the file ends.
-pub(crate) fn fill(rt: &impl Eprint, file: &mut impl Read, buffer: &mut [u8], name: &str) -> Brought
-    ensures { result.count ≤ length buffer.new }
+// So many bytes were brought. One read more shows whether the file can be read.
+fn see_more(rt: &impl Eprint, file: &mut impl Read, count: usize, name: &str) -> Brought
+    ensures { result.count ≡ count }
 {
-    let count = read_full(file, buffer);
     let mut next = [0u8; 1];
     if let Err(error) = file.read(&mut next) {
         fail(rt, name, error);
         return Brought { good: false, count };
     }
     Brought { good: true, count }
+}
+
+// Reads until the buffer is full or the file ends. It stops likewise at a read that fails, which the next one does too.
+pub(crate) fn fill(rt: &impl Eprint, file: &mut impl Read, buffer: &mut [u8], name: &str) -> Brought
+    ensures { result.count ≤ length buffer.new }
+{
+    let filled = read_full(file, buffer);
+    see_more(rt, file, filled.count, name)
 }
 
 // Whether the next read or write of a file is at a place.
@@ -69,7 +92,7 @@ pub(crate) fn go_to(rt: &impl Eprint, file: &File, place: u64, name: &str) -> bo
     }
 }
 
-// The same from an offset on, where so many bytes must be there: fewer are a read that has failed.
+// Reads likewise from an offset on, where so many bytes must be there: fewer are a read that has failed.
 pub(crate) fn read_at(
     rt: &impl Eprint,
     file: &File,
@@ -87,12 +110,13 @@ pub(crate) fn read_at(
         };
     }
     let mut from = file;
-    let brought = fill(rt, &mut from, buffer, name);
+    let filled = read_full(&mut from, buffer);
+    let brought = see_more(rt, &mut from, filled.count, name);
     if brought.count >= want {
         return brought;
     }
     if brought.good {
-        fail_short(rt, name);
+        fail(rt, name, filled.error);
     }
     Brought {
         good: false,
