@@ -10,7 +10,6 @@ use linear_programming::{Answer, FailedLine, Phase};
 use lines::Line;
 use obstacles::ObstacleLines;
 use one_line::Cause;
-use std::io;
 use verdict::Tally;
 
 // ---- whether an answer is the one that a case names, zeros of either sign equal
@@ -278,8 +277,7 @@ fn points(t: Tally) -> Tally {
         .with(is_told(made(1, &near[0..1], 0, 1.0), 2), 12)
 }
 
-fn main(rt: HostRuntime) -> io::Result<()> {
+fn main(rt: HostRuntime) {
     let lists = limits(examined(causes(two_lines(single_lines(starts(Tally::NONE))))));
-    points(walls(roots(lists))).tell(&rt, b"bench cases")?;
-    Ok(())
+    points(walls(roots(lists))).tell(&rt, b"bench cases");
 }

@@ -10,7 +10,6 @@ use lines::{Line, Origin};
 use replay_records::{Walk, first_numbers, number_at, vector_at};
 use replay_standings::is_standing;
 use session::{Fed, Session, Unmet};
-use std::io;
 
 // A walk over the records, and the session on its way.
 #[derive(Drop)]
@@ -367,11 +366,10 @@ fn walked(start: Playing) -> Walk {
     walk
 }
 
-fn main(rt: HostRuntime) -> io::Result<()> {
+fn main(rt: HostRuntime) {
     let none = Session::start(common::Vec2::ZERO, 0.0, 0);
     let session = none.session;
     let walk = Walk::open(&rt, b"histories");
     let start = Playing { walk, session };
-    walked(start).tell(&rt, b"histories")?;
-    Ok(())
+    walked(start).tell(&rt, b"histories");
 }

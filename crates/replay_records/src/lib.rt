@@ -2,14 +2,13 @@
 // inputs, and answers to compare with. Words are big-endian.
 #![tactic(auto)]
 
-ghost use Rattle.std.specs.Prelude.{◌≡◌, ◌-◌, ◌≤◌, IfOk, length, take};
+ghost use Rattle.std.specs.Prelude.{◌≡◌, ◌-◌, ◌≤◌, length, take};
 ghost use Rattle.verdict.specs.Tallies.{no_vectors, is_good};
 ghost use Rattle.replay_records.specs.Answers.{number_at, vector_at, is_number, is_vector, is_flag, agrees_with};
 ghost use Rattle.replay_records.specs.Records.{first_numbers};
 
 use common::Vec2;
 use std::fs::File;
-use std::io;
 use std::io::Read;
 use std::rt::Files;
 use verdict::Tally;
@@ -96,8 +95,8 @@ impl Walk {
     }
 
     // Writes the set's line, as a tally tells it, and answers whether it is good.
-    pub fn tell(self, rt: &impl Print, set: &[u8]) -> io::Result<bool>
-        ensures { IfOk result (λ good. good ≡ is_good self.tally) }
+    pub fn tell(self, rt: &impl Print, set: &[u8]) -> bool
+        ensures { result ≡ is_good self.tally }
     {
         let tally = self.tally;
         tally.tell(rt, set)

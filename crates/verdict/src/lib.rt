@@ -1,7 +1,7 @@
 // How many vectors of a set were good, and the line that tells it.
 #![tactic(auto)]
 
-ghost use Rattle.std.specs.Prelude.{◌≡◌, IfOk};
+ghost use Rattle.std.specs.Prelude.{◌≡◌};
 ghost use Rattle.verdict.specs.Tallies.{more_of, first_of, with_of, is_good};
 
 use std::io;
@@ -49,21 +49,24 @@ impl Tally {
 
     // Writes the set's line to standard output, and answers whether the tally is good. The line is
     // `SET: ok N`, `SET: bad N, the first is NAME` with the name in eight hexadecimal digits, or `SET: bad, no vectors`.
-    // The answer is proved, where the line could be written. What is written no contract can say: programs are run, and
-    // their lines compared.
-    pub fn tell(self, rt: &impl Print, set: &[u8]) -> io::Result<bool>
-        ensures { IfOk result (λ good. good ≡ is_good self) }
+    // The answer is proved. What is written no contract can say: programs are run, and their lines compared. A line that
+    // cannot be written is lost, and the answer is given all the same.
+    pub fn tell(self, rt: &impl Print, set: &[u8]) -> bool
+        ensures { result ≡ is_good self }
     {
-        let good = self.is_good();
-        rt.write_all(set)?;
-        if good {
-            let count = self.good;
-            println!(rt; ": ok {count}")?;
-        } else {
-            tell_bad(self, rt)?;
-        }
-        Ok(good)
+        let _ = tell_line(self, rt, set);
+        self.is_good()
     }
+}
+
+// The set's line.
+fn tell_line(t: Tally, rt: &impl Print, set: &[u8]) -> io::Result<()> {
+    rt.write_all(set)?;
+    if t.is_good() {
+        let good = t.good;
+        return println!(rt; ": ok {good}");
+    }
+    tell_bad(t, rt)
 }
 
 // What follows the set's name in the line of a tally that is not good.

@@ -61,6 +61,6 @@ fn tally_of_input(input: &mut impl Read) -> io::Result<Tally> {
 
 fn main(rt: HostRuntime) -> io::Result<()> {
     let mut input = rt.reader();
-    tally_of_input(&mut input)?.tell(&rt, b"records written again")?;
+    tally_of_input(&mut input)?.tell(&rt, b"records written again");
     Ok(())
 }
