@@ -1,6 +1,8 @@
 // What a program has to tell of the system: that something failed, and why, on standard error; and an argument that
-// cannot be used. Only programs use it, and nothing is promised of it.
+// cannot be used. Only programs use it. What the system holds or takes no contract can say: of `text` alone one speaks.
 #![tactic(auto)]
+
+ghost use Rattle.std.specs.Prelude.{◌≡◌, IsUtf8, MatchResult};
 
 use std::env::FillError;
 use std::fmt::InlineText;
@@ -42,7 +44,9 @@ pub fn argument<'a, R: Env>(rt: &R, i: usize, buffer: &'a mut [u8]) -> io::Resul
 }
 
 // Bytes as text, where they are UTF-8.
-pub fn text(bytes: &[u8]) -> io::Result<&str> {
+pub fn text(bytes: &[u8]) -> io::Result<&str>
+    ensures { MatchResult result (λ s. (s.now ≡ bytes.now) × IsUtf8 bytes.now) (λ e. IsUtf8 bytes.now → ⊥) }
+{
     match str::from_utf8(bytes) {
         Ok(text) => Ok(text),
         Err(_) => Err(Error::from_raw_os_error(NO_TEXT)),
