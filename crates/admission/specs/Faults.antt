@@ -1,9 +1,9 @@
 -- 01, "Refusal numbers": "The first fault in this order is told." Definitions only. Assumes nothing.
-use Rattle.std.specs.Prelude.{ℕ, ◌+◌, Bool, true, false, ◌&&◌, leb, Float}
+use Rattle.std.specs.Prelude.{ℕ, ◌+◌, Bool, true, false, ◌&&◌, leb, Float, Result, Ok, Err, ⊤}
 use Rattle.arithmetic.specs.Binary32.{◌≤ᶠ◌}
 use Rattle.arithmetic.specs.Ends.{abs_of}
-use Rattle.admission.specs.declared.Judged.{Judged}
-use Rattle.admission.specs.declared.Judged.TheVariants as judged
+use Rattle.admission.specs.declared.refusal.Refusal.{Refusal}
+use Rattle.admission.specs.Refusals.{number_of, refusal_of}
 
 pub data Fault : Type 0 where
   fine : Fault
@@ -37,11 +37,20 @@ inside low high x = low ≤ᶠ x && x ≤ᶠ high
 abbrev pub fits_behind : ℕ → ℕ → ℕ → Bool
 fits_behind most before more = leb (before + more) most
 
--- what a judgement of the code says, and the judgement that says it
-abbrev pub fault_of : Judged → Fault
-fault_of judged.Fine = fine
-fault_of (judged.Fault r) = fault r
+-- the same over whatever tells a fault: the rule passes, or the fault is told; the first of two is
+abbrev pub unless : {E : Type 0} → Bool → E → Result ⊤ E
+unless true e = Ok tt
+unless false e = Err e
 
-abbrev pub judged_as : Fault → Judged
-judged_as fine = judged.Fine
-judged_as (fault r) = judged.Fault r
+abbrev pub first_told : {E : Type 0} → Result ⊤ E → Result ⊤ E → Result ⊤ E
+first_told (Ok _) second = second
+first_told (Err e) second = Err e
+
+-- what a judgement of the code says, in 01's numbers, and the judgement that says it
+abbrev pub fault_of : Result ⊤ Refusal → Fault
+fault_of (Ok _) = fine
+fault_of (Err r) = fault (number_of r)
+
+abbrev pub judged_as : Fault → Result ⊤ Refusal
+judged_as fine = Ok tt
+judged_as (fault n) = Err (refusal_of n)

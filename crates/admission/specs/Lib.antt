@@ -1,3 +1,4 @@
 -- The definitions that the contracts of `admission` cite.
 pub mod Faults
 pub mod Heads
+pub mod Refusals

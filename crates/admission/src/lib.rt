@@ -1,15 +1,16 @@
-// Judgements of what is admitted (01, "What is admitted", "Refusal numbers"): fine, or the number of the first fault.
+// Judgements of what is admitted (01, "What is admitted", "Refusal numbers"): fine, or the first refusal.
 #![tactic(auto)]
 
 ghost use Rattle.std.specs.Prelude.{◌≡◌};
-ghost use Rattle.admission.specs.Faults.{◌⊳◌, must, within, inside, fits_behind, fault_of};
+ghost use Rattle.admission.specs.Faults.{unless, first_told, within, inside, fits_behind};
 ghost use Rattle.admission.specs.Heads.{is_kind, room_for, is_empty_open};
 
-#[derive(Clone, Copy)]
-pub enum Judged {
-    Fine,
-    Fault(u8),
-}
+mod refusal;
+
+pub use refusal::Refusal;
+
+// Fine, or the first fault, by its refusal.
+pub type Judged = Result<(), Refusal>;
 
 // Whether a number's magnitude is at most the bound. A NaN's is not. It is asked of both ends, which takes no magnitude.
 pub fn is_within(bound: f32, x: f32) -> bool
@@ -35,24 +36,22 @@ pub fn fits_behind(most: usize, before: usize, more: usize) -> bool
     more <= most - before
 }
 
-// The fault with the number, unless the rule passes.
-pub fn fault_unless(passes: bool, number: u8) -> Judged
-    ensures { fault_of result ≡ must passes number }
+// The fault, unless the rule passes.
+pub fn fault_unless<E: Drop>(passes: bool, fault: E) -> Result<(), E>
+    ensures { result ≡ unless passes fault }
 {
     if passes {
-        return Judged::Fine;
+        return Ok(());
     }
-    Judged::Fault(number)
+    Err(fault)
 }
 
 // The first fault of two judgements.
-pub fn first_of(first: Judged, second: Judged) -> Judged
-    ensures { fault_of result ≡ (fault_of first ⊳ fault_of second) }
+pub fn first_of<E: Drop>(first: Result<(), E>, second: Result<(), E>) -> Result<(), E>
+    ensures { result ≡ first_told first second }
 {
-    match first {
-        Judged::Fine => second,
-        Judged::Fault(_) => first,
-    }
+    first?;
+    second
 }
 
 // An obstacle's kind, and how many vertices it has.

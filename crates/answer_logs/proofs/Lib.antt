@@ -4,3 +4,4 @@ pub mod RecordLaws
 pub mod PartLaws
 pub mod CutLaws
 pub mod Worked
+pub mod Agreement

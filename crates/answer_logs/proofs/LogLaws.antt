@@ -9,13 +9,22 @@ use lib.ListN.{length, get_or, take, drop, length-drop, drop_of_length-le}
 use lib.Seq.{get_or-drop, take_all}
 use native.Mathlib.Nat.{add-zero}
 use borrow.Author.Tests.{ne_eqb}
+use Rattle.std.specs.Prelude.{Ok}
 use Rattle.words.specs.Words.{pair_of}
-use Rattle.admission.specs.Faults.{Fault, must, ◌⊳◌, unless_fault}
+use Rattle.admission.specs.Faults.{Fault, fault, must, ◌⊳◌, unless_fault}
+use Rattle.admission.proofs.FaultLaws.{no-fault}
 use Rattle.answer_records.specs.Replies as said
 use Rattle.answer_records.specs.Answers.{answer_version}
-use Rattle.answer_records.specs.Replies.{Said, is_length, length_of_code, answer_fault, answer_in}
-use Rattle.answer_logs.specs.Logs.{bad, found_as, size_in, found_in, replied_as, logged_as, logged_at}
-use Rattle.answer_logs.specs.declared.Logged.TheVariants as logged
+use Rattle.answer_records.specs.declared.Reply.{Reply}
+use Rattle.answer_records.specs.declared.Reply.TheVariants as reply
+use Rattle.answer_records.specs.Replies.{Said, said_of, is_length, length_of_code, answer_fault, answer_in}
+use Rattle.answer_logs.specs.Logs.{bad, entry_of, found_as, size_in, found_in, replied_as, logged_as, logged_at}
+use Rattle.answer_logs.specs.Logs as logged
+
+-- a rule that is told did not pass, and is told by its number
+pub rule-told : (b : Bool) (n r : ℕ) → fault r ≡ must b n → (b ≡ false) × (r ≡ n)
+rule-told true n r e = absurd (no-fault r (sym e))
+rule-told false n r e = (refl, ap (λ (f : Fault). unless_fault (λ (m : ℕ). m) f 0) e)
 
 -- bytes that do not match their length are the fault 2, whatever stands in them
 unmatched : (there named : Bool) (f : Fault) (r : Said) →
@@ -49,8 +58,12 @@ replied-at at size (said.outcome a) = refl
 replied-at at size (said.refusal n) = refl
 replied-at at size (said.unreadable n) = refl
 
+pub said-placed : (behind : ℕ) (r : Reply) → logged.placed (entry_of r) behind ≡ replied_as behind (said_of (Ok r))
+said-placed behind (reply.Outcome a) = refl
+said-placed behind (reply.Refusal r) = refl
+
 module _ (s : List ℕ) (at : ℕ) where
-  pub at-end : length s ≤ at → logged.End ≡ logged_at s at
+  pub at-end : length s ≤ at → logged.nothing ≡ logged_at s at
   unfolding logged_at found_in
   at-end h = rw (drop_of_length-le s h)
 
@@ -58,7 +71,7 @@ module _ (s : List ℕ) (at : ℕ) where
     there : 0 < length (drop at s)
     there = omega (arith, length-drop at s)
 
-    pub at_cut : length s < at + 2 + n → logged.Fault 2 ≡ logged_at s at
+    pub at_cut : length s < at + 2 + n → logged.faulty 2 ≡ logged_at s at
     unfolding logged_at
     at_cut k = sym (ap (logged_as at) (found-cut (drop at s) there (omega (arith, length-drop at s, size-at s at))))
 

@@ -11,9 +11,8 @@ use borrow.Author.Tests.{lt-ltb, le-ltb, le-leb, lt-leb}
 use Rattle.arithmetic.proofs.Choice.{if-all}
 use Rattle.words.specs.Words.{pair_of}
 use Rattle.answer_records.specs.Answers.{longest_answer}
-use Rattle.answer_logs.specs.declared.Logged.{Logged}
-use Rattle.answer_logs.specs.declared.Logged.TheVariants as logged
-use Rattle.answer_logs.specs.Logs.{outcome, refusal, Found, ended, bad, entry, logged_as, logged_at}
+use Rattle.answer_logs.specs.Logs as logged
+use Rattle.answer_logs.specs.Logs.{Logged, Found, ended, bad, entry, logged_as, logged_at}
 use Rattle.answer_logs.specs.Parts.{waits, found_whole, whole_at, Wholes, reached, stopped, ahead_whole, no_more_whole, onward_whole, wholes_from}
 use Rattle.answer_logs.proofs.LogLaws.{size-at}
 use Rattle.answer_logs.proofs.RecordLaws.{Stands, no_record, stands}
@@ -43,17 +42,15 @@ whole-stands s at = if-all (λ (f : Found). Stands s at (logged_as at f)) (waits
 
 -- where more says the records from a byte on
 abbrev pub onward_at : ℕ → ℕ → (ℕ → Wholes) → Logged → Wholes
-onward_at at place more logged.End = reached [] 0
-onward_at at place more (logged.Fault n) = stopped n place
-onward_at at place more (logged.Outcome a behind) = ahead_whole (outcome a) (behind - at) (more behind)
-onward_at at place more (logged.Refusal n behind) = ahead_whole (refusal n) (behind - at) (more behind)
+onward_at at place more logged.nothing = reached [] 0
+onward_at at place more (logged.faulty n) = stopped n place
+onward_at at place more (logged.placed e behind) = ahead_whole e (behind - at) (more behind)
 
 module _ (place at : ℕ) (here more : ℕ → Wholes) (same : (size : ℕ) → here size ≡ more (at + size)) where
   onward-at : (f : Found) → onward_whole place here f ≡ onward_at at place more (logged_as at f)
   onward-at ended = refl
   onward-at (bad n) = refl
-  onward-at (entry (outcome a) size) = let back : at + size - at ≡ size = omega arith in rw (back, same size)
-  onward-at (entry (refusal n) size) = let back : at + size - at ≡ size = omega arith in rw (back, same size)
+  onward-at (entry e size) = let back : at + size - at ≡ size = omega arith in rw (back, same size)
 
 module _ (place : ℕ) (s : List ℕ) (at : ℕ) where
   pub next-whole : (left : ℕ) → wholes_from (suc left) place (drop at s)

@@ -16,9 +16,8 @@ use Rattle.answer_records.specs.Replies as said
 use Rattle.answer_records.specs.Answers.{outcome_length, refusal_length, refused_code}
 use Rattle.answer_records.specs.Replies.{Said, length_of_code, answer_fault, outcome_in, answer_in}
 use Rattle.answer_records.proofs.ReplyLaws.{faultless, refusal-named, refusal-coded}
-use Rattle.answer_logs.specs.declared.Logged.{Logged}
-use Rattle.answer_logs.specs.declared.Logged.TheVariants as logged
-use Rattle.answer_logs.specs.Logs.{found_as, size_in, found_in, logged_as, logged_at}
+use Rattle.answer_logs.specs.Logs as logged
+use Rattle.answer_logs.specs.Logs.{outcome, refusal, Logged, found_as, size_in, found_in, logged_as, logged_at}
 use Rattle.answer_logs.proofs.LogLaws.{found-there, found-cut}
 
 -- ---- the numbers of a record
@@ -56,12 +55,12 @@ module _ (s : List ℕ) where
 
 -- what stands at a byte of a log: a record lies within it
 pub data Stands (s : List ℕ) (at : ℕ) : Logged → Type 0 where
-  no_record : Stands s at logged.End
-  bad-record : {n : ℕ} → Stands s at (logged.Fault n)
+  no_record : Stands s at logged.nothing
+  bad-record : {n : ℕ} → Stands s at (logged.faulty n)
   an-outcome : {a : Answer} {behind : ℕ} → at < behind → behind ≤ length s → length_of_code a.code ≡ outcome_length →
-      Stands s at (logged.Outcome a behind)
+      Stands s at (logged.placed (outcome a) behind)
   a-refusal : {n behind : ℕ} → at < behind → behind ≤ length s → length_of_code (128 + n) ≡ refusal_length →
-      Stands s at (logged.Refusal n behind)
+      Stands s at (logged.placed (refusal n) behind)
 
 module _ (s : List ℕ) (at : ℕ) where
   stands-reply : (size : ℕ) (r : Said) → Coded r → 0 < size → at + size ≤ length s → Stands s at (logged_as at (found_as size r))

@@ -1,13 +1,15 @@
 -- How a log of answer records is cut into records, and the list of them (02, T-02). Definitions only. Assumes nothing.
-use Rattle.std.specs.Prelude.{ℕ, zero, suc, ◌+◌, List, [], ◌∷◌, take, drop}
+use Rattle.std.specs.Prelude.{ℕ, zero, suc, ◌+◌, List, [], ◌∷◌, take, drop, Option, Some, None, Result, Ok, Err}
 use Rattle.std.specs.Borrow.{Bor}
 use Rattle.words.specs.Words.{pair_of}
+use Rattle.admission.specs.declared.refusal.Refusal.{Refusal}
+use Rattle.admission.specs.Refusals.{number_of}
 use Rattle.answer_records.specs.declared.Answer.{Answer}
+use Rattle.answer_records.specs.declared.Reply.{Reply}
+use Rattle.answer_records.specs.declared.Reply.TheVariants as reply
 use Rattle.answer_records.specs.Replies as said
 use Rattle.answer_records.specs.Replies.{Said, answer_in}
 use Rattle.answer_logs.specs.declared.AnswerLog.{AnswerLog}
-use Rattle.answer_logs.specs.declared.Logged.{Logged}
-use Rattle.answer_logs.specs.declared.Logged.TheVariants as logged
 
 -- a record of a log: an outcome, or a scene's refusal by its number
 pub data Entry : Type 0 where
@@ -34,25 +36,52 @@ unfoldable pub found_in : List ℕ → Found
 found_in [] = ended
 found_in (x ∷ s) = found_as (size_in (x ∷ s)) (answer_in (take (size_in (x ∷ s)) (x ∷ s)))
 
+-- what stands at a byte of a log: nothing, at its end; a bad record, by the number of its fault; a record and the byte behind it
+pub data Logged : Type 0 where
+  nothing : Logged
+  faulty : ℕ → Logged
+  placed : Entry → ℕ → Logged
+
 -- what a record says, with the byte behind the record
 abbrev pub replied_as : ℕ → Said → Logged
-replied_as behind (said.outcome a) = logged.Outcome a behind
-replied_as behind (said.refusal n) = logged.Refusal n behind
-replied_as behind (said.unreadable n) = logged.Fault n
+replied_as behind (said.outcome a) = placed (outcome a) behind
+replied_as behind (said.refusal n) = placed (refusal n) behind
+replied_as behind (said.unreadable n) = faulty n
 
 abbrev pub logged_as : ℕ → Found → Logged
-logged_as at ended = logged.End
-logged_as at (bad n) = logged.Fault n
-logged_as at (entry (outcome a) size) = logged.Outcome a (at + size)
-logged_as at (entry (refusal n) size) = logged.Refusal n (at + size)
+logged_as at ended = nothing
+logged_as at (bad n) = faulty n
+logged_as at (entry e size) = placed e (at + size)
 
 -- what stands at a byte of a log, with the byte behind it
 unfoldable pub logged_at : List ℕ → ℕ → Logged
 logged_at log at = logged_as at (found_in (drop at log))
 
+-- what the code says of it
+abbrev pub entry_of : Reply → Entry
+entry_of (reply.Outcome a) = outcome a
+entry_of (reply.Refusal r) = refusal (number_of r)
+
+abbrev pub logged_of : Result (Option (Reply × ℕ)) Refusal → Logged
+logged_of (Ok (Some (r, behind))) = placed (entry_of r) behind
+logged_of (Ok None) = nothing
+logged_of (Err r) = faulty (number_of r)
+
 -- the reader of a log from a byte on
 abbrev pub reader_at : Bor (List ℕ) → ℕ → AnswerLog
 reader_at log at = record { log = log; at = at }
+
+-- what a reader hands on, which stands at a byte then
+abbrev pub handed_on : ℕ → Result (Option Reply) Refusal → Logged
+handed_on behind (Ok (Some r)) = placed (entry_of r) behind
+handed_on behind (Ok None) = nothing
+handed_on behind (Err r) = faulty (number_of r)
+
+-- the reader behind what stood there
+abbrev pub reader_behind : AnswerLog → Logged → AnswerLog
+reader_behind reader (placed e behind) = reader_at reader.log behind
+reader_behind reader nothing = reader
+reader_behind reader (faulty n) = reader
 
 -- all records of a log; or the refusal's number, and the place of the record that is refused, counted from 0
 pub data Records : Type 0 where

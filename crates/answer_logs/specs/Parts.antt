@@ -2,8 +2,7 @@
 use Rattle.std.specs.Prelude.{ℕ, zero, suc, ◌+◌, Bool, ◌&&◌, ◌||◌, List, [], ◌∷◌, leb, ltb, length, drop}
 use Rattle.arithmetic.specs.Binary32.{when◌then◌else◌}
 use Rattle.answer_records.specs.Answers.{longest_answer}
-use Rattle.answer_logs.specs.declared.Logged.{Logged}
-use Rattle.answer_logs.specs.Logs.{Entry, Found, ended, bad, entry, size_in, found_in, logged_as}
+use Rattle.answer_logs.specs.Logs.{Entry, Logged, Found, ended, bad, entry, size_in, found_in, logged_as}
 
 -- bytes that may be the start of a record which is not all there: its length is missing, or it names no more bytes than
 -- an answer has, and some are missing

@@ -2,21 +2,14 @@
 #![tactic(auto)]
 
 ghost use Rattle.std.specs.Prelude.{◌≡◌, drop};
-ghost use Rattle.answer_records.specs.Replies.{said_of};
-ghost use Rattle.answer_logs.specs.Logs.{replied_as, logged_at, reader_at};
+ghost use Rattle.answer_logs.specs.Logs.{logged_of, handed_on, logged_at, reader_at, reader_behind};
 ghost use Rattle.answer_logs.specs.Parts.{waits, whole_at};
 
+use admission::Refusal;
 use answer_records::{Answer, Reply};
 
-// What stands at a byte of a log: an outcome or a scene's refusal, each with the byte behind its record;
-// the number of a bad record's fault; or the log's end.
-#[derive(Clone, Copy)]
-pub enum Logged {
-    Outcome(Answer, usize),
-    Refusal(u8, usize),
-    Fault(u8),
-    End,
-}
+// What stands at a byte of a log: a record and the byte behind it, or nothing at the log's end. A bad record is refused.
+pub type Logged = Result<Option<(Reply, usize)>, Refusal>;
 
 // A log, and the byte in it where the next record begins.
 #[derive(Clone, Copy)]
@@ -33,29 +26,39 @@ impl<'a> AnswerLog<'a> {
         AnswerLog { log, at }
     }
 
-    // The record at the reader's byte. The next reader is made at the byte behind it, since an enum holds no reader.
-    pub fn next(self) -> Logged
-        ensures { result ≡ logged_at self.entry.log.now self.entry.at }
+    // The record at the reader's byte, behind which it stands then. It stays at the log's end, and at a bad record.
+    pub fn next(&mut self) -> Result<Option<Reply>, Refusal>
+        ensures hands { handed_on self.new.at result ≡ logged_at self.old.log.now self.old.at }
+        ensures stands { self.new ≡ reader_behind self.old (logged_at self.old.log.now self.old.at) }
     {
-        logged_at(self.log, self.at)
+        let Some((reply, behind)) = logged_at(self.log, self.at)? else {
+            return Ok(None);
+        };
+        self.at = behind;
+        Ok(Some(reply))
     }
 }
 
-// The record at a byte of a log, through its reader. At the log's end, and past it, End. Fewer than two bytes, a length
-// that is neither 16 nor 2, or fewer bytes than it names are the fault 2; another version 1; a code not of its length 2.
+// The record at a byte of a log, through its reader. At the log's end, and past it, there is none. Fewer than two bytes, a
+// length that is neither 16 nor 2, or fewer bytes than it names are refused with 2; another version with 1; a code not of
+// its length with 2.
 pub fn record_at(log: &[u8], at: usize) -> Logged
-    ensures { result ≡ logged_at log.now at }
+    ensures { logged_of result ≡ logged_at log.now at }
 {
-    AnswerLog::new(log, at).next()
+    let mut reader = AnswerLog::new(log, at);
+    let Some(reply) = reader.next()? else {
+        return Ok(None);
+    };
+    Ok(Some((reply, reader.at)))
 }
 
-// The record at a byte of a part of a log, behind which more may come: as `record_at`, but End also where the bytes there
-// may be the start of a record that is not all there.
+// The record at a byte of a part of a log, behind which more may come: as `record_at`, but there is none also where the
+// bytes there may be the start of a record that is not all there.
 pub fn whole_at(part: &[u8], at: usize) -> Logged
-    ensures { result ≡ whole_at part.now at }
+    ensures { logged_of result ≡ whole_at part.now at }
 {
     if waits(part, at) {
-        return Logged::End;
+        return Ok(None);
     }
     record_at(part, at)
 }
@@ -81,28 +84,16 @@ fn waits(part: &[u8], at: usize) -> bool
 
 // What the reader's `next`, and so `record_at`, answers.
 fn logged_at(log: &[u8], at: usize) -> Logged
-    ensures { result ≡ logged_at log.now at }
+    ensures { logged_of result ≡ logged_at log.now at }
 {
     if log.len() <= at {
-        return Logged::End;
+        return Ok(None);
     }
     if log.len() - at < 2 {
-        return Logged::Fault(2);
+        return Err(Refusal::MissingOrLeftOver);
     }
     let behind = at + 2 + words::pair_at(log, at) as usize;
-    if log.len() < behind {
-        return Logged::Fault(2);
-    }
-    replied(answer_records::read_answer(&log[at..behind]), behind)
-}
-
-// A record's reply, with the byte behind the record.
-fn replied(reply: Reply, behind: usize) -> Logged
-    ensures { result ≡ replied_as behind (said_of reply) }
-{
-    match reply {
-        Reply::Outcome(answer) => Logged::Outcome(answer, behind),
-        Reply::Refusal(number) => Logged::Refusal(number, behind),
-        Reply::Fault(fault) => Logged::Fault(fault),
-    }
+    Refusal::MissingOrLeftOver.unless(behind <= log.len())?;
+    let reply = answer_records::read_answer(&log[at..behind])?;
+    Ok(Some((reply, behind)))
 }

@@ -2,5 +2,6 @@
 pub mod WrittenLaws
 pub mod ReplyLaws
 pub mod RoundTrips
+pub mod NumberLaws
 pub mod Agreement
 pub mod Constants

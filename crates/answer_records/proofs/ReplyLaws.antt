@@ -1,8 +1,11 @@
 -- Laws of reading a record: what a record without a fault is. Assumes nothing.
-use Rattle.std.proofs.Common.{◌≡◌, ℕ, ◌+◌, ◌≤◌, true, ◌&&◌, eqb, leb, ◌⊎◌, List, length, get_or, ◌∙◌, inl, inr, ⊎_elim, arith, eqb-true, leb-true}
+use Rattle.std.proofs.Common.{◌≡◌, ℕ, ◌+◌, ◌≤◌, true, ◌&&◌, eqb, leb, ◌⊎◌, List, length, get_or, ◌∙◌, refl, inl, inr, ⊎_elim, arith, eqb-true, leb-true}
 use Rattle.arithmetic.proofs.Choice.{if-all, if-case, and_left, and_right, or_cases}
 use Rattle.words.specs.Words.{pair_of}
-use Rattle.admission.specs.Faults.{fine, must}
+use Rattle.std.specs.Prelude.{⊤, Result, Ok, Err}
+use Rattle.std.specs.Result.{result_and}
+use Rattle.admission.specs.declared.refusal.Refusal.{Refusal}
+use Rattle.admission.specs.Faults.{fine, must, ◌⊳◌, fault_of}
 use Rattle.admission.proofs.FaultLaws.{⊳-fine, must-fine}
 use Rattle.answer_records.specs.Answers.{outcome_length, refusal_length, answer_version, refused_code}
 use Rattle.answer_records.specs.Replies.{is_length, is_refusal_code, length_of_code, answer_fault}
@@ -14,6 +17,11 @@ two-lengths n h = ⊎_elim (λ e. inl (eqb-true _ _ e)) (λ e. inr (eqb-true _ _
 
 pub has_code : (n : ℕ) → is_length n ≡ true → 2 ≤ n
 has_code n h = ⊎_elim (λ e. omega arith) (λ e. omega arith) (two-lengths n h)
+
+-- the first of two judgements
+pub and-told : (one other : Result ⊤ Refusal) → fault_of (result_and one other) ≡ (fault_of one ⊳ fault_of other)
+and-told (Ok u) other = refl
+and-told (Err r) other = refl
 
 -- a record without a fault
 pub record Faultless (s : List ℕ) : Type 0 where
@@ -70,5 +78,18 @@ module _ (s : List ℕ) (e : answer_fault s ≡ fine) (other : pair_of s 0 ≡ o
   pub refusal-named : pair_of s 0 ≡ refusal_length
   refusal-named = ⊎_elim (λ n. absurd (other n)) (λ n. n) (two-lengths (pair_of s 0) (faultless s e).named)
 
+  pub refusal-of-code : length_of_code (get_or s 3 0) ≡ refusal_length
+  refusal-of-code = (faultless s e).coded ∙ refusal-named
+
   pub refusal-coded : refused_code ≤ get_or s 3 0
-  refusal-coded = omega (arith, (refusal-code (get_or s 3 0) ((faultless s e).coded ∙ refusal-named)).0)
+  refusal-coded = omega (arith, (refusal-code (get_or s 3 0) refusal-of-code).0)
+
+-- the refusals' codes, one by one
+pub last-code : (k : ℕ) → length_of_code k ≡ refusal_length → (k ≤ 138) ⊎ (k ≡ 142)
+unfolding length_of_code
+last-code k =
+    if-case (λ (n : ℕ). n ≡ refusal_length → (k ≤ 138) ⊎ (k ≡ 142)) (leb 1 k && leb k 5) (λ b e. absurd (omega arith))
+    (λ b. if-case (λ (n : ℕ). n ≡ refusal_length → (k ≤ 138) ⊎ (k ≡ 142)) (is_refusal_code k)
+    (λ d e. ⊎_elim (λ x. inl (leb-true k 138 (and_right (leb 129 k) (leb k 138) x))) (λ x. inr (eqb-true k 142 x))
+    (or_cases (leb 129 k && leb k 138) (eqb k 142) d))
+    (λ d e. absurd (omega arith)))

@@ -1,9 +1,9 @@
 -- The bytes of answer records, and what writing them to a lent buffer leaves (01, "Records (ours)"). Definitions only.
 -- Assumes nothing.
-use Rattle.std.specs.Prelude.{ℕ, ◌+◌, ◌%◌, List, [], ◌∷◌, ◌++◌, length, drop, nat_le}
+use Rattle.std.specs.Prelude.{ℕ, ◌+◌, ◌%◌, List, [], ◌∷◌, ◌++◌, length, drop, nat_le, ⊤, Result}
 use Rattle.arithmetic.specs.Binary32.{when◌then◌else◌}
 use Rattle.fields.specs.Bytes.{big_endian}
-use Rattle.admission.specs.declared.Judged.{Judged}
+use Rattle.admission.specs.declared.refusal.Refusal.{Refusal}
 use Rattle.admission.specs.Faults.{Fault, fine, fault, fault_of}
 use Rattle.answer_records.specs.declared.Answer.{Answer}
 
@@ -47,7 +47,7 @@ pub record Written : Type 0 where
 abbrev pub written : Fault → List ℕ → Written
 written f l = record { told = f; contents = l }
 
-abbrev pub written_of : Judged → List ℕ → Written
+abbrev pub written_of : Result ⊤ Refusal → List ℕ → Written
 written_of r l = written (fault_of r) l
 
 -- the bytes at the buffer's start, and behind them what stood there; a buffer too short for them is refused with 10 and

@@ -1,7 +1,9 @@
 -- What reading an answer record gives (01, "Records (ours)", "The answer reader .."). Definitions only. Assumes nothing.
-use Rattle.std.specs.Prelude.{ℕ, ◌+◌, ◌-◌, Bool, ◌&&◌, ◌||◌, List, length, ◌==◌, nat_eq, nat_le, slice_index}
+use Rattle.std.specs.Prelude.{ℕ, ◌+◌, ◌-◌, Bool, ◌&&◌, ◌||◌, List, length, ◌==◌, nat_eq, nat_le, slice_index, Result, Ok, Err}
 use Rattle.arithmetic.specs.Binary32.{when◌then◌else◌}
 use Rattle.words.specs.Words.{pair_of, word_of}
+use Rattle.admission.specs.declared.refusal.Refusal.{Refusal}
+use Rattle.admission.specs.Refusals.{number_of}
 use Rattle.admission.specs.Faults.{Fault, must, ◌⊳◌, unless_fault}
 use Rattle.answer_records.specs.declared.Answer.{Answer}
 use Rattle.answer_records.specs.declared.Reply.{Reply}
@@ -15,10 +17,10 @@ pub data Said : Type 0 where
   refusal : ℕ → Said
   unreadable : ℕ → Said
 
-abbrev pub said_of : Reply → Said
-said_of (reply.Outcome a) = outcome a
-said_of (reply.Refusal n) = refusal n
-said_of (reply.Fault n) = unreadable n
+abbrev pub said_of : Result Reply Refusal → Said
+said_of (Ok (reply.Outcome a)) = outcome a
+said_of (Ok (reply.Refusal r)) = refusal (number_of r)
+said_of (Err r) = unreadable (number_of r)
 
 unfoldable pub is_length : ℕ → Bool
 is_length n = n == outcome_length || n == refusal_length

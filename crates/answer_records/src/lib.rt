@@ -1,15 +1,16 @@
 // Answer records (01, "Records (ours)"): an outcome in 18 bytes or a refusal in 4, written to lent bytes and read from them.
 #![tactic(auto)]
 
-ghost use Rattle.std.specs.Prelude.{◌≡◌, ◌<◌, length};
+ghost use Rattle.std.specs.Prelude.{◌≡◌, ◌-◌, ◌<◌, length};
+ghost use Rattle.admission.specs.Refusals.{number_of};
 ghost use Rattle.admission.specs.Faults.{fault_of};
-ghost use Rattle.answer_records.specs.Answers.{answer_bytes, refusal_bytes, laid, written_of};
+ghost use Rattle.answer_records.specs.Answers.{refusal_length, refused_code, answer_bytes, refusal_bytes, laid, written_of};
 ghost use Rattle.answer_records.specs.Replies.{is_length, length_of_code, answer_fault, outcome_in, said_of, answer_in};
 
-use admission::Judged;
+use admission::{Judged, Refusal};
 
 // An outcome as its record has it: the point by its bits, FFFF where no line failed.
-#[derive(Clone, Copy)]
+#[derive(Clone, Copy, Debug, PartialEq, Eq)]
 pub struct Answer {
     pub code: u8,
     pub x: u32,
@@ -37,12 +38,11 @@ impl Answer {
     pub const REFUSED: u8 = 128;
 }
 
-// What a record says: an outcome, a scene's refusal by its number, or the number of the record's own fault.
-#[derive(Clone, Copy)]
+// What a record says: an outcome, or a scene's refusal.
+#[derive(Clone, Copy, Debug, PartialEq, Eq)]
 pub enum Reply {
     Outcome(Answer),
-    Refusal(u8),
-    Fault(u8),
+    Refusal(Refusal),
 }
 
 // Writes an outcome's record to the buffer's start; bytes behind it keep their contents. A buffer of fewer than 18
@@ -51,7 +51,7 @@ pub fn write_answer(buffer: &mut [u8], answer: Answer) -> Judged
     ensures { written_of result buffer.new ≡ laid (answer_bytes answer) buffer.old }
 {
     if buffer.len() < Answer::BYTES {
-        return Judged::Fault(10);
+        return Err(Refusal::NoRoom);
     }
     words::put_pair(buffer, 0, Answer::LENGTH);
     buffer[2] = Answer::VERSION;
@@ -60,7 +60,7 @@ pub fn write_answer(buffer: &mut [u8], answer: Answer) -> Judged
     words::put_word(buffer, 8, answer.y);
     words::put_pair(buffer, 12, answer.failed);
     words::put_word(buffer, 14, answer.probes);
-    Judged::Fine
+    Ok(())
 }
 
 // Writes the record of a refused scene to the buffer's start; bytes behind it keep their contents. A buffer of fewer
@@ -70,28 +70,25 @@ pub fn write_refusal(buffer: &mut [u8], number: u8) -> Judged
     ensures { written_of result buffer.new ≡ laid (refusal_bytes number) buffer.old }
 {
     if buffer.len() < Answer::REFUSAL_BYTES {
-        return Judged::Fault(10);
+        return Err(Refusal::NoRoom);
     }
     words::put_pair(buffer, 0, Answer::REFUSAL_LENGTH);
     buffer[2] = Answer::VERSION;
     buffer[3] = std::num::wrapping_add_u8(Answer::REFUSED, number);
-    Judged::Fine
+    Ok(())
 }
 
 // What one whole record says. Fewer than two bytes, a length that is neither 16 nor 2, or bytes that do not match it,
-// are the fault 2; another version 1; a code not of its length 2. Point, failed line and probes are taken as they
-// stand.
-pub fn read_answer(bytes: &[u8]) -> Reply
+// are refused with 2; another version with 1; a code not of its length with 2. Point, failed line and probes are taken
+// as they stand.
+pub fn read_answer(bytes: &[u8]) -> Result<Reply, Refusal>
     ensures { said_of result ≡ answer_in bytes.now }
 {
-    let judged = judge_answer(bytes);
-    if let Judged::Fault(number) = judged {
-        return Reply::Fault(number);
-    }
+    judge_answer(bytes)?;
     if words::pair_at(bytes, 0) == Answer::LENGTH {
-        return Reply::Outcome(outcome_in(bytes));
+        return Ok(Reply::Outcome(outcome_in(bytes)));
     }
-    Reply::Refusal(bytes[3] - Answer::REFUSED)
+    Ok(Reply::Refusal(refusal_with(bytes[3])))
 }
 
 // The first fault of a record.
@@ -99,18 +96,18 @@ fn judge_answer(bytes: &[u8]) -> Judged
     ensures { fault_of result ≡ answer_fault bytes.now }
 {
     if bytes.len() < 2 {
-        return Judged::Fault(2);
+        return Err(Refusal::MissingOrLeftOver);
     }
     let length = words::pair_at(bytes, 0);
     if !is_length(length) {
-        return Judged::Fault(2);
+        return Err(Refusal::MissingOrLeftOver);
     }
     if bytes.len() != 2 + length as usize {
-        return Judged::Fault(2);
+        return Err(Refusal::MissingOrLeftOver);
     }
-    let version = admission::fault_unless(bytes[2] == Answer::VERSION, 1);
-    let code = admission::fault_unless(length_of_code(bytes[3]) == length, 2);
-    admission::first_of(version, code)
+    let version = Refusal::OtherVersion.unless(bytes[2] == Answer::VERSION);
+    let code = Refusal::MissingOrLeftOver.unless(length_of_code(bytes[3]) == length);
+    version.and(code)
 }
 
 // The lengths that a record may name: an outcome's and a refusal's.
@@ -142,5 +139,25 @@ fn outcome_in(bytes: &[u8]) -> Answer
         y: words::word_at(bytes, 8),
         failed: words::pair_at(bytes, 12),
         probes: words::word_at(bytes, 14),
+    }
+}
+
+// The refusal with a code.
+fn refusal_with(code: u8) -> Refusal
+    requires { length_of_code code ≡ refusal_length }
+    ensures { number_of result ≡ code - refused_code }
+{
+    match code - Answer::REFUSED {
+        1 => Refusal::OtherVersion,
+        2 => Refusal::MissingOrLeftOver,
+        3 => Refusal::UnknownKind,
+        4 => Refusal::TooMany,
+        5 => Refusal::NoVertices,
+        6 => Refusal::OutOfRange,
+        7 => Refusal::OutOfBand,
+        8 => Refusal::EndsCrossed,
+        9 => Refusal::NotAdmitted,
+        10 => Refusal::NoRoom,
+        _ => Refusal::DoubledVertex,
     }
 }

@@ -92,6 +92,7 @@ fn lifted(b: u32) -> Parts
 {
     let mut digits = b as u64;
     let mut shift: u32 = 23;
+    // kept: no plainer: nothing is gone over, a number is doubled until it has its digits
     while digits < 0x80_0000 {
         digits = digits * 2;
         shift = shift - 1;

@@ -3,123 +3,65 @@
 // claims of the definitions. A case that is wrong is told by its number.
 #![tactic(auto)]
 
-use admission::Judged;
+use admission::Refusal;
 use common::Vec2;
 use edges::Agent;
-use linear_programming::{Answer, FailedLine, Phase};
+use linear_programming::{Phase, Standing};
 use lines::Line;
 use obstacles::ObstacleLines;
 use one_line::Cause;
+use pass_2d::Failure;
 use verdict::Tally;
 
-// ---- whether an answer is the one that a case names, zeros of either sign equal
+// ---- the answers that cases name; zeros of either sign are equal
 
-fn is_by_circle(cause: Cause) -> bool {
-    match cause {
-        Cause::Circle => true,
-        Cause::Parallel(_) => false,
-        Cause::Crossing(_) => false,
-    }
+fn met(x: f32, y: f32, probes: u32) -> Result<Standing, Refusal> {
+    Ok(Standing {
+        phase: Phase::Solving(Vec2::new(x, y)),
+        failed: None,
+        probes,
+    })
 }
 
-fn is_by_parallel(cause: Cause, k: usize) -> bool {
-    match cause {
-        Cause::Circle => false,
-        Cause::Parallel(i) => i == k,
-        Cause::Crossing(_) => false,
-    }
-}
-
-fn is_by_crossing(cause: Cause, k: usize) -> bool {
-    match cause {
-        Cause::Circle => false,
-        Cause::Parallel(_) => false,
-        Cause::Crossing(i) => i == k,
-    }
-}
-
-fn is_cause(cause: Cause, told: Cause) -> bool {
-    match told {
-        Cause::Circle => is_by_circle(cause),
-        Cause::Parallel(k) => is_by_parallel(cause, k),
-        Cause::Crossing(k) => is_by_crossing(cause, k),
-    }
-}
-
-fn is_failed(failed: FailedLine, k: usize, cause: Cause) -> bool {
-    match failed {
-        FailedLine::NoLine => false,
-        FailedLine::At(failure) => {
-            let told = failure.cause;
-            (failure.index == k) & is_cause(cause, told)
-        }
-    }
-}
-
-fn is_met(answer: Answer, x: f32, y: f32, probes: u32) -> bool {
-    let Answer::Stands(phase, failed, n) = answer else {
-        return false;
-    };
-    let Phase::Solving(px, py) = phase else {
-        return false;
-    };
-    let FailedLine::NoLine = failed else {
-        return false;
-    };
-    (px == x) & (py == y) & (n == probes)
-}
-
-fn is_relaxed(
-    answer: Answer,
+fn relaxed(
     x: f32,
     y: f32,
     depth: f32,
-    k: usize,
+    index: usize,
     cause: Cause,
     probes: u32,
-) -> bool {
-    let Answer::Stands(phase, failed, n) = answer else {
-        return false;
-    };
-    let Phase::Relaxing(px, py, penetration) = phase else {
-        return false;
-    };
-    (px == x) & (py == y) & (penetration == depth) & is_failed(failed, k, cause) & (n == probes)
+) -> Result<Standing, Refusal> {
+    Ok(Standing {
+        phase: Phase::Relaxing(Vec2::new(x, y), depth),
+        failed: Some(Failure { index, cause }),
+        probes,
+    })
 }
 
-fn is_rigid(answer: Answer, k: usize, cause: Cause, x: f32, y: f32, probes: u32) -> bool {
-    let Answer::Stands(phase, failed, n) = answer else {
-        return false;
-    };
-    let Phase::RigidFailure(at, px, py) = phase else {
-        return false;
-    };
-    (at == k) & (px == x) & (py == y) & is_failed(failed, k, cause) & (n == probes)
-}
-
-fn is_refused(answer: Answer, number: u8) -> bool {
-    let Answer::Refused(told) = answer else {
-        return false;
-    };
-    told == number
+fn rigid(index: usize, cause: Cause, x: f32, y: f32, probes: u32) -> Result<Standing, Refusal> {
+    Ok(Standing {
+        phase: Phase::RigidFailure(index, Vec2::new(x, y)),
+        failed: Some(Failure { index, cause }),
+        probes,
+    })
 }
 
 // ---- lists
 
 // A list solved with limit 2 and wish (0, 0), as 01 has them unless said.
-fn solved(numbers: &[f32], rigid: usize) -> Answer {
+fn solved(numbers: &[f32], rigid: usize) -> Result<Standing, Refusal> {
     linear_programming::solve_linear_program(numbers, rigid, 2.0, Vec2::ZERO)
 }
 
-fn without_lines(wish: Vec2, limit: f32) -> Answer {
-    let none = [0.0f32; 4];
-    linear_programming::solve_linear_program(&none[0..0], 0, limit, wish)
+fn without_lines(wish: Vec2, limit: f32) -> Result<Standing, Refusal> {
+    linear_programming::solve_linear_program(&[], 0, limit, wish)
 }
 
 fn starts(t: Tally) -> Tally {
-    let p1 = is_met(without_lines(Vec2::new(3.0, 4.0), 5.0), 3.0, 4.0, 0);
-    let p2 = is_met(without_lines(Vec2::new(4.0, 0.0), 2.0), 2.0, 0.0, 0);
-    t.with(p1, 1).with(p2, 2)
+    let p1 = without_lines(Vec2::new(3.0, 4.0), 5.0);
+    let p2 = without_lines(Vec2::new(4.0, 0.0), 2.0);
+    t.with(p1 == met(3.0, 4.0, 0), 1)
+        .with(p2 == met(2.0, 0.0, 0), 2)
 }
 
 fn single_lines(t: Tally) -> Tally {
@@ -128,25 +70,23 @@ fn single_lines(t: Tally) -> Tally {
     let far = [0.0, 3.0, 1.0, 0.0];
     let right = Vec2::new(1.0, 0.0);
     let p4 = linear_programming::solve_linear_program(&through, 0, 2.0, right);
-    t.with(is_met(solved(&a, 0), 0.0, 1.0, 1), 3)
-        .with(is_met(p4, 1.0, 0.0, 1), 4)
-        .with(is_rigid(solved(&far, 1), 0, Cause::Circle, 0.0, 0.0, 1), 5)
-        .with(
-            is_relaxed(solved(&far, 0), 0.0, 2.0, 1.0, 0, Cause::Circle, 2),
-            6,
-        )
+    let cause = Cause::Circle;
+    t.with(solved(&a, 0) == met(0.0, 1.0, 1), 3)
+        .with(p4 == met(1.0, 0.0, 1), 4)
+        .with(solved(&far, 1) == rigid(0, cause, 0.0, 0.0, 1), 5)
+        .with(solved(&far, 0) == relaxed(0.0, 2.0, 1.0, 0, cause, 2), 6)
 }
 
 fn two_lines(t: Tally) -> Tally {
     let both = [0.0, 1.0, 1.0, 0.0, 0.0, -1.0, -1.0, 0.0];
     let minus_root_3 = words::number(0xbfdd_b3d7);
     let cause = Cause::Parallel(0);
-    t.with(is_relaxed(solved(&both, 0), -2.0, 0.0, 1.0, 1, cause, 6), 7)
+    t.with(solved(&both, 0) == relaxed(-2.0, 0.0, 1.0, 1, cause, 6), 7)
         .with(
-            is_relaxed(solved(&both, 1), minus_root_3, 1.0, 2.0, 1, cause, 5),
+            solved(&both, 1) == relaxed(minus_root_3, 1.0, 2.0, 1, cause, 5),
             8,
         )
-        .with(is_rigid(solved(&both, 2), 1, cause, 0.0, 1.0, 3), 9)
+        .with(solved(&both, 2) == rigid(1, cause, 0.0, 1.0, 3), 9)
 }
 
 // The causes beyond P5 to P9, told as 901 to 903: the circle before a parallel line, the index in the whole list, ends
@@ -160,11 +100,11 @@ fn causes(t: Tally) -> Tally {
     let second = Cause::Parallel(1);
     let first = Cause::Crossing(0);
     t.with(
-        is_rigid(solved(&missed, 2), 1, Cause::Circle, 0.0, 1.0, 2),
+        solved(&missed, 2) == rigid(1, Cause::Circle, 0.0, 1.0, 2),
         901,
     )
-    .with(is_rigid(solved(&three, 3), 2, second, 0.0, 1.0, 6), 902)
-    .with(is_rigid(solved(&crossed, 2), 1, first, 0.0, 1.5, 3), 903)
+    .with(solved(&three, 3) == rigid(2, second, 0.0, 1.0, 6), 902)
+    .with(solved(&crossed, 2) == rigid(1, first, 0.0, 1.5, 3), 903)
 }
 
 // Two relaxed lines, told as 904: the second one examines the two before it, one skipped and one kept.
@@ -175,7 +115,7 @@ fn examined(t: Tally) -> Tally {
     let x = words::number(0xbffd_fdfc);
     let cause = Cause::Parallel(0);
     t.with(
-        is_relaxed(solved(&list, 0), x, -0.25, 1.25, 1, cause, 10),
+        solved(&list, 0) == relaxed(x, -0.25, 1.25, 1, cause, 10),
         904,
     )
 }
@@ -183,10 +123,8 @@ fn examined(t: Tally) -> Tally {
 // Stores one line more than a list may have: each goes through (0, -1) in the direction (1, 0), and the origin meets it.
 fn fill(numbers: &mut [f32]) {
     let met = Line::new(Vec2::new(0.0, -1.0), Vec2::new(1.0, 0.0));
-    let mut i = 0usize;
-    while i <= Line::MOST {
+    for i in 0..=Line::MOST {
         lines::put_line(numbers, i, met);
-        i += 1;
     }
 }
 
@@ -195,10 +133,12 @@ fn limits(t: Tally) -> Tally {
     let mut numbers = [0.0f32; 1028];
     fill(&mut numbers);
     let fast = words::number(0x4480_0001);
-    t.with(is_met(solved(&numbers[0..1024], 0), 0.0, 0.0, 256), 256)
-        .with(is_refused(solved(&numbers, 0), 4), 257)
-        .with(is_met(without_lines(Vec2::ZERO, 1024.0), 0.0, 0.0, 0), 1024)
-        .with(is_refused(without_lines(Vec2::ZERO, fast), 6), 1025)
+    let most = without_lines(Vec2::ZERO, 1024.0);
+    let over = without_lines(Vec2::ZERO, fast);
+    t.with(solved(&numbers[0..1024], 0) == met(0.0, 0.0, 256), 256)
+        .with(solved(&numbers, 0) == Err(Refusal::TooMany), 257)
+        .with(most == met(0.0, 0.0, 0), 1024)
+        .with(over == Err(Refusal::OutOfRange), 1025)
 }
 
 // ---- roots
@@ -216,7 +156,13 @@ fn roots(t: Tally) -> Tally {
 
 // ---- obstacles
 
-fn asked(kind: u8, vertices: &[f32], count: usize, margin: f32, horizon: f32) -> ObstacleLines {
+fn asked(
+    kind: u8,
+    vertices: &[f32],
+    count: usize,
+    margin: f32,
+    horizon: f32,
+) -> Result<ObstacleLines, Refusal> {
     let agent = Agent {
         position: Vec2::ZERO,
         velocity: Vec2::ZERO,
@@ -225,44 +171,35 @@ fn asked(kind: u8, vertices: &[f32], count: usize, margin: f32, horizon: f32) ->
 }
 
 // With horizon 1, as 01 has it.
-fn made(kind: u8, vertices: &[f32], count: usize, margin: f32) -> ObstacleLines {
+fn made(kind: u8, vertices: &[f32], count: usize, margin: f32) -> Result<ObstacleLines, Refusal> {
     asked(kind, vertices, count, margin, 1.0)
 }
 
-fn is_told(found: ObstacleLines, number: u8) -> bool {
-    let judged = found.judged;
-    match judged {
-        Judged::Fault(told) => told == number,
-        Judged::Fine => false,
-    }
-}
-
-fn is_no_line(found: ObstacleLines) -> bool {
-    let judged = found.judged;
-    let Judged::Fine = judged else {
+fn is_no_line(found: Result<ObstacleLines, Refusal>) -> bool {
+    let Ok(found) = found else {
         return false;
     };
     found.count == 0
 }
 
 // One line with the point, in the direction (-1, 0).
-fn is_line(found: ObstacleLines, x: f32, y: f32) -> bool {
-    let judged = found.judged;
-    let Judged::Fine = judged else {
+fn is_line(found: Result<ObstacleLines, Refusal>, x: f32, y: f32) -> bool {
+    let Ok(found) = found else {
         return false;
     };
     let lines = found.lines;
-    (found.count == 1) & (lines[0] == x) & (lines[1] == y) & (lines[2] == -1.0) & (lines[3] == 0.0)
+    found.count == 1 && lines[..4] == [x, y, -1.0, 0.0]
 }
 
 fn walls(t: Tally) -> Tally {
     let wall = [-1.0, 1.0, 1.0, 1.0];
     let turned = [1.0, 1.0, -1.0, 1.0];
+    let far = asked(2, &wall, 2, 2.0, 2048.0);
     t.with(is_line(made(2, &wall, 2, 2.0), 0.0, 0.0), 11)
         .with(is_line(made(2, &wall, 2, 0.5), -1.0, 0.5), 11)
         .with(is_no_line(made(2, &turned, 2, 2.0)), 11)
         .with(is_no_line(made(2, &turned, 2, 0.5)), 11)
-        .with(is_told(asked(2, &wall, 2, 2.0, 2048.0), 6), 11)
+        .with(far == Err(Refusal::OutOfRange), 11)
 }
 
 fn points(t: Tally) -> Tally {
@@ -270,11 +207,13 @@ fn points(t: Tally) -> Tally {
     let near = [0.5, 0.0];
     let closed = [0.0, 5.0, 1.0, 5.0, -0.0, 5.0];
     let signed = [0.0, 5.0, -0.0, 5.0];
-    t.with(is_told(made(1, &aside, 1, 1.0), 14), 12)
-        .with(is_told(made(1, &near, 1, 1.0), 14), 12)
-        .with(is_told(made(1, &closed, 3, 1.0), 14), 12)
-        .with(is_told(made(2, &signed, 2, 1.0), 14), 12)
-        .with(is_told(made(1, &near[0..1], 0, 1.0), 2), 12)
+    let left_over = made(1, &near[..1], 0, 1.0);
+    let doubled = Refusal::DoubledVertex;
+    t.with(made(1, &aside, 1, 1.0) == Err(doubled), 12)
+        .with(made(1, &near, 1, 1.0) == Err(doubled), 12)
+        .with(made(1, &closed, 3, 1.0) == Err(doubled), 12)
+        .with(made(2, &signed, 2, 1.0) == Err(doubled), 12)
+        .with(left_over == Err(Refusal::MissingOrLeftOver), 12)
 }
 
 fn main(rt: HostRuntime) {

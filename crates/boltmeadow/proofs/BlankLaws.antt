@@ -1,35 +1,22 @@
--- "A refusal returns its number and nothing else": beside it all else is 0, where what is told is taken from a struct
--- of the callee's. Assumes nothing.
+-- "A refusal returns its number and nothing else": beside each refusal's number all else is 0, where that is not to be
+-- seen in the definition. Assumes nothing.
 use Prim.Native.Nat.{ℕ}
 use mathlib.Core.Path.{◌≡◌, refl}
 use lib.ListN.{replicate}
 use Rattle.arithmetic.specs.Binary32.{0ᶠ}
+use Rattle.admission.specs.declared.refusal.Refusal.{Refusal}
+use Rattle.admission.specs.Refusals.{number_of}
+use Rattle.admission.proofs.FaultLaws.{refusal-back}
 use Rattle.obstacles.specs.Obstacles as obstacle
 use Rattle.obstacles.specs.Read.{blank_numbers, answer_as}
 use Rattle.fields.specs.Got.{refused}
-use Rattle.scene_records.specs.Parts.{blank_bytes, blank_vertices}
-use Rattle.scene_records.specs.Versions.{blank_words, numbered_as}
 use Rattle.answer_logs.specs.Logs.{refused_at}
 use Rattle.daily_tally.specs.Figures.{sum_of, largest_of, one, count_of, below, tally_of, tallied}
-use Rattle.boltmeadow.specs.declared.scenes.BmCart.{BmCart}
-use Rattle.boltmeadow.specs.Layouts.{obstacle_told}
-use Rattle.boltmeadow.specs.Scenes.{cart_of, scene_told}
+use Rattle.boltmeadow.specs.Layouts.{no_obstacle, obstacle_told}
+use Rattle.boltmeadow.specs.Scenes.{no_cart, no_scene, scene_told}
 use Rattle.boltmeadow.specs.Logs.{page, tally_told}
 
-abbrev no_cart : BmCart
-no_cart = record {
-  position_x = 0ᶠ;
-  position_y = 0ᶠ;
-  velocity_x = 0ᶠ;
-  velocity_y = 0ᶠ;
-  margin = 0ᶠ;
-  horizon = 0ᶠ;
-  wish_x = 0ᶠ;
-  wish_y = 0ᶠ;
-  limit = 0ᶠ;
-}
-
-pub no-scene : (r : ℕ) → scene_told (numbered_as (refused r)) ≡ record {
+pub no-scene : (r : ℕ) → scene_told (refused r) ≡ record {
   refusal = r;
   cart = no_cart;
   obstacles = 0;
@@ -40,16 +27,16 @@ pub no-scene : (r : ℕ) → scene_told (numbered_as (refused r)) ≡ record {
   lines = replicate 256 0ᶠ;
   numbers = replicate 64 0;
 }
-unfolding scene_told cart_of blank_bytes blank_vertices blank_numbers blank_words
+unfolding no_scene
 no-scene r = refl
 
-pub no_lines : (r : ℕ) → obstacle_told (answer_as (obstacle.refused r)) ≡ record {
-  refusal = r;
-  count = 0;
-  lines = replicate 256 0ᶠ;
-}
-unfolding blank_numbers
+pub no_lines : (r : ℕ) → no_obstacle r ≡ record { refusal = r; count = 0; lines = replicate 256 0ᶠ }
+unfolding no_obstacle blank_numbers
 no_lines r = refl
+
+-- which is what is told of each refusal
+pub refused-lines : (r : Refusal) → obstacle_told (answer_as (obstacle.refused (number_of r))) ≡ no_obstacle (number_of r)
+refused-lines r = rw (refusal-back r)
 
 pub no-figures : (r place : ℕ) → tally_told (tallied (refused_at r place)) ≡ record {
   refusal = r;

@@ -2,44 +2,69 @@
 use Prim.Native.Nat.{ℕ}
 use mathlib.Core.Path.{◌≡◌, refl, sym, ap, ◌∙◌}
 use mathlib.Core.List.{List}
-use Rattle.linear_programming.specs.declared.Answer.{Answer}
-use Rattle.linear_programming.specs.declared.Answer.TheVariants as answer
+use native.Mathlib.Omega.{arith}
+use Rattle.std.specs.Prelude.{Result, Ok, Err}
+use Rattle.admission.specs.declared.refusal.Refusal.{Refusal}
+use Rattle.admission.specs.Refusals.{number_of}
+use Rattle.answer_records.specs.Numbers.{numbered}
+use Rattle.linear_programming.specs.declared.Standing.{Standing as ListStanding}
 use Rattle.linear_programming.specs.Whole.{Outcome}
-use Rattle.linear_programming.specs.Read.{outcome_of, answer_as}
+use Rattle.linear_programming.specs.Read.{outcome_of}
 use Rattle.linear_programming.proofs.Agreement.{phase-back, failed-back}
 use Rattle.dodgy_2d.specs.declared.SceneAnswer.{SceneAnswer}
 use Rattle.records.specs.Answered.{Solved, solved}
-use Rattle.scene_records.specs.declared.SceneWritten.{SceneWritten}
-use Rattle.scene_records.specs.declared.SceneWritten.TheVariants as scene-written
 use Rattle.scene_writer.specs.Writing.{Written, written_of}
-use Rattle.index_building.specs.declared.IndexWritten.{IndexWritten}
 use Rattle.index_building.specs.Indexes.{Standing, standing}
+use Rattle.fields.specs.Got.{Got, refused, got}
+use Rattle.scene_records.specs.declared.NumberedScene.{NumberedScene}
+use Rattle.scene_records.specs.Steps.{RefusedAs}
+use Rattle.scene_records.specs.Versions.{Numbered, numbered_as}
+use Rattle.boltmeadow.specs.Lists.{standing_by, standing_told}
+use Rattle.boltmeadow.specs.declared.scenes.BmScene.{BmScene}
 use Rattle.boltmeadow.specs.declared.scenes.BmAnswer.{BmAnswer}
 use Rattle.boltmeadow.specs.declared.scenes.BmWritten.{BmWritten}
-use Rattle.boltmeadow.specs.Scenes.{answer_told, answer_left, written_told, written_left}
+use Rattle.boltmeadow.specs.Scenes.{answer_told, answer_left, scene_by, no_scene, scene_told, written_told, written_left}
 use Rattle.boltmeadow.specs.Logs.{index_told, index_left}
 
--- a list's answer is the one that says its outcome
-answer_back : (a : Answer) → a ≡ answer_as (outcome_of a)
-answer_back (answer.Stands p f n) = sym (rw (phase-back p, failed-back f))
-answer_back (answer.Refused r) = refl
+-- a list's answer, told by the outcome that it says
+pub stands-told : (s : ListStanding) {o : Outcome} → outcome_of (Ok s) ≡ o → standing_by s.phase s.failed s.probes ≡ standing_told o
+stands-told s e =
+    sym (rw (phase-back s.phase, failed-back s.failed)) ∙ ap standing_told e
 
-pub answer-said : {a : Answer} {o : Outcome} → outcome_of a ≡ o → a ≡ answer_as o
-answer-said {a} e = answer_back a ∙ ap answer_as e
+-- a scene that was read, or its refusal, told by what the bytes are
+abbrev scene_handed : Result NumberedScene Refusal → BmScene
+scene_handed (Ok r) = scene_by r.scene r.numbers
+scene_handed (Err r) = no_scene (number_of r)
+
+number_in : Got Numbered → ℕ
+number_in (got x at) = 0
+number_in (refused r) = r
+
+pub scene-told : (r : Result NumberedScene Refusal) (g : Got Numbered) → r ≡ numbered_as g → RefusedAs r g → scene_handed r ≡ scene_told g
+unfolding number_in
+scene-told (Ok v) (got x at) e told = ap scene_handed e
+scene-told (Ok v) (refused n) e told = let z : ◌≡◌ {A = ℕ} 0 1 = cc in absurd (omega arith)
+scene-told (Err q) (got x at) e told = let z : ◌≡◌ {A = ℕ} 0 1 = cc in absurd (omega arith)
+scene-told (Err q) (refused n) e told = sym (ap (λ (g : Got Numbered). no_scene (number_in g)) told)
 
 -- value and contents of a lent buffer
 
-pub answer-left : {a : SceneAnswer} {l : List ℕ} {s : Solved} {r : BmAnswer} → r ≡ answer_told a → solved a l ≡ s →
-    standing r l ≡ answer_left s
+pub answer-left : {a : Result SceneAnswer Refusal} {l : List ℕ} {s : Solved} {r : BmAnswer} → r ≡ answer_told a →
+    solved a l ≡ s → standing r l ≡ answer_left s
 answer-left {a} {l} t e = ap (λ (b : BmAnswer). standing b l) t ∙ ap answer_left e
 
-pub index-left : {a : IndexWritten} {l : List ℕ} {s : Standing IndexWritten} {r : BmWritten} → r ≡ index_told a →
-    standing a l ≡ s → standing r l ≡ index_left s
-unfolding index_left
-index-left {a} {l} t e = ap (λ (b : BmWritten). standing b l) t ∙ ap index_left e
+same_told : (a : Result ℕ Refusal) → written_told a ≡ index_told (numbered a)
+unfolding written_told index_told
+same_told (Ok n) = refl
+same_told (Err r) = refl
 
-pub written-left : (a : SceneWritten) {l : List ℕ} {w : Written} {r : BmWritten} → r ≡ written_told a → written_of a l ≡ w
-    → standing r l ≡ written_left w
+pub index-left : (a : Result ℕ Refusal) {l : List ℕ} {s : Standing (Result ℕ ℕ)} {r : BmWritten} → r ≡ written_told a →
+    standing (numbered a) l ≡ s → standing r l ≡ index_left s
+unfolding index_left
+index-left a {l} t e = ap (λ (b : BmWritten). standing b l) (t ∙ same_told a) ∙ ap index_left e
+
+pub written-left : (a : Result ℕ Refusal) {l : List ℕ} {w : Written} {r : BmWritten} → r ≡ written_told a →
+    written_of a l ≡ w → standing r l ≡ written_left w
 unfolding written_told written_left
-written-left (scene-written.Length n) {l} t e = ap (λ (b : BmWritten). standing b l) t ∙ ap written_left e
-written-left (scene-written.Refused n) {l} t e = ap (λ (b : BmWritten). standing b l) t ∙ ap written_left e
+written-left (Ok n) {l} t e = ap (λ (b : BmWritten). standing b l) t ∙ ap written_left e
+written-left (Err r) {l} t e = ap (λ (b : BmWritten). standing b l) t ∙ ap written_left e

@@ -1,17 +1,11 @@
 -- Answer records and logs of them, as a C caller is told. Definitions only. Assumes nothing.
-use Rattle.std.specs.Prelude.{ℕ, ◌+◌}
+use Rattle.std.specs.Prelude.{ℕ, ◌+◌, Result, Ok, Err}
 use Rattle.answer_records.specs.Answers.{refused_code}
 use Rattle.answer_records.specs.Replies as said
 use Rattle.answer_records.specs.Replies.{Said}
 use Rattle.daily_tally.specs.declared.DayTally.{DayTally}
-use Rattle.daily_tally.specs.declared.Tallied.{Tallied}
-use Rattle.daily_tally.specs.declared.Walked.{Walked}
-use Rattle.daily_tally.specs.declared.Walked.TheVariants as walked
-use Rattle.index_building.specs.declared.IndexWritten.{IndexWritten}
-use Rattle.index_building.specs.declared.IndexWritten.TheVariants as index
+use Rattle.daily_tally.specs.Figures.{Walked, to-end, stopped, Tallied}
 use Rattle.index_building.specs.Indexes.{Standing, standing}
-use Rattle.fallback_index.specs.declared.Fallbacks.{Fallbacks}
-use Rattle.fallback_index.specs.declared.Fallbacks.TheVariants as answer
 use Rattle.boltmeadow.specs.declared.logs.BmReply.{BmReply}
 use Rattle.boltmeadow.specs.declared.logs.BmTally.{BmTally}
 use Rattle.boltmeadow.specs.declared.logs.BmFallbacks.{BmFallbacks}
@@ -44,22 +38,22 @@ page number place t = record {
 
 -- beside a refusal `tallied` has no figures
 abbrev pub page_by : Walked → DayTally → BmTally
-page_by walked.Whole t = page 0 0 t
-page_by (walked.Refused r place) t = page r place t
+page_by to-end t = page 0 0 t
+page_by (stopped r place) t = page r place t
 
 abbrev pub tally_told : Tallied → BmTally
 tally_told t = page_by t.walked t.tally
 
 -- ---- the index of fallbacks
 
-unfoldable pub index_told : IndexWritten → BmWritten
-index_told (index.Length n) = written 0 n
-index_told (index.Refused r) = written r 0
+unfoldable pub index_told : Result ℕ ℕ → BmWritten
+index_told (Ok n) = written 0 n
+index_told (Err r) = written r 0
 
 -- beside what the buffer holds
-unfoldable pub index_left : Standing IndexWritten → Standing BmWritten
+unfoldable pub index_left : Standing (Result ℕ ℕ) → Standing BmWritten
 index_left s = standing (index_told s.told) s.contents
 
-abbrev pub fallbacks_told : Fallbacks → BmFallbacks
-fallbacks_told (answer.Count n) = record { refusal = 0; count = n }
-fallbacks_told (answer.Refused r) = record { refusal = r; count = 0 }
+abbrev pub fallbacks_told : Result ℕ ℕ → BmFallbacks
+fallbacks_told (Ok n) = record { refusal = 0; count = n }
+fallbacks_told (Err r) = record { refusal = r; count = 0 }

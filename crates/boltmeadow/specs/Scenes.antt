@@ -1,18 +1,19 @@
 -- Scene records answered, read and written, as a C caller is told. Definitions only. Assumes nothing.
-use Rattle.std.specs.Prelude.{ℕ, List, Float}
+use Rattle.std.specs.Prelude.{ℕ, List, replicate, Float, Option, Result, Ok, Err}
 use Rattle.arithmetic.specs.Binary32.{0ᶠ}
-use Rattle.admission.specs.Faults.{judged_as}
+use Rattle.admission.specs.Faults.{Fault, fine, fault}
+use Rattle.admission.specs.declared.refusal.Refusal.{Refusal}
+use Rattle.admission.specs.Refusals.{number_of}
 use Rattle.common.specs.Vectors.{vec}
 use Rattle.lines.specs.declared.Origin.{Origin}
-use Rattle.linear_programming.specs.declared.FailedLine.{FailedLine}
+use Rattle.pass_2d.specs.declared.Failure.{Failure}
 use Rattle.plain_numbers.specs.Kinds.{failed_kind, failed_index, failed_cause}
 use Rattle.dodgy_2d.specs.declared.Scene.{Scene}
 use Rattle.dodgy_2d.specs.declared.SceneAnswer.{SceneAnswer}
-use Rattle.dodgy_2d.specs.declared.SceneAnswer.TheVariants as answer
+use Rattle.dodgy_2d.specs.Read.{code_of}
 use Rattle.scene_records.specs.declared.Cart.{Cart}
-use Rattle.scene_records.specs.declared.NumberedScene.{NumberedScene}
-use Rattle.scene_records.specs.declared.SceneWritten.{SceneWritten}
-use Rattle.scene_records.specs.declared.SceneWritten.TheVariants as scene-written
+use Rattle.fields.specs.Got.{Got, refused, got}
+use Rattle.scene_records.specs.Versions.{Numbered}
 use Rattle.scene_writer.specs.Writing.{Written}
 use Rattle.records.specs.Answered.{Solved}
 use Rattle.index_building.specs.Indexes.{Standing, standing}
@@ -20,12 +21,12 @@ use Rattle.boltmeadow.specs.declared.scenes.BmAnswer.{BmAnswer}
 use Rattle.boltmeadow.specs.declared.scenes.BmCart.{BmCart}
 use Rattle.boltmeadow.specs.declared.scenes.BmScene.{BmScene}
 use Rattle.boltmeadow.specs.declared.scenes.BmWritten.{BmWritten}
-use Rattle.boltmeadow.specs.Layouts.{agent_at, number_told}
+use Rattle.boltmeadow.specs.Layouts.{agent_at}
 
 -- ---- a record's answer
 
 -- the failed line and its origin by their plain numbers
-unfoldable pub outcome_with : ℕ → Float → Float → FailedLine → ℕ → Origin → BmAnswer
+unfoldable pub outcome_with : ℕ → Float → Float → Option Failure → ℕ → Origin → BmAnswer
 outcome_with code x y f n o = record {
   refusal = 0;
   outcome = code;
@@ -56,9 +57,9 @@ refused_scene number = record {
   probes = 0;
 }
 
-abbrev pub answer_told : SceneAnswer → BmAnswer
-answer_told (answer.Outcome code x y f n o) = outcome_with code x y f n o
-answer_told (answer.Refused r) = refused_scene r
+abbrev pub answer_told : Result SceneAnswer Refusal → BmAnswer
+answer_told (Ok a) = outcome_with (code_of a.outcome) a.velocity.x a.velocity.y a.failed a.probes a.origin
+answer_told (Err r) = refused_scene (number_of r)
 
 -- beside what the buffer holds
 abbrev pub answer_left : Solved → Standing BmAnswer
@@ -79,19 +80,50 @@ cart_of s = record {
   limit = s.limit;
 }
 
--- beside a refusal `numbered_as` has zeros alone
-unfoldable pub scene_told : NumberedScene → BmScene
-scene_told r = record {
-  refusal = number_told r.judged;
-  cart = cart_of r.scene;
-  obstacles = r.scene.obstacles;
-  kinds = r.scene.kinds;
-  counts = r.scene.counts;
-  vertices = r.scene.vertices;
-  neighbours = r.scene.neighbours;
-  lines = r.scene.lines;
-  numbers = r.numbers;
+abbrev pub no_cart : BmCart
+no_cart = record {
+  position_x = 0ᶠ;
+  position_y = 0ᶠ;
+  velocity_x = 0ᶠ;
+  velocity_y = 0ᶠ;
+  margin = 0ᶠ;
+  horizon = 0ᶠ;
+  wish_x = 0ᶠ;
+  wish_y = 0ᶠ;
+  limit = 0ᶠ;
 }
+
+-- the number alone
+unfoldable pub no_scene : ℕ → BmScene
+no_scene number = record {
+  refusal = number;
+  cart = no_cart;
+  obstacles = 0;
+  kinds = replicate 16 0;
+  counts = replicate 16 0;
+  vertices = replicate 384 0ᶠ;
+  neighbours = 0;
+  lines = replicate 256 0ᶠ;
+  numbers = replicate 64 0;
+}
+
+-- a scene and its neighbours' numbers
+unfoldable pub scene_by : Scene → List ℕ → BmScene
+scene_by s numbers = record {
+  refusal = 0;
+  cart = cart_of s;
+  obstacles = s.obstacles;
+  kinds = s.kinds;
+  counts = s.counts;
+  vertices = s.vertices;
+  neighbours = s.neighbours;
+  lines = s.lines;
+  numbers = numbers;
+}
+
+abbrev pub scene_told : Got Numbered → BmScene
+scene_told (got x at) = scene_by x.scene x.numbers
+scene_told (refused r) = no_scene r
 
 -- ---- a scene that is written
 
@@ -107,10 +139,15 @@ cart_in c = record {
 abbrev pub written : ℕ → ℕ → BmWritten
 written number n = record { refusal = number; length = n }
 
-unfoldable pub written_told : SceneWritten → BmWritten
-written_told (scene-written.Length n) = written 0 n
-written_told (scene-written.Refused r) = written r 0
+unfoldable pub written_told : Result ℕ Refusal → BmWritten
+written_told (Ok n) = written 0 n
+written_told (Err r) = written (number_of r) 0
+
+-- 0 for what is fine, else the number of the fault
+abbrev pub number_told : Fault → ℕ
+number_told fine = 0
+number_told (fault n) = n
 
 -- beside what the buffer holds
 unfoldable pub written_left : Written → Standing BmWritten
-written_left w = standing (written (number_told (judged_as w.told)) w.size) w.contents
+written_left w = standing (written (number_told w.told) w.size) w.contents

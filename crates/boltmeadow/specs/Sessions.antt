@@ -1,7 +1,5 @@
 -- What a call on a session in four arrays tells, where it tells more than a number. Definitions only. Assumes nothing.
-use Rattle.session.specs.declared.Changed.{Changed}
-use Rattle.session.specs.declared.Unmet.{Unmet}
-use Rattle.session.specs.declared.Unmet.TheVariants as unmet
+use Rattle.session.specs.Calls.{Changed, Unmet, At, Nothing, Refused}
 use Rattle.held_sessions.specs.Blocks.{Block, left_by}
 use Rattle.boltmeadow.specs.declared.sessions.BmChanged.{BmChanged}
 use Rattle.boltmeadow.specs.declared.sessions.BmUnmet.{BmUnmet}
@@ -24,6 +22,6 @@ left_changed c b =
 -- ---- the first line that is not strictly met
 
 abbrev pub unmet_told : Unmet → BmUnmet
-unmet_told (unmet.At k) = record { refusal = 0; found = 1; index = k }
-unmet_told unmet.Nothing = record { refusal = 0; found = 0; index = 0 }
-unmet_told (unmet.Refused n) = record { refusal = n; found = 0; index = 0 }
+unmet_told (At k) = record { refusal = 0; found = 1; index = k }
+unmet_told Nothing = record { refusal = 0; found = 0; index = 0 }
+unmet_told (Refused n) = record { refusal = n; found = 0; index = 0 }

@@ -1,12 +1,14 @@
 // A list of lines solved in one call.
 ghost use Rattle.std.specs.Prelude.{◌≡◌};
 ghost use Rattle.common.specs.Vectors.{vec};
+ghost use Rattle.admission.specs.Refusals.{number_of};
 ghost use Rattle.linear_programming.specs.Admit.{list_call};
-ghost use Rattle.linear_programming.specs.Read.{answer_as};
 ghost use Rattle.boltmeadow.specs.Lists.{refused_list, standing_with, standing_by, standing_told};
 
+use admission::Refusal;
 use common::Vec2;
-use linear_programming::{Answer, FailedLine, Phase};
+use linear_programming::{Phase, Standing};
+use pass_2d::Failure;
 
 // How a list stands: the phase, its point and penetration (0 where it is not relaxing), the cause of the failed line (0
 // where none failed), its index and the earlier line that the cause names, and the probes. Beside a refusal all else is
@@ -27,6 +29,7 @@ pub struct BmStanding {
 
 // How a list of lines, four numbers each, stands, the first `rigid` of them never relaxed; or the number of its refusal, as
 // `linear_programming::solve_linear_program` refuses.
+#[tactic(auto, unfolding(crate::specs::Lists::standing_by))]
 #[unsafe(no_mangle)]
 pub extern "C" fn bm_solve_list(
     lines: &[f32],
@@ -35,38 +38,40 @@ pub extern "C" fn bm_solve_list(
     wish_y: f32,
     limit: f32,
 ) -> BmStanding
-    ensures { result ≡ standing_told (answer_as (list_call rigid (vec wish_x wish_y) limit lines.now)) }
+    ensures { result ≡ standing_told (list_call rigid (vec wish_x wish_y) limit lines.now) }
 {
     let wish = Vec2 {
         x: wish_x,
         y: wish_y,
     };
-    let answer = linear_programming::solve_linear_program(lines, rigid, limit, wish);
-    match answer {
-        Answer::Stands(phase, failed, probes) => standing(phase, failed, probes),
-        Answer::Refused(number) => refused(number),
+    match linear_programming::solve_linear_program(lines, rigid, limit, wish) {
+        Ok(stands) => standing(stands),
+        Err(refusal) => refused(refusal),
     }
 }
 
-fn standing(phase: Phase, failed: FailedLine, probes: u32) -> BmStanding
-    ensures { result ≡ standing_by phase failed probes }
+#[tactic(auto, unfolding(crate::specs::Lists::standing_by))]
+fn standing(stands: Standing) -> BmStanding
+    ensures { result ≡ standing_by stands.phase stands.failed stands.probes }
 {
-    match phase {
-        Phase::Solving(x, y) => standing_with(0, x, y, 0.0, failed, probes),
-        Phase::Relaxing(x, y, depth) => standing_with(1, x, y, depth, failed, probes),
-        Phase::RigidFailure(_, x, y) => standing_with(2, x, y, 0.0, failed, probes),
+    let failed = stands.failed;
+    let probes = stands.probes;
+    match stands.phase {
+        Phase::Solving(p) => standing_with(0, p, 0.0, failed, probes),
+        Phase::Relaxing(p, depth) => standing_with(1, p, depth, failed, probes),
+        Phase::RigidFailure(_, p) => standing_with(2, p, 0.0, failed, probes),
     }
 }
 
+#[tactic(auto, unfolding(crate::specs::Lists::standing_with))]
 fn standing_with(
     phase: u32,
-    x: f32,
-    y: f32,
+    point: Vec2,
     penetration: f32,
-    failed: FailedLine,
+    failed: Option<Failure>,
     probes: u32,
 ) -> BmStanding
-    ensures { result ≡ standing_with phase x y penetration failed probes }
+    ensures { result ≡ standing_with phase point.x point.y penetration failed probes }
 {
     let cause = plain_numbers::failed_kind(failed) as u32;
     let failed_line = plain_numbers::failed_index(failed);
@@ -74,8 +79,8 @@ fn standing_with(
     BmStanding {
         refusal: 0,
         phase,
-        x,
-        y,
+        x: point.x,
+        y: point.y,
         penetration,
         cause,
         failed_line,
@@ -84,11 +89,12 @@ fn standing_with(
     }
 }
 
-fn refused(number: u8) -> BmStanding
-    ensures { result ≡ refused_list number }
+#[tactic(auto, unfolding(crate::specs::Lists::refused_list))]
+fn refused(refusal: Refusal) -> BmStanding
+    ensures { result ≡ refused_list (number_of refusal) }
 {
     BmStanding {
-        refusal: number as u32,
+        refusal: u32::from(refusal.number()),
         phase: 0,
         x: 0.0,
         y: 0.0,

@@ -1,19 +1,17 @@
 // Answer records and logs of them: one read, a day's figures, the index of fallbacks.
-ghost use Rattle.std.specs.Prelude.{◌≡◌};
+ghost use Rattle.std.specs.Prelude.{◌≡◌, []};
 ghost use Rattle.answer_logs.specs.Logs.{most_records, records_in};
 ghost use Rattle.answer_records.specs.Replies.{answer_in};
-ghost use Rattle.daily_tally.specs.Figures.{tallied};
+ghost use Rattle.daily_tally.specs.Figures.{tally_of, tallied};
 ghost use Rattle.index_building.specs.Indexes.{standing};
 ghost use Rattle.index_building.specs.Builds.{built_over};
 ghost use Rattle.fallback_index.specs.Questions.{question_in};
 ghost use Rattle.fallback_index.specs.Appends.{appended_over};
-ghost use Rattle.boltmeadow.specs.Logs.{reply, reply_told, page, tally_told, index_told, index_left, fallbacks_told};
+ghost use Rattle.boltmeadow.specs.Logs.{reply, reply_told, page, tally_told, index_left, fallbacks_told};
 
-use crate::scenes::BmWritten;
+use crate::scenes::{BmWritten, written};
 use answer_records::Reply;
-use daily_tally::{DayTally, Walked};
-use fallback_index::Fallbacks;
-use index_building::IndexWritten;
+use daily_tally::{DayTally, RefusedAt};
 
 // An answer record that was read: its code, 1 to 5 or 128 and the number that it refuses with; the bits of x and y, the
 // failed line (FFFF for none) and the probes, as they stand in the record. Beside a refusal all else is 0.
@@ -54,18 +52,17 @@ pub struct BmFallbacks {
 pub extern "C" fn bm_read_answer(answer: &[u8]) -> BmReply
     ensures { result ≡ reply_told (answer_in answer.now) }
 {
-    let read = answer_records::read_answer(answer);
-    match read {
-        Reply::Outcome(told) => replied(
+    match answer_records::read_answer(answer) {
+        Ok(Reply::Outcome(told)) => replied(
             0,
-            told.code as u32,
+            u32::from(told.code),
             told.x,
             told.y,
-            told.failed as u32,
+            u32::from(told.failed),
             told.probes,
         ),
-        Reply::Refusal(number) => replied(0, 128 + number as u32, 0, 0, 0, 0),
-        Reply::Fault(number) => replied(number as u32, 0, 0, 0, 0, 0),
+        Ok(Reply::Refusal(refusal)) => replied(0, 128 + u32::from(refusal.number()), 0, 0, 0, 0),
+        Err(refusal) => replied(u32::from(refusal.number()), 0, 0, 0, 0, 0),
     }
 }
 
@@ -88,12 +85,24 @@ fn replied(refusal: u32, code: u32, x: u32, y: u32, failed_line: u32, probes: u3
 pub extern "C" fn bm_tally_log(log: &[u8]) -> BmTally
     ensures { result ≡ tally_told (tallied (records_in most_records log.now)) }
 {
-    let tallied = daily_tally::tally_log(log);
-    let walked = tallied.walked;
-    let tally = tallied.tally;
-    match walked {
-        Walked::Whole => paged(0, 0, tally),
-        Walked::Refused(number, place) => paged(number as u32, place, tally),
+    match daily_tally::tally_log(log) {
+        Ok(tally) => paged(0, 0, tally),
+        Err(RefusedAt { refusal, place }) => {
+            paged(u32::from(refusal.number()), place, no_figures())
+        }
+    }
+}
+
+#[tactic(auto, unfolding(daily_tally::specs::Figures::tally_of, daily_tally::specs::Figures::below, daily_tally::specs::Figures::count_of, daily_tally::specs::Figures::sum_of, daily_tally::specs::Figures::largest_of, daily_tally::specs::Figures::one))]
+fn no_figures() -> DayTally
+    ensures { result ≡ tally_of [] }
+{
+    DayTally {
+        outcomes: [0; 6],
+        refusals: [0; 16],
+        probes: 0,
+        largest: 0,
+        failed: 0,
     }
 }
 
@@ -120,7 +129,7 @@ pub extern "C" fn bm_build_index(log: &[u8], buffer: &mut [u8]) -> BmWritten
     ensures { standing result buffer.new ≡ index_left (built_over log.now buffer.old) }
 {
     let built = index_building::build_index(log, buffer);
-    indexed(built)
+    written(built)
 }
 
 // How many answers from record a up to but not including record b were fallbacks; or the number of a refusal, as
@@ -129,11 +138,10 @@ pub extern "C" fn bm_build_index(log: &[u8], buffer: &mut [u8]) -> BmWritten
 pub extern "C" fn bm_count_fallbacks(log: &[u8], index: &[u8], a: usize, b: usize) -> BmFallbacks
     ensures { result ≡ fallbacks_told (question_in log.now index.now a b) }
 {
-    let answer = fallback_index::count_fallbacks(log, index, a, b);
-    match answer {
-        Fallbacks::Count(count) => BmFallbacks { refusal: 0, count },
-        Fallbacks::Refused(number) => BmFallbacks {
-            refusal: number as u32,
+    match fallback_index::count_fallbacks(log, index, a, b) {
+        Ok(count) => BmFallbacks { refusal: 0, count },
+        Err(refusal) => BmFallbacks {
+            refusal: u32::from(refusal.number()),
             count: 0,
         },
     }
@@ -151,18 +159,5 @@ pub extern "C" fn bm_append_record(
     ensures { standing result buffer.new
         ≡ index_left (appended_over log.now buffer.old length «record».now) }
 {
-    let appended = fallback_index::append_record(log, buffer, length, record);
-    indexed(appended)
-}
-
-fn indexed(answer: IndexWritten) -> BmWritten
-    ensures { result ≡ index_told answer }
-{
-    match answer {
-        IndexWritten::Length(length) => BmWritten { refusal: 0, length },
-        IndexWritten::Refused(number) => BmWritten {
-            refusal: number as u32,
-            length: 0,
-        },
-    }
+    written(fallback_index::append_record(log, buffer, length, record))
 }

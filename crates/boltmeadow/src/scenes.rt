@@ -1,20 +1,19 @@
 // Scene records: answered, read, written, moved between the versions.
 ghost use Rattle.std.specs.Prelude.{◌≡◌};
+ghost use Rattle.admission.specs.Refusals.{number_of};
 ghost use Rattle.scene_records.specs.declared.Version.TheVariants.{One, Two};
-ghost use Rattle.scene_records.specs.Versions.{scene_in, numbered_as};
+ghost use Rattle.scene_records.specs.Versions.{scene_in};
 ghost use Rattle.scene_writer.specs.Writing.{written_scene};
 ghost use Rattle.scene_moves.specs.Moves.{moved_into};
 ghost use Rattle.records.specs.Answered.{scene_answer_to};
 ghost use Rattle.index_building.specs.Indexes.{standing};
-ghost use Rattle.boltmeadow.specs.Scenes.{outcome_with, refused_scene, answer_left, cart_of, scene_told, cart_in, written_told, written_left};
+ghost use Rattle.boltmeadow.specs.Scenes.{answer_told, refused_scene, answer_left, cart_of, scene_by, scene_told, no_scene, cart_in, written_told, written_left};
 
-use crate::walls::number_of;
+use admission::Refusal;
 use common::Vec2;
 use dodgy_2d::{Scene, SceneAnswer};
 use edges::Agent;
-use linear_programming::FailedLine;
-use lines::Origin;
-use scene_records::{Cart, SceneWritten};
+use scene_records::{Cart, NumberedScene};
 
 // A cart, its wish and its limit.
 #[repr(C)]
@@ -80,48 +79,39 @@ pub struct BmScene {
 pub extern "C" fn bm_answer_record(scene: &[u8], answer: &mut [u8]) -> BmAnswer
     ensures { standing result answer.new ≡ answer_left (scene_answer_to scene.now answer.old) }
 {
-    let solved = records::answer_scene(scene, answer);
-    match solved {
-        SceneAnswer::Outcome(code, x, y, failed, probes, origin) => {
-            outcome_with(code, x, y, failed, probes, origin)
-        }
-        SceneAnswer::Refused(number) => refused(number),
+    match records::answer_scene(scene, answer) {
+        Ok(answered) => outcome_with(answered),
+        Err(refusal) => refused(refusal),
     }
 }
 
-fn outcome_with(
-    code: u8,
-    x: f32,
-    y: f32,
-    failed: FailedLine,
-    probes: u32,
-    origin: Origin,
-) -> BmAnswer
-    ensures { result ≡ outcome_with code x y failed probes origin }
+#[tactic(auto, unfolding(crate::specs::Scenes::outcome_with))]
+fn outcome_with(answered: SceneAnswer) -> BmAnswer
+    ensures { result ≡ answer_told (Ok answered) }
 {
-    let cause = plain_numbers::failed_kind(failed) as u32;
-    let failed_line = plain_numbers::failed_index(failed);
-    let cause_line = plain_numbers::failed_cause(failed);
+    let failed = answered.failed;
+    let origin = answered.origin;
     BmAnswer {
         refusal: 0,
-        outcome: code as u32,
-        x,
-        y,
-        cause,
-        failed_line,
-        cause_line,
+        outcome: u32::from(answered.outcome.number()),
+        x: answered.velocity.x,
+        y: answered.velocity.y,
+        cause: u32::from(plain_numbers::failed_kind(failed)),
+        failed_line: plain_numbers::failed_index(failed),
+        cause_line: plain_numbers::failed_cause(failed),
         origin_kind: origin.kind,
         origin_place: origin.place,
         origin_vertex: origin.vertex,
-        probes,
+        probes: answered.probes,
     }
 }
 
-fn refused(number: u8) -> BmAnswer
-    ensures { result ≡ refused_scene number }
+#[tactic(auto, unfolding(crate::specs::Scenes::refused_scene))]
+fn refused(refusal: Refusal) -> BmAnswer
+    ensures { result ≡ refused_scene (number_of refusal) }
 {
     BmAnswer {
-        refusal: number as u32,
+        refusal: u32::from(refusal.number()),
         outcome: 0,
         x: 0.0,
         y: 0.0,
@@ -138,26 +128,60 @@ fn refused(number: u8) -> BmAnswer
 // Reads one scene record of either version; or tells the number of a refusal, as `scene_records::read_scene` refuses.
 #[unsafe(no_mangle)]
 pub extern "C" fn bm_read_scene(scene: &[u8]) -> BmScene
-    ensures { result ≡ scene_told (numbered_as (scene_in scene.now)) }
+    ensures { result ≡ scene_told (scene_in scene.now) }
 {
-    let read = scene_records::read_scene(scene);
-    let judged = read.judged;
-    let parts = read.scene;
-    let numbers = read.numbers;
-    let kinds = parts.kinds;
-    let counts = parts.counts;
-    let vertices = parts.vertices;
-    let lines = parts.lines;
+    match scene_records::read_scene(scene) {
+        Ok(read) => told(read),
+        Err(refusal) => untold(refusal),
+    }
+}
+
+#[tactic(auto, unfolding(crate::specs::Scenes::scene_by))]
+fn told(read: NumberedScene) -> BmScene
+    ensures { result ≡ scene_by read.scene read.numbers }
+{
+    let NumberedScene { scene, numbers } = read;
+    let kinds = scene.kinds;
+    let counts = scene.counts;
+    let vertices = scene.vertices;
+    let lines = scene.lines;
     BmScene {
-        refusal: number_of(judged),
-        cart: cart_of(parts),
-        obstacles: parts.obstacles,
+        refusal: 0,
+        cart: cart_of(scene),
+        obstacles: scene.obstacles,
         kinds,
         counts,
         vertices,
-        neighbours: parts.neighbours,
+        neighbours: scene.neighbours,
         lines,
         numbers,
+    }
+}
+
+#[tactic(auto, unfolding(crate::specs::Scenes::no_scene))]
+fn untold(refusal: Refusal) -> BmScene
+    ensures { result ≡ no_scene (number_of refusal) }
+{
+    BmScene {
+        refusal: u32::from(refusal.number()),
+        cart: BmCart {
+            position_x: 0.0,
+            position_y: 0.0,
+            velocity_x: 0.0,
+            velocity_y: 0.0,
+            margin: 0.0,
+            horizon: 0.0,
+            wish_x: 0.0,
+            wish_y: 0.0,
+            limit: 0.0,
+        },
+        obstacles: 0,
+        kinds: [0; 16],
+        counts: [0; 16],
+        vertices: [0.0; 384],
+        neighbours: 0,
+        lines: [0.0; 256],
+        numbers: [0; 64],
     }
 }
 
@@ -251,13 +275,14 @@ pub extern "C" fn bm_to_version_1(scene: &[u8], buffer: &mut [u8]) -> BmWritten
     written(back)
 }
 
-fn written(answer: SceneWritten) -> BmWritten
+#[tactic(auto, unfolding(crate::specs::Scenes::written_told))]
+pub(crate) fn written(answer: Result<usize, Refusal>) -> BmWritten
     ensures { result ≡ written_told answer }
 {
     match answer {
-        SceneWritten::Length(length) => BmWritten { refusal: 0, length },
-        SceneWritten::Refused(number) => BmWritten {
-            refusal: number as u32,
+        Ok(length) => BmWritten { refusal: 0, length },
+        Err(refusal) => BmWritten {
+            refusal: u32::from(refusal.number()),
             length: 0,
         },
     }

@@ -11,7 +11,7 @@ ghost use Rattle.held_sessions.specs.Blocks.{block, session_in, left, left_by};
 ghost use Rattle.boltmeadow.specs.Sessions.{left_telling, left_changed, unmet_told};
 
 use common::Vec2;
-use session::{Session, Unmet};
+use session::Session;
 
 // How many lines a change by origin withdrew, none where it was refused.
 #[repr(C)]
@@ -47,8 +47,10 @@ pub extern "C" fn bm_session_start_in(
         ≡ left_by (started_as (vec wish_x wish_y) limit rigid)
         (block lines.old origins.old numbers.old words.old) }
 {
-    let fed = Session::start(Vec2::new(wish_x, wish_y), limit, rigid);
-    held_sessions::leave(fed, lines, origins, numbers, words)
+    match Session::start(Vec2::new(wish_x, wish_y), limit, rigid) {
+        Ok(session) => held_sessions::leave(Ok(()), &session, lines, origins, numbers, words),
+        Err(refusal) => u32::from(refusal.number()),
+    }
 }
 
 // The session with a batch of lines, four numbers each, behind its own (`Session::batch`).
@@ -65,9 +67,9 @@ pub extern "C" fn bm_session_batch_in(
         batch.now)
         (block lines.old origins.old numbers.old words.old) }
 {
-    let before = held_sessions::session_in(lines, origins, numbers, words);
-    let fed = before.batch(batch);
-    held_sessions::leave(fed, lines, origins, numbers, words)
+    let mut session = held_sessions::session_in(lines, origins, numbers, words);
+    let judged = session.batch(batch);
+    held_sessions::leave(judged, &session, lines, origins, numbers, words)
 }
 
 // The same for a batch that brings the origins of its lines, three numbers each, or none (`Session::batch_with_origins`).
@@ -85,9 +87,9 @@ pub extern "C" fn bm_session_batch_with_origins_in(
         batch.now brought.now)
         (block lines.old origins.old numbers.old words.old) }
 {
-    let before = held_sessions::session_in(lines, origins, numbers, words);
-    let fed = before.batch_with_origins(batch, brought);
-    held_sessions::leave(fed, lines, origins, numbers, words)
+    let mut session = held_sessions::session_in(lines, origins, numbers, words);
+    let judged = session.batch_with_origins(batch, brought);
+    held_sessions::leave(judged, &session, lines, origins, numbers, words)
 }
 
 // The session without the line at an index (`Session::withdraw`).
@@ -103,9 +105,9 @@ pub extern "C" fn bm_session_withdraw_in(
         ≡ left_by (withdrawn_as (session_in (block lines.old origins.old numbers.old words.old)) index)
         (block lines.old origins.old numbers.old words.old) }
 {
-    let before = held_sessions::session_in(lines, origins, numbers, words);
-    let fed = before.withdraw(index);
-    held_sessions::leave(fed, lines, origins, numbers, words)
+    let mut session = held_sessions::session_in(lines, origins, numbers, words);
+    let judged = session.withdraw(index);
+    held_sessions::leave(judged, &session, lines, origins, numbers, words)
 }
 
 // The session without the lines at several indices, strictly ascending, and with a batch behind those that are left:
@@ -125,9 +127,9 @@ pub extern "C" fn bm_session_change_in(
         withdrawn.now batch.now brought.now)
         (block lines.old origins.old numbers.old words.old) }
 {
-    let before = held_sessions::session_in(lines, origins, numbers, words);
-    let fed = before.change(withdrawn, batch, brought);
-    held_sessions::leave(fed, lines, origins, numbers, words)
+    let mut session = held_sessions::session_in(lines, origins, numbers, words);
+    let judged = session.change(withdrawn, batch, brought);
+    held_sessions::leave(judged, &session, lines, origins, numbers, words)
 }
 
 // The same for every line whose origin has this kind and place (`Session::change_origin`).
@@ -147,14 +149,14 @@ pub extern "C" fn bm_session_change_origin_in(
         kind place batch.now brought.now)
         (block lines.old origins.old numbers.old words.old) }
 {
-    let before = held_sessions::session_in(lines, origins, numbers, words);
-    let changed = before.change_origin(kind, place, batch, brought);
-    let fed = changed.fed;
-    let refusal = held_sessions::leave(fed, lines, origins, numbers, words);
-    BmChanged {
-        refusal,
-        withdrawn: changed.withdrawn,
-    }
+    let mut session = held_sessions::session_in(lines, origins, numbers, words);
+    let changed = session.change_origin(kind, place, batch, brought);
+    let (judged, withdrawn) = match changed {
+        Ok(withdrawn) => (Ok(()), withdrawn),
+        Err(refusal) => (Err(refusal), 0),
+    };
+    let refusal = held_sessions::leave(judged, &session, lines, origins, numbers, words);
+    BmChanged { refusal, withdrawn }
 }
 
 // Asked before a batch is fed: the arrays are only read (`Session::first_unmet`).
@@ -170,21 +172,20 @@ pub extern "C" fn bm_session_first_unmet_in(
         (session_in (block lines.now origins.now numbers.now words.now))
         batch.now) }
 {
-    let before = held_sessions::session_in(lines, origins, numbers, words);
-    let unmet = before.first_unmet(batch);
-    match unmet {
-        Unmet::At(index) => BmUnmet {
+    let session = held_sessions::session_in(lines, origins, numbers, words);
+    match session.first_unmet(batch) {
+        Ok(Some(index)) => BmUnmet {
             refusal: 0,
             found: 1,
             index,
         },
-        Unmet::Nothing => BmUnmet {
+        Ok(None) => BmUnmet {
             refusal: 0,
             found: 0,
             index: 0,
         },
-        Unmet::Refused(number) => BmUnmet {
-            refusal: number as u32,
+        Err(refusal) => BmUnmet {
+            refusal: u32::from(refusal.number()),
             found: 0,
             index: 0,
         },

@@ -4,12 +4,10 @@ ghost use Rattle.common.specs.Vectors.{vec};
 ghost use Rattle.obstacles.specs.Obstacles.{obstacle_call};
 ghost use Rattle.obstacles.specs.Read.{answer_as};
 ghost use Rattle.wall_check.specs.Crossings.{checked_move};
-ghost use Rattle.boltmeadow.specs.Layouts.{agent_at, number_told, crossing, crossing_told, obstacle_told};
+ghost use Rattle.boltmeadow.specs.Layouts.{agent_at, crossing, crossing_told, obstacle_told};
 
-use admission::Judged;
 use common::Vec2;
 use edges::Agent;
-use wall_check::WallCheck;
 
 // The first crossed edge, by its obstacle's place and its left vertex there, and how many edges are crossed; 0 edges
 // where the way is clear. Beside a refusal all else is 0.
@@ -52,11 +50,10 @@ pub extern "C" fn bm_check_move(
         y: from_y,
     };
     let to = Vec2 { x: to_x, y: to_y };
-    let checked = wall_check::check_move(from, to, obstacles, kinds, counts, vertices);
-    match checked {
-        WallCheck::Crossed(obstacle, vertex, edges) => crossed(0, edges, obstacle, vertex),
-        WallCheck::Clear => crossed(0, 0, 0, 0),
-        WallCheck::Refused(number) => crossed(number as u32, 0, 0, 0),
+    match wall_check::check_move(from, to, obstacles, kinds, counts, vertices) {
+        Ok(Some(first)) => crossed(0, first.count, first.obstacle, first.vertex),
+        Ok(None) => crossed(0, 0, 0, 0),
+        Err(refusal) => crossed(u32::from(refusal.number()), 0, 0, 0),
     }
 }
 
@@ -102,21 +99,19 @@ pub extern "C" fn bm_obstacle_lines(
     let made = obstacles::get_lines_for_agent_to_obstacle(
         agent, kind, vertices, count, margin, horizon,
     );
-    let judged = made.judged;
-    let lines = made.lines;
-    BmObstacleLines {
-        refusal: number_of(judged),
-        count: made.count,
-        lines,
-    }
-}
-
-// 0 for what is fine, else the number of the fault.
-pub(crate) fn number_of(judged: Judged) -> u32
-    ensures { result ≡ number_told judged }
-{
-    match judged {
-        Judged::Fine => 0,
-        Judged::Fault(number) => number as u32,
+    match made {
+        Ok(made) => {
+            let lines = made.lines;
+            BmObstacleLines {
+                refusal: 0,
+                count: made.count,
+                lines,
+            }
+        }
+        Err(refusal) => BmObstacleLines {
+            refusal: u32::from(refusal.number()),
+            count: 0,
+            lines: [0.0; 256],
+        },
     }
 }

@@ -7,7 +7,7 @@ ghost use Rattle.std.specs.Prelude.{◌≡◌};
 ghost use Rattle.common.specs.Vectors.{vec, add_of, sub_of, neg_of, mul_of, div_of, dot_of, perp_of, length_squared_of, distance_squared_of, normalize_of, eq_of, determinant_of};
 ghost use Rattle.common.specs.Meetings.{times_of};
 
-#[derive(Clone, Copy)]
+#[derive(Clone, Copy, Debug, PartialEq)]
 pub struct Vec2 {
     pub x: f32,
     pub y: f32,
@@ -20,21 +20,15 @@ pub fn determinant(a: Vec2, b: Vec2) -> f32
     a.x * b.y - a.y * b.x
 }
 
-// When two lines meet: the time along the first as x, along the second as y; or they are parallel.
-#[derive(Clone, Copy)]
-pub enum Times {
-    At(Vec2),
-    Parallel,
-}
-
-// The times along both lines at which they meet. They are lines, not segments: a time is any number, below 0 and above
-// 1 too. Only a determinant of exactly 0, of either sign, counts as parallel; where it is a NaN, both times are.
+// The times at which two lines meet, along the first as x and along the second as y; none where they are parallel. They
+// are lines, not segments: a time is any number, below 0 and above 1 too. Only a determinant of exactly 0, of either
+// sign, counts as parallel; where it is a NaN, both times are.
 pub fn time_to_intersect_lines(
     line_1_start: Vec2,
     line_1_end: Vec2,
     line_2_start: Vec2,
     line_2_end: Vec2,
-) -> Times
+) -> Option<Vec2>
     ensures { result ≡ times_of line_1_start line_1_end line_2_start line_2_end }
 {
     let relative_line_1_start = line_1_start.sub(line_2_start);
@@ -42,12 +36,12 @@ pub fn time_to_intersect_lines(
     let line_2_delta = line_2_end.sub(line_2_start);
     let matrix_determinant = determinant(line_2_delta, line_1_delta);
     if matrix_determinant == 0.0 {
-        return Times::Parallel;
+        return None;
     }
     // the inverse of the line equation matrix
     let along_1 = determinant(relative_line_1_start, line_2_delta);
     let along_2 = determinant(relative_line_1_start, line_1_delta);
-    Times::At(Vec2::new(along_1, along_2).div(matrix_determinant))
+    Some(Vec2::new(along_1, along_2).div(matrix_determinant))
 }
 
 impl Vec2 {
@@ -150,9 +144,10 @@ impl Vec2 {
     }
 
     // Whether both components are equal by value: zeros of either sign are, a NaN is equal to nothing.
+    // kept: promised: Vec2::eq
     pub fn eq(self, b: Vec2) -> bool
         ensures { result ≡ eq_of self b }
     {
-        self.x == b.x && self.y == b.y
+        self == b
     }
 }

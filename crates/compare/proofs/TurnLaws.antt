@@ -4,6 +4,7 @@ use native.Mathlib.Omega.{arith}
 use native.Mathlib.Nat.{sub-zero}
 use mathlib.Core.Path.{◌≡◌, refl, sym, ap, ◌∙◌}
 use mathlib.Core.Bool.{true, false}
+use Rattle.std.specs.Prelude.{Some, None}
 use mathlib.Core.List.{List, [], ◌∷◌, ◌++◌}
 use lib.Dec.{ltb}
 use lib.ListN.{length, take, drop, length-drop}
@@ -17,8 +18,7 @@ use Rattle.answer_records.specs.Answers.{longest_answer}
 use Rattle.records.specs.declared.Stream.{Stream}
 use Rattle.records.specs.Turns.{Turned, turned, lent, turn_over, has_room_for}
 use Rattle.records.proofs.TurnLaws as turns
-use Rattle.comparison.specs.declared.Compared.{Compared}
-use Rattle.comparison.specs.declared.Found.TheVariants as found
+use Rattle.comparison.specs.Verdicts.{Compared}
 use Rattle.comparison.specs.declared.Progress.{Progress}
 use Rattle.comparison.specs.Comparing.{compared_from, advanced}
 use Rattle.comparison.specs.Reads.{start, with_scenes, is_some, with_answers, leaving, stepped_by, compared_on, wants}
@@ -66,7 +66,7 @@ module _ (before : Reading) (mine : ℕ) (ours : List ℕ) (other : ℕ) (theirs
         omega (arith, w.1, ap (λ (q : Progress). q.theirs) same, length-take-le other theirs other_fits),
       )
 
-  pub ended-advances : {verdict : Compared} → p.found ≡ found.Ended verdict →
+  pub ended-advances : {verdict : Compared} → p.found ≡ Some verdict →
       Advances before mine ours other theirs
       (record {
         stream = before.stream;
@@ -74,8 +74,7 @@ module _ (before : Reading) (mine : ℕ) (ours : List ℕ) (other : ℕ) (theirs
         theirs = other;
         more = before.more;
         place = before.place;
-        found = found.Ended verdict;
-        trouble = before.trouble;
+        found = Some verdict;
       }) ours theirs
   ended-advances h = record {
     stream = refl;
@@ -84,7 +83,7 @@ module _ (before : Reading) (mine : ℕ) (ours : List ℕ) (other : ℕ) (theirs
     went = λ input. sym (went-by input ∙ ap (stepped_by (leaving (kept_in (counted before mine other) input ours theirs) p)) h);
   }
 
-  pub going-advances : p.found ≡ found.Going → (n m : ℕ) (o t : List ℕ) → kept n o ≡ kept_over p.ours mine ours →
+  pub going-advances : p.found ≡ None → (n m : ℕ) (o t : List ℕ) → kept n o ≡ kept_over p.ours mine ours →
       kept m t ≡ kept_over p.theirs other theirs →
       length o ≡ length ours → length t ≡ length theirs →
       Advances before mine ours other theirs
@@ -94,8 +93,7 @@ module _ (before : Reading) (mine : ℕ) (ours : List ℕ) (other : ℕ) (theirs
         theirs = m;
         more = before.more;
         place = p.place;
-        found = found.Going;
-        trouble = before.trouble;
+        found = None;
       }) o t
   going-advances h n m o t a b c d = record {
     stream = refl;
@@ -192,7 +190,6 @@ module _ (before : Reading) (input ours theirs part : List ℕ) (brought : ℕ) 
       more = before.more;
       place = before.place;
       found = before.found;
-      trouble = before.trouble;
     }
 
     kept_same : kept_in (counted handed (before.ours + next.put) before.theirs) held answered theirs
@@ -255,7 +252,6 @@ module _ (before : Reading) (input ours theirs part : List ℕ) (brought : ℕ) 
     more = ltb 0 brought;
     place = before.place;
     found = before.found;
-    trouble = before.trouble;
   }
 
   kept-heard : kept_in (counted heard before.ours (before.theirs + brought)) input ours filled-theirs
@@ -297,12 +293,12 @@ module _ (before next : Reading) (input ours theirs : List ℕ) (ready : Ready (
   pub end-follows : (verdict : Compared) → wants before.ours before.stream.more ≡ false →
       wants before.theirs before.more ≡ false →
       verdict ≡ compared_from before.place (take (before.ours - 0) ours) (take (before.theirs - 0) theirs) →
-      next.found ≡ found.Ended verdict →
+      next.found ≡ Some verdict →
       Follows before input ours theirs next input ours theirs
   end-follows verdict a b e h =
       at-end (rw (length-take-le before.ours ours ready.ours-fit) a)
       (rw (length-take-le before.theirs theirs ready.theirs-fit) b)
-      (h ∙ ap found.Ended (rw (sub-zero before.ours, sub-zero before.theirs) at e))
+      (h ∙ ap Some (rw (sub-zero before.ours, sub-zero before.theirs) at e))
 
 -- ---- buffers and what is kept as they were
 

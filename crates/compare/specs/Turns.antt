@@ -1,19 +1,15 @@
 -- What a turn of the program does with what a read brings: a step of `Runs` (02, T-09). Definitions only. Assumes nothing.
-use Rattle.std.specs.Prelude.{ℕ, ◌+◌, ◌*◌, ◌≤◌, ◌≡◌, true, false, List, length, take}
+use Rattle.std.specs.Prelude.{ℕ, ◌+◌, ◌*◌, ◌≤◌, ◌≡◌, true, false, List, length, take, Option, Some, None}
 use Rattle.scene_records.specs.Versions.{longest_either}
 use Rattle.answer_records.specs.Answers.{longest_answer}
-use Rattle.comparison.specs.declared.Found.TheVariants as found
 use Rattle.comparison.specs.Comparing.{compared_from}
 use Rattle.comparison.specs.Reads.{Kept, with_scenes, with_answers, stepped_by, compared_on, wants}
-use Rattle.compare.specs.declared.Trouble.TheVariants as trouble
-use Rattle.compare.specs.declared.Brought.{Brought}
-use Rattle.compare.specs.declared.Brought.TheVariants as brought
 use Rattle.compare.specs.declared.Reading.{Reading}
 
 -- how many bytes a read brings
-abbrev pub brought_in : Brought → ℕ
-brought_in (brought.Bytes n) = n
-brought_in brought.Failed = 0
+abbrev pub brought_in : Option ℕ → ℕ
+brought_in (Some n) = n
+brought_in None = 0
 
 -- what a reading keeps, over the three buffers
 abbrev pub kept_in : Reading → List ℕ → List ℕ → List ℕ → Kept
@@ -35,8 +31,7 @@ beginning = record {
   theirs = 0;
   more = true;
   place = 0;
-  found = found.Going;
-  trouble = trouble.NoTrouble;
+  found = None;
 }
 
 -- so many bytes of each side
@@ -48,7 +43,6 @@ counted r mine other = record {
   more = r.more;
   place = r.place;
   found = r.found;
-  trouble = r.trouble;
 }
 
 -- both sides were compared as far as whole records reach, and what is left of each is kept
@@ -69,12 +63,10 @@ pub record Ready (input ours theirs : ℕ) (r : Reading) : Type 0 where
   pub ours-fit : r.ours ≤ ours
   pub theirs-fit : r.theirs ≤ theirs
 
--- What a turn comes to: a read failed; some read brought scenes or answers, of which one that brought nothing met the end; or
+-- What a turn comes to, unless a read failed: some read brought scenes or answers, of which one that brought nothing met the end; or
 -- neither side wants more, and the verdict is told.
 pub data Follows (before : Reading) (input ours theirs : List ℕ) (next : Reading)
     (input-then ours-then theirs-then : List ℕ) : Type 0 where
-  scenes-failed : next.trouble ≡ trouble.OfScenes → Follows before input ours theirs next input-then ours-then theirs-then
-  answers-failed : next.trouble ≡ trouble.OfAnswers → Follows before input ours theirs next input-then ours-then theirs-then
   of-scenes : before.stream.more ≡ true → (read : List ℕ) →
       stepped_by (kept_in next input-then ours-then theirs-then) next.found
       ≡ compared_on (with_scenes (kept_in before input ours theirs) read) →
@@ -85,5 +77,5 @@ pub data Follows (before : Reading) (input ours theirs : List ℕ) (next : Readi
       Follows before input ours theirs next input-then ours-then theirs-then
   at-end : wants (length (take before.ours ours)) before.stream.more ≡ false →
       wants (length (take before.theirs theirs)) before.more ≡ false →
-      next.found ≡ found.Ended (compared_from before.place (take before.ours ours) (take before.theirs theirs)) →
+      next.found ≡ Some (compared_from before.place (take before.ours ours) (take before.theirs theirs)) →
       Follows before input ours theirs next input-then ours-then theirs-then

@@ -1,10 +1,11 @@
 -- Our own answers can all be read, and so they agree with the scenes that they answer. Assumes nothing.
+use Rattle.std.specs.Prelude.{None}
 use Prim.Native.Nat.{ℕ, ◌+◌, ◌-◌, ◌≤◌}
 use native.Mathlib.Omega.{arith}
 use mathlib.Core.Path.{◌≡◌, refl, sym, ap, ◌∙◌}
-use mathlib.Core.Bool.{Bool, true, false, ◌&&◌, ◌||◌}
+use mathlib.Core.Bool.{Bool, true, false, ◌&&◌}
 use mathlib.Core.List.{List, [], ◌++◌, append_assoc, append-nil}
-use lib.Dec.{eqb, leb, ltb}
+use lib.Dec.{eqb, leb}
 use lib.ListN.{length, take, drop}
 use lib.Seq.{take_all, drop_at}
 use borrow.Author.Tests.{eq-eqb, le-ltb}
@@ -21,19 +22,18 @@ use Rattle.answer_logs.specs.Logs.{Entry, found_as, size_in, found_in}
 use Rattle.answer_logs.specs.Parts.{waits}
 use Rattle.answer_logs.proofs.LogLaws.{found-there}
 use Rattle.answer_logs.proofs.CutLaws.{found-append}
-use Rattle.records.specs.Answered.{answered, refusal, reply_to}
+use Rattle.records.specs.Answered.{answered, reply_to}
 use Rattle.records.specs.Parts.{Part, skipped, overlong, whole, cut_short, part_in}
 use Rattle.records.specs.Streams.{unlimited, onward, worked, last_answer, answers_from, answers_to}
 use Rattle.records.proofs.PartLaws.{Lies, skips, names, holds, none, lies}
 use Rattle.records.proofs.WorkLaws.{work-freely, by_parts}
 use Rattle.records.proofs.RefusalLaws.{refusal-taken}
 use Rattle.records.proofs.OutcomeLaws.{outcome-taken}
-use Rattle.comparison.specs.declared.Matched.TheVariants as matched
-use Rattle.comparison.specs.declared.Compared.TheVariants as says
+use Rattle.comparison.specs.Verdicts.{agree}
 use Rattle.comparison.specs.Agreeing.{same_number, matched_outcomes, matched_refusals, matched_entries}
 use Rattle.comparison.specs.Turns.{turn_by}
-use Rattle.comparison.specs.Comparing.{turn_of, next_place, compared_from, compared_logs, compared}
-use Rattle.comparison.proofs.PlaceLaws.{continued, compared-on}
+use Rattle.comparison.specs.Comparing.{next_place, compared_from, compared_logs, compared}
+use Rattle.comparison.proofs.PlaceLaws.{compared-on}
 
 -- ---- a log that can be read agrees with itself
 
@@ -46,7 +46,7 @@ same_self : (x : ℕ) → same_number x x ≡ true
 unfolding same_number
 same_self x = rw (eq-eqb x x refl)
 
-entry-self : (e : Entry) → matched_entries e e ≡ matched.Same
+entry-self : (e : Entry) → matched_entries e e ≡ None
 unfolding matched_outcomes matched_refusals
 entry-self (log.outcome a) =
     rw (
@@ -58,7 +58,7 @@ entry-self (log.outcome a) =
     )
 entry-self (log.refusal n) = rw (eq-eqb n n refl)
 
-pub agrees-itself : (s : List ℕ) (place : ℕ) → Readable s → compared_from place s s ≡ says.Agree
+pub agrees-itself : (s : List ℕ) (place : ℕ) → Readable s → compared_from place s s ≡ agree
 unfolding found_in turn_by
 agrees-itself s place no_record = compared-on place [] []
 agrees-itself s place (record-read e k f rest) =
@@ -160,6 +160,6 @@ own-readable scenes =
     work-readable scenes 0 (last_answer (length (drop (worked unlimited 0 scenes).used scenes))) (last-readable _)
 
 -- "All agree" is said of our own answers.
-pub own-agree : (scenes : List ℕ) → compared scenes (answers_to scenes) ≡ says.Agree
+pub own-agree : (scenes : List ℕ) → compared scenes (answers_to scenes) ≡ agree
 unfolding compared compared_logs
 own-agree scenes = agrees-itself (answers_to scenes) 0 (own-readable scenes)

@@ -1,10 +1,11 @@
 -- What a part of each log gives is what the whole logs give, whatever stands behind the parts. Assumes nothing.
-use Prim.Native.Nat.{ℕ, zero, suc, ◌+◌, ◌-◌, ◌≤◌, ◌<◌}
+use Rattle.std.specs.Prelude.{Option, Some, None}
+use Prim.Native.Nat.{ℕ, zero, suc, ◌≤◌, ◌<◌}
 use native.Mathlib.Omega.{arith}
 use mathlib.Core.Path.{◌≡◌, refl, sym, ap, ◌∙◌}
 use mathlib.Core.Logic.{◌⊎◌, inl, inr, ⊎_elim}
 use mathlib.Core.Bool.{Bool, true, false, false≢true}
-use mathlib.Core.List.{List, [], ◌∷◌, ◌++◌, append-nil}
+use mathlib.Core.List.{List, [], ◌∷◌, ◌++◌}
 use lib.ListN.{length, take, drop, length-drop}
 use lib.Seq.{drop-drop, drop-append-le}
 use Rattle.arithmetic.proofs.Choice.{if-case}
@@ -15,20 +16,16 @@ use Rattle.answer_logs.specs.Logs.{Entry, found_as, size_in, found_in}
 use Rattle.answer_logs.specs.Parts.{waits, found_whole}
 use Rattle.answer_logs.proofs.LogLaws.{found-cut}
 use Rattle.answer_logs.proofs.CutLaws.{found-append, waits-cut}
-use Rattle.comparison.specs.declared.Matched.{Matched}
-use Rattle.comparison.specs.declared.Matched.TheVariants as matched
+use Rattle.admission.specs.Refusals.{refusal_of}
 use Rattle.comparison.specs.declared.Turn.{Turn}
 use Rattle.comparison.specs.declared.Turn.TheVariants as turn
-use Rattle.comparison.specs.declared.Compared.{Compared}
-use Rattle.comparison.specs.declared.Compared.TheVariants as says
+use Rattle.comparison.specs.Verdicts.{Compared}
 use Rattle.comparison.specs.declared.Difference.{Difference}
 use Rattle.comparison.specs.declared.Difference.TheVariants as difference
-use Rattle.comparison.specs.declared.Found.{Found}
-use Rattle.comparison.specs.declared.Found.TheVariants as found
 use Rattle.comparison.specs.declared.Progress.{Progress}
 use Rattle.comparison.specs.Agreeing.{matched_entries}
 use Rattle.comparison.specs.Turns.{turn_by}
-use Rattle.comparison.specs.Comparing.{turn_of, next_place, Stop, here, behind, passed, walked, first_stop, compared_from, found_by, stopped_at, progress_of, advanced}
+use Rattle.comparison.specs.Comparing.{turn_of, next_place, Stop, behind, passed, walked, first_stop, compared_from, found_by, stopped_at, progress_of, advanced}
 use Rattle.comparison.proofs.PlaceLaws.{Moves, moves, moves-on, whole-sized, continued, compared-on, Ends, at-end, at-bad}
 
 -- ---- what is known of the record at the start of a part
@@ -52,9 +49,9 @@ waits-ends (x ∷ s) h = rw (found-cut (x ∷ s) (omega arith) (waits-cut (x ∷
 
 module _ (more-ours more-theirs : List ℕ) where
   -- the comparison of the wholes, resumed behind what a part of each gave
-  abbrev pub if_going : Compared → Found → Compared
-  if_going next found.Going = next
-  if_going next (found.Ended verdict) = verdict
+  abbrev pub if_going : Compared → Option Compared → Compared
+  if_going next None = next
+  if_going next (Some verdict) = verdict
 
   abbrev pub resumed : List ℕ → List ℕ → Progress → Compared
   resumed o t p = if_going (compared_from p.place (drop p.ours o ++ more-ours) (drop p.theirs t ++ more-theirs)) p.found
@@ -146,12 +143,12 @@ whole-seen s = if-case (Seen s) (waits s) (λ e. nothing e) (λ e. found-seen s)
 abbrev pub Waiting : List ℕ → List ℕ → Type 0
 Waiting o t = (waits o ≡ true) ⊎ (waits t ≡ true)
 
-abbrev is_going : Found → Bool
-is_going found.Going = true
-is_going (found.Ended verdict) = false
+abbrev is_going : Option Compared → Bool
+is_going None = true
+is_going (Some verdict) = false
 
 record Left (o t : List ℕ) (p : Progress) : Type 0 where
-  pub waiting : p.found ≡ found.Going → Waiting (drop p.ours o) (drop p.theirs t)
+  pub waiting : p.found ≡ None → Waiting (drop p.ours o) (drop p.theirs t)
 
 ended-left : (o t : List ℕ) (place : ℕ) (w : Turn) → is_going (found_by place w) ≡ false → Left o t (stopped_at 0 0 place w)
 ended-left o t place w h = record { waiting = λ e. absurd (false≢true (sym h ∙ ap is_going e)) }
@@ -169,17 +166,17 @@ behind-left o t j k s h =
 
 module _ (o t : List ℕ) (place : ℕ) (next : ℕ → ℕ → Stop) (same : (j k : ℕ) → 1 ≤ k → k ≤ length t →
     Left (drop j o) (drop k t) (progress_of (next j k))) where
-  match-left : (j k : ℕ) (m : Matched) → Moves o t (turn_by m j k) → Left o t (progress_of (passed place next (turn_by m j k)))
+  match-left : (j k : ℕ) (m : Option Difference) → Moves o t (turn_by m j k) → Left o t (progress_of (passed place next (turn_by m j k)))
   unfolding turn_by found_by
-  match-left j k matched.Same (moves a b c d) = behind-left o t j k (next j k) (same j k c d)
-  match-left j k (matched.Apart d) m = ended-left o t place (turn.Different d) refl
+  match-left j k None (moves a b c d) = behind-left o t j k (next j k) (same j k c d)
+  match-left j k (Some d) m = ended-left o t place (turn.Different d) refl
 
   turn-left : (f g : log.Found) → Seen o f → Seen t g → Moves o t (turn_of f g) →
       Left o t (progress_of (passed place next (turn_of f g)))
   unfolding found_by
-  turn-left log.ended (log.bad n) p q m = ended-left o t place (turn.Unreadable n) refl
-  turn-left (log.bad i) (log.bad n) p q m = ended-left o t place (turn.Unreadable n) refl
-  turn-left (log.entry a j) (log.bad n) p q m = ended-left o t place (turn.Unreadable n) refl
+  turn-left log.ended (log.bad n) p q m = ended-left o t place (turn.Unreadable (refusal_of n)) refl
+  turn-left (log.bad i) (log.bad n) p q m = ended-left o t place (turn.Unreadable (refusal_of n)) refl
+  turn-left (log.entry a j) (log.bad n) p q m = ended-left o t place (turn.Unreadable (refusal_of n)) refl
   turn-left log.ended log.ended (nothing h) q m = going-left o t place turn.BothEnded (inl h)
   turn-left (log.bad i) log.ended p (nothing h) m = going-left o t place (turn.OneEnded difference.NoneOfOurs) (inr h)
   turn-left (log.entry a j) log.ended p (nothing h) m = going-left o t place (turn.OneEnded difference.NoneOfTheirs) (inr h)
@@ -195,7 +192,7 @@ walk-left (suc n) place o t h =
     (found_whole o) (found_whole t) (whole-seen o) (whole-seen t) (moves-on found_whole whole-sized o t)
 
 -- Where more is needed, one side at least waits for more of a record, or has none.
-pub going-waits : (place : ℕ) (o t : List ℕ) → (advanced place o t).found ≡ found.Going →
+pub going-waits : (place : ℕ) (o t : List ℕ) → (advanced place o t).found ≡ None →
     Waiting (drop (advanced place o t).ours o) (drop (advanced place o t).theirs t)
 unfolding advanced first_stop
 going-waits place o t = (walk-left (suc (length t)) place o t (omega arith)).waiting

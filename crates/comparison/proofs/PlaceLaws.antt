@@ -1,5 +1,6 @@
 -- The comparison goes on place by place, and stops where a side has no record. Assumes nothing.
-use Prim.Native.Nat.{ℕ, zero, suc, ◌+◌, ◌-◌, ◌≤◌, ◌<◌}
+use Rattle.std.specs.Prelude.{Option, Some, None}
+use Prim.Native.Nat.{ℕ, zero, suc, ◌≤◌, ◌<◌}
 use native.Mathlib.Omega.{arith}
 use mathlib.Core.Path.{◌≡◌, refl, ap, ◌∙◌}
 use mathlib.Core.Logic.{◌⊎◌, ⊎_elim}
@@ -10,16 +11,14 @@ use Rattle.answer_logs.specs.Logs.{Entry, outcome, refusal, found_in, logged_as,
 use Rattle.answer_logs.specs.Parts.{found_whole, whole_at}
 use Rattle.answer_logs.proofs.RecordLaws.{Stands, an-outcome, a-refusal, stands}
 use Rattle.answer_logs.proofs.PartLaws.{whole-stands}
-use Rattle.comparison.specs.declared.Matched.{Matched}
-use Rattle.comparison.specs.declared.Matched.TheVariants as matched
+use Rattle.admission.specs.declared.refusal.Refusal.{Refusal}
 use Rattle.comparison.specs.declared.Turn.{Turn}
 use Rattle.comparison.specs.declared.Turn.TheVariants as turn
-use Rattle.comparison.specs.declared.Compared.{Compared}
-use Rattle.comparison.specs.declared.Compared.TheVariants as says
+use Rattle.comparison.specs.Verdicts.{Compared, agree, differs, unreadable}
 use Rattle.comparison.specs.declared.Difference.{Difference}
 use Rattle.comparison.specs.Agreeing.{matched_entries}
 use Rattle.comparison.specs.Turns.{turn_by}
-use Rattle.comparison.specs.Comparing.{turn_of, next_place, Stop, here, behind, passed, walked, first_stop, told_in, compared_from}
+use Rattle.comparison.specs.Comparing.{turn_of, next_place, Stop, behind, passed, walked, first_stop, told_in, compared_from}
 
 -- ---- how many bytes a record has
 
@@ -46,15 +45,15 @@ whole-sized s = stands-sized s (found_whole s) (whole-stands s 0)
 
 pub data Moves (o t : List ℕ) : Turn → Type 0 where
   moves : {j k : ℕ} → 1 ≤ j → j ≤ length o → 1 ≤ k → k ≤ length t → Moves o t (turn.Onward j k)
-  not-readable : {n : ℕ} → Moves o t (turn.Unreadable n)
+  not-readable : {r : Refusal} → Moves o t (turn.Unreadable r)
   not-the-same : {d : Difference} → Moves o t (turn.Different d)
   no_more : Moves o t turn.BothEnded
   one_more : {d : Difference} → Moves o t (turn.OneEnded d)
 
-match-moves : (o t : List ℕ) (j k : ℕ) (m : Matched) → 1 ≤ j → j ≤ length o → 1 ≤ k → k ≤ length t → Moves o t (turn_by m j k)
+match-moves : (o t : List ℕ) (j k : ℕ) (m : Option Difference) → 1 ≤ j → j ≤ length o → 1 ≤ k → k ≤ length t → Moves o t (turn_by m j k)
 unfolding turn_by
-match-moves o t j k matched.Same a b c d = moves a b c d
-match-moves o t j k (matched.Apart e) a b c d = not-the-same
+match-moves o t j k None a b c d = moves a b c d
+match-moves o t j k (Some e) a b c d = not-the-same
 
 pub turn-moves : (o t : List ℕ) (f g : log.Found) → Sized o f → Sized t g → Moves o t (turn_of f g)
 turn-moves o t log.ended (log.bad n) p q = not-readable
@@ -103,10 +102,10 @@ module _ (read : List ℕ → log.Found) (within : (s : List ℕ) → Sized s (r
 
 abbrev pub continued : ℕ → (ℕ → ℕ → Compared) → Turn → Compared
 continued place next (turn.Onward j k) = next j k
-continued place next (turn.Unreadable n) = says.Unreadable n place
-continued place next (turn.Different d) = says.Differs place d
-continued place next turn.BothEnded = says.Agree
-continued place next (turn.OneEnded d) = says.Differs place d
+continued place next (turn.Unreadable n) = unreadable n place
+continued place next (turn.Different d) = differs place d
+continued place next turn.BothEnded = agree
+continued place next (turn.OneEnded d) = differs place d
 
 told-passed : (place : ℕ) (f : ℕ → ℕ → Stop) (w : Turn) → told_in (passed place f w).place (passed place f w).turn
     ≡ continued place (λ j k. told_in (f j k).place (f j k).turn) w

@@ -1,11 +1,11 @@
 -- However both files are cut into reads, the verdict is that of the wholes. Assumes nothing.
-use Prim.Native.Nat.{ℕ, ◌+◌, ◌<◌}
+use Rattle.std.specs.Prelude.{Option, Some, None}
+use Prim.Native.Nat.{ℕ}
 use native.Mathlib.Omega.{arith}
 use mathlib.Core.Path.{◌≡◌, refl, sym, ap, ◌∙◌}
-use mathlib.Core.Logic.{◌⊎◌, inl, inr, ⊎_elim}
-use mathlib.Core.Bool.{Bool, true, false, false≢true, ◌&&◌}
+use mathlib.Core.Logic.{inl, inr, ⊎_elim}
+use mathlib.Core.Bool.{Bool, true, false, false≢true}
 use mathlib.Core.List.{List, [], ◌∷◌, ◌++◌, append_assoc, append-nil}
-use lib.Dec.{ltb}
 use lib.ListN.{length, drop}
 use borrow.Author.Tests.{lt-ltb}
 use Rattle.arithmetic.specs.Binary32.{when◌then◌else◌}
@@ -14,15 +14,12 @@ use Rattle.answer_logs.specs.Logs.{found_in}
 use Rattle.answer_logs.specs.Parts.{waits}
 use Rattle.answer_logs.proofs.CutLaws.{found-append, waiting_few}
 use Rattle.records.specs.Streams.{unlimited, stopped, worked, last_answer, answers_from}
-use Rattle.records.specs.Turns.{turned}
 use Rattle.records.proofs.RunLaws.{worked-out, cut-answers, nothing_read}
-use Rattle.comparison.specs.declared.Compared.{Compared}
-use Rattle.comparison.specs.declared.Found.{Found}
-use Rattle.comparison.specs.declared.Found.TheVariants as found
+use Rattle.comparison.specs.Verdicts.{Compared}
 use Rattle.comparison.specs.declared.Progress.{Progress}
 use Rattle.comparison.specs.Comparing.{turn_of, told_in, compared_from, compared_logs, compared, advanced}
-use Rattle.comparison.specs.Reads.{Kept, start, answering, with_scenes, is_some, with_answers, Stepped, told, goes_on, leaving, stepped_by, compared_on, wants, Runs, scenes-told, scenes-on, answers-told, answers-on, enough}
-use Rattle.comparison.proofs.PlaceLaws.{Ends, last-place}
+use Rattle.comparison.specs.Reads.{Kept, start, with_scenes, with_answers, told, goes_on, leaving, stepped_by, compared_on, wants, Runs, scenes-told, scenes-on, answers-told, answers-on, enough}
+use Rattle.comparison.proofs.PlaceLaws.{last-place}
 use Rattle.comparison.proofs.PartLaws.{waits-ends, Waiting, advance-cut, going-waits, if_going}
 
 -- ---- what is left to compare
@@ -98,16 +95,16 @@ module _ (k : Kept) (scenes answers : List ℕ) where
   abbrev step : Progress
   step = advanced k.place k.ours k.theirs
 
-  by-found : (f : Found) → step.found ≡ f → left_over k scenes answers
+  by-found : (f : Option Compared) → step.found ≡ f → left_over k scenes answers
       ≡ if_going [] [] (left_over (leaving k step) scenes answers) f
   by-found f e =
       advance-cut (answers_left k scenes) answers k.place k.ours k.theirs
       ∙ ap (if_going [] [] (left_over (leaving k step) scenes answers)) e
 
-  told-as : (f : Found) → step.found ≡ f → (verdict : Compared) → stepped_by (leaving k step) f ≡ told verdict →
+  told-as : (f : Option Compared) → step.found ≡ f → (verdict : Compared) → stepped_by (leaving k step) f ≡ told verdict →
       left_over k scenes answers ≡ verdict
-  told-as found.Going e verdict h = absurd (let z : ◌≡◌ {A = ℕ} 0 1 = cc in omega arith)
-  told-as (found.Ended v) e verdict h = by-found (found.Ended v) e ∙ (let same : v ≡ verdict = cc in same)
+  told-as None e verdict h = absurd (let z : ◌≡◌ {A = ℕ} 0 1 = cc in omega arith)
+  told-as (Some v) e verdict h = by-found (Some v) e ∙ (let same : v ≡ verdict = cc in same)
 
   step-told : (verdict : Compared) → compared_on k ≡ told verdict → left_over k scenes answers ≡ verdict
   unfolding compared_on
@@ -118,16 +115,16 @@ module _ (k : Kept) (scenes answers : List ℕ) where
     pub sound : Sound k scenes answers → Sound next scenes answers
     pub waiting : Waiting next.ours next.theirs
 
-  left_behind : step.found ≡ found.Going → Onward (leaving k step)
+  left_behind : step.found ≡ None → Onward (leaving k step)
   left_behind e = record {
-    same = by-found found.Going e;
+    same = by-found None e;
     sound = λ h. record { still = h.still; no-scenes = h.no-scenes; no-answers = h.no-answers };
     waiting = going-waits k.place k.ours k.theirs e;
   }
 
-  onward-as : (f : Found) → step.found ≡ f → (next : Kept) → stepped_by (leaving k step) f ≡ goes_on next → Onward next
-  onward-as found.Going e next h = let same : leaving k step ≡ next = cc in rw (← same) (left_behind e)
-  onward-as (found.Ended v) e next h = absurd (let z : ◌≡◌ {A = ℕ} 0 1 = cc in omega arith)
+  onward-as : (f : Option Compared) → step.found ≡ f → (next : Kept) → stepped_by (leaving k step) f ≡ goes_on next → Onward next
+  onward-as None e next h = let same : leaving k step ≡ next = cc in rw (← same) (left_behind e)
+  onward-as (Some v) e next h = absurd (let z : ◌≡◌ {A = ℕ} 0 1 = cc in omega arith)
 
   step-on : (next : Kept) → compared_on k ≡ goes_on next → Onward next
   unfolding compared_on

@@ -1,5 +1,6 @@
 -- The code's turns: each place at its bytes, and what the comparison makes of it. Assumes nothing.
-use Prim.Native.Nat.{ℕ, suc, ◌+◌, ◌-◌, ◌≤◌, ◌<◌}
+use Rattle.std.specs.Prelude.{Option, Some, None}
+use Prim.Native.Nat.{ℕ, ◌+◌, ◌≤◌, ◌<◌}
 use native.Mathlib.Omega.{arith}
 use native.Mathlib.Nat.{add-zero, zero-add, add_assoc}
 use mathlib.Core.Path.{◌≡◌, refl, sym, ap, ◌∙◌}
@@ -11,13 +12,10 @@ use lib.Seq.{drop-drop}
 use Rattle.answer_logs.specs.Logs as log
 use Rattle.answer_logs.specs.Logs.{outcome, refusal, found_in, logged_as, logged_at}
 use Rattle.answer_logs.specs.Parts.{found_whole, whole_at}
-use Rattle.comparison.specs.declared.Matched.{Matched}
-use Rattle.comparison.specs.declared.Matched.TheVariants as matched
+use Rattle.comparison.specs.declared.Difference.{Difference}
 use Rattle.comparison.specs.declared.Turn.{Turn}
 use Rattle.comparison.specs.declared.Turn.TheVariants as turn
-use Rattle.comparison.specs.declared.Compared.{Compared}
-use Rattle.comparison.specs.declared.Found.{Found}
-use Rattle.comparison.specs.declared.Found.TheVariants as found
+use Rattle.comparison.specs.Verdicts.{Compared}
 use Rattle.comparison.specs.declared.Progress.{Progress}
 use Rattle.comparison.specs.Agreeing.{matched_outcomes, matched_refusals}
 use Rattle.comparison.specs.Turns.{turn_by, against_end, against_outcome, against_refusal, turn_in, part_turn, whole_turn}
@@ -34,10 +32,10 @@ code_at at by (turn.Different d) = turn.Different d
 code_at at by turn.BothEnded = turn.BothEnded
 code_at at by (turn.OneEnded d) = turn.OneEnded d
 
-match-at : (at by j k : ℕ) (m : Matched) → turn_by m (at + j) (by + k) ≡ code_at at by (turn_by m j k)
+match-at : (at by j k : ℕ) (m : Option Difference) → turn_by m (at + j) (by + k) ≡ code_at at by (turn_by m j k)
 unfolding turn_by
-match-at at by j k matched.Same = refl
-match-at at by j k (matched.Apart d) = refl
+match-at at by j k None = refl
+match-at at by j k (Some d) = refl
 
 turn_at : (at by : ℕ) (f g : log.Found) → turn_in (logged_as at f) (logged_as by g) ≡ code_at at by (turn_of f g)
 unfolding turn_in against_end against_outcome against_refusal turn_by
@@ -66,6 +64,13 @@ is_onward (turn.Unreadable n) = false
 is_onward (turn.Different d) = false
 is_onward turn.BothEnded = false
 is_onward (turn.OneEnded d) = false
+
+pub stays : (w : Turn) → ((j k : ℕ) → w ≡ turn.Onward j k → ⊥) → is_onward w ≡ false
+stays (turn.Onward j k) h = absurd (h j k refl)
+stays (turn.Unreadable r) h = refl
+stays (turn.Different d) h = refl
+stays turn.BothEnded h = refl
+stays (turn.OneEnded d) h = refl
 
 data Reaching (o t : List ℕ) (at by : ℕ) : Turn → Type 0 where
   reaching : {j k : ℕ} → at < j → j ≤ length o → by < k → k ≤ length t → Reaching o t at by (turn.Onward j k)
@@ -164,11 +169,11 @@ module _ (o t : List ℕ) (place : ℕ) where
       ∙ advance-cut [] [] place o t
 
   module _ {p : Progress} (e : p ≡ advanced place o t) where
-    pub ended-told : {verdict : Compared} → p.found ≡ found.Ended verdict → verdict ≡ compared_from place o t
+    pub ended-told : {verdict : Compared} → p.found ≡ Some verdict → verdict ≡ compared_from place o t
     ended-told h =
         sym (ended-cut ∙ ap (resumed [] [] o t) (sym e) ∙ ap (if_going [] [] _) h)
 
-    pub going-told : p.found ≡ found.Going → told_in p.place (whole_turn o t p.ours p.theirs) ≡ compared_from place o t
+    pub going-told : p.found ≡ None → told_in p.place (whole_turn o t p.ours p.theirs) ≡ compared_from place o t
     unfolding whole_turn logged_at
     going-told h =
         let a = drop p.ours o in

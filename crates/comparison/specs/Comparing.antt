@@ -1,19 +1,15 @@
 -- Two logs compared place by place, whole or as far as a part of each reaches (02, T-09). Definitions only. Assumes nothing.
-use Rattle.std.specs.Prelude.{ℕ, zero, suc, ◌+◌, List, ltb, length, drop}
+use Rattle.std.specs.Prelude.{ℕ, zero, suc, ◌+◌, List, ltb, length, drop, Option, Some, None}
 use Rattle.arithmetic.specs.Binary32.{when◌then◌else◌}
+use Rattle.admission.specs.Refusals.{refusal_of}
 use Rattle.answer_logs.specs.Logs as log
 use Rattle.answer_logs.specs.Logs.{found_in}
 use Rattle.answer_logs.specs.Parts.{found_whole}
 use Rattle.records.specs.Streams.{answers_to}
 use Rattle.comparison.specs.declared.Difference.TheVariants as difference
-use Rattle.comparison.specs.declared.Matched.{Matched}
-use Rattle.comparison.specs.declared.Matched.TheVariants as matched
 use Rattle.comparison.specs.declared.Turn.{Turn}
 use Rattle.comparison.specs.declared.Turn.TheVariants as turn
-use Rattle.comparison.specs.declared.Compared.{Compared}
-use Rattle.comparison.specs.declared.Compared.TheVariants as says
-use Rattle.comparison.specs.declared.Found.{Found}
-use Rattle.comparison.specs.declared.Found.TheVariants as found
+use Rattle.comparison.specs.Verdicts.{Compared, agree, differs, unreadable}
 use Rattle.comparison.specs.declared.Progress.{Progress}
 use Rattle.comparison.specs.Agreeing.{matched_entries}
 use Rattle.comparison.specs.Turns.{turn_by}
@@ -24,7 +20,7 @@ use Rattle.comparison.specs.Turns.{turn_by}
 -- first; "a missing or surplus record is a difference at its place". An unreadable one of ours, which there is none of, counts as
 -- none and differs.
 abbrev pub turn_of : log.Found → log.Found → Turn
-turn_of ours (log.bad n) = turn.Unreadable n
+turn_of ours (log.bad n) = turn.Unreadable (refusal_of n)
 turn_of log.ended log.ended = turn.BothEnded
 turn_of (log.bad m) log.ended = turn.OneEnded difference.NoneOfOurs
 turn_of (log.entry a j) log.ended = turn.OneEnded difference.NoneOfTheirs
@@ -76,11 +72,11 @@ first_stop read place ours theirs = walked read (suc (length theirs)) place ours
 -- "reports the first record whose outcome, point, failed line or probe count differs, or that all agree"; no walk stops
 -- at a place that agrees
 unfoldable pub told_in : ℕ → Turn → Compared
-told_in place (turn.Onward j k) = says.Agree
-told_in place (turn.Unreadable n) = says.Unreadable n place
-told_in place (turn.Different d) = says.Differs place d
-told_in place turn.BothEnded = says.Agree
-told_in place (turn.OneEnded d) = says.Differs place d
+told_in place (turn.Onward j k) = agree
+told_in place (turn.Unreadable n) = unreadable n place
+told_in place (turn.Different d) = differs place d
+told_in place turn.BothEnded = agree
+told_in place (turn.OneEnded d) = differs place d
 
 -- from a place on
 unfoldable pub compared_from : ℕ → List ℕ → List ℕ → Compared
@@ -96,12 +92,12 @@ compared scenes answers = compared_logs (answers_to scenes) answers
 -- ---- parts of logs
 
 -- where a part has ended, more of the logs is needed
-unfoldable pub found_by : ℕ → Turn → Found
-found_by place (turn.Onward j k) = found.Going
-found_by place (turn.Unreadable n) = found.Ended (says.Unreadable n place)
-found_by place (turn.Different d) = found.Ended (says.Differs place d)
-found_by place turn.BothEnded = found.Going
-found_by place (turn.OneEnded d) = found.Going
+unfoldable pub found_by : ℕ → Turn → Option Compared
+found_by place (turn.Onward j k) = None
+found_by place (turn.Unreadable n) = Some (unreadable n place)
+found_by place (turn.Different d) = Some (differs place d)
+found_by place turn.BothEnded = None
+found_by place (turn.OneEnded d) = None
 
 abbrev pub stopped_at : ℕ → ℕ → ℕ → Turn → Progress
 stopped_at ours theirs place w = record { ours = ours; theirs = theirs; place = place; found = found_by place w }

@@ -3,3 +3,4 @@ pub mod Agreeing
 pub mod Turns
 pub mod Comparing
 pub mod Reads
+pub mod Verdicts

@@ -1,11 +1,9 @@
 -- Two files compared read by read: what is kept between two reads, and where a read leads (02, T-09). Definitions only.
 -- Assumes nothing.
-use Rattle.std.specs.Prelude.{ℕ, ◌≡◌, Bool, true, false, ◌&&◌, List, [], ◌∷◌, ◌++◌, ltb, length, drop}
+use Rattle.std.specs.Prelude.{ℕ, ◌≡◌, Bool, true, false, ◌&&◌, List, [], ◌∷◌, ◌++◌, ltb, length, drop, Option, Some, None}
 use Rattle.answer_records.specs.Answers.{longest_answer}
 use Rattle.records.specs.Turns.{Turned, turned}
-use Rattle.comparison.specs.declared.Compared.{Compared}
-use Rattle.comparison.specs.declared.Found.{Found}
-use Rattle.comparison.specs.declared.Found.TheVariants as found
+use Rattle.comparison.specs.Verdicts.{Compared}
 use Rattle.comparison.specs.declared.Progress.{Progress}
 use Rattle.comparison.specs.Comparing.{compared_from, advanced}
 
@@ -70,9 +68,9 @@ leaving k p = record {
   place = p.place;
 }
 
-abbrev pub stepped_by : Kept → Found → Stepped
-stepped_by next found.Going = goes_on next
-stepped_by next (found.Ended verdict) = told verdict
+abbrev pub stepped_by : Kept → Option Compared → Stepped
+stepped_by next None = goes_on next
+stepped_by next (Some verdict) = told verdict
 
 -- both sides are compared as far as whole records reach
 unfoldable pub compared_on : Kept → Stepped

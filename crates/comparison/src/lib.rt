@@ -2,16 +2,20 @@
 #![tactic(auto)]
 
 ghost use Rattle.std.specs.Prelude.{◌≡◌};
+ghost use Rattle.admission.specs.Refusals.{number_of};
+ghost use Rattle.answer_logs.specs.Logs.{logged_of};
 ghost use Rattle.comparison.specs.Agreeing.{is_zero, same_number, matched_outcomes, matched_refusals};
 ghost use Rattle.comparison.specs.Turns.{against_end, against_outcome, against_refusal, turn_in, turn_by, part_turn, whole_turn};
 ghost use Rattle.comparison.specs.Comparing.{next_place, compared_from, told_in, found_by, stopped_at, advanced};
 
+use admission::Refusal;
 use answer_logs::Logged;
-use answer_records::Answer;
+use answer_records::{Answer, Reply};
 
 // The first field in which two records of one place differ, ours and theirs: the point by its bits; an outcome's number beside a
 // refusal's; or the side that has no record there.
-#[derive(Clone, Copy)]
+// kept: no plainer: refusals by their numbers, as all fields are told as the records say them.
+#[derive(Clone, Copy, Debug, PartialEq, Eq)]
 pub enum Difference {
     Outcome(u8, u8),
     PointX(u32, u32),
@@ -25,36 +29,31 @@ pub enum Difference {
     NoneOfTheirs,
 }
 
-// What a comparison tells: all places agree; the first place that differs, and how; or the number of an unreadable
-// answer's fault, and its place. Places are counted from 0.
-#[derive(Clone, Copy)]
-pub enum Compared {
-    Agree,
-    Differs(u64, Difference),
-    Unreadable(u8, u64),
+// The first place that differs, and how. Places are counted from 0.
+#[derive(Clone, Copy, Debug, PartialEq, Eq)]
+pub struct Differing {
+    pub place: u64,
+    pub difference: Difference,
 }
 
-// Whether more of the logs is needed, or what is told whatever follows.
-#[derive(Clone, Copy)]
-pub enum Found {
-    Going,
-    Ended(Compared),
+// An unreadable answer: its fault, and its place.
+#[derive(Clone, Copy, Debug, PartialEq, Eq)]
+pub struct UnreadableAt {
+    pub refusal: Refusal,
+    pub place: u64,
 }
 
-// How far two parts were compared: the bytes of each that are used, the next place, and what was found.
-#[derive(Clone, Copy)]
+// What a comparison tells: the first place that differs, or none where all agree; or an unreadable answer.
+pub type Compared = Result<Option<Differing>, UnreadableAt>;
+
+// How far two parts were compared: the bytes of each that are used, the next place, and what is told whatever follows, if
+// that is known; else more of the logs is needed.
+#[derive(Clone, Copy, Debug, PartialEq, Eq)]
 pub struct Progress {
     pub ours: usize,
     pub theirs: usize,
     pub place: u64,
-    pub found: Found,
-}
-
-// Two records of one place: they agree, or this is the first field in which they do not.
-#[derive(Clone, Copy)]
-pub(crate) enum Matched {
-    Same,
-    Apart(Difference),
+    pub found: Option<Compared>,
 }
 
 // What stands at one place: two records that agree, with the bytes behind them; an unreadable answer of theirs; two that differ;
@@ -62,7 +61,7 @@ pub(crate) enum Matched {
 #[derive(Clone, Copy)]
 pub(crate) enum Turn {
     Onward(usize, usize),
-    Unreadable(u8),
+    Unreadable(Refusal),
     Different(Difference),
     BothEnded,
     OneEnded(Difference),
@@ -79,25 +78,12 @@ pub fn advance(ours: &[u8], theirs: &[u8], place: u64) -> Progress
     let mut next = place;
     loop {
         let turn = part_turn(ours, theirs, at, by);
-        match turn {
-            Turn::Onward(j, k) => {
-                at = j;
-                by = k;
-                next = next_place(next);
-            }
-            Turn::Unreadable(_) => {
-                return stopped(at, by, next, turn);
-            }
-            Turn::Different(_) => {
-                return stopped(at, by, next, turn);
-            }
-            Turn::BothEnded => {
-                return stopped(at, by, next, turn);
-            }
-            Turn::OneEnded(_) => {
-                return stopped(at, by, next, turn);
-            }
-        }
+        let Turn::Onward(j, k) = turn else {
+            return stopped(at, by, next, turn);
+        };
+        at = j;
+        by = k;
+        next = next_place(next);
     }
 }
 
@@ -108,10 +94,9 @@ pub fn finish(ours: &[u8], theirs: &[u8], place: u64) -> Compared
     ensures { result ≡ compared_from place ours.now theirs.now }
 {
     let progress = advance(ours, theirs, place);
-    let found = progress.found;
-    match found {
-        Found::Ended(verdict) => verdict,
-        Found::Going => {
+    match progress.found {
+        Some(verdict) => verdict,
+        None => {
             let turn = whole_turn(ours, theirs, progress.ours, progress.theirs);
             told(progress.place, turn)
         }
@@ -119,15 +104,16 @@ pub fn finish(ours: &[u8], theirs: &[u8], place: u64) -> Compared
 }
 
 // What is told where a comparison stops at a place; a place that agrees is no such place.
+#[tactic(auto, unfolding(crate::specs::Comparing::told_in))]
 fn told(place: u64, turn: Turn) -> Compared
     ensures { result ≡ told_in place turn }
 {
     match turn {
-        Turn::Onward(_, _) => Compared::Agree,
-        Turn::Unreadable(number) => Compared::Unreadable(number, place),
-        Turn::Different(difference) => Compared::Differs(place, difference),
-        Turn::BothEnded => Compared::Agree,
-        Turn::OneEnded(difference) => Compared::Differs(place, difference),
+        Turn::Onward(_, _) => Ok(None),
+        Turn::Unreadable(refusal) => Err(UnreadableAt { refusal, place }),
+        Turn::Different(difference) => Ok(Some(Differing { place, difference })),
+        Turn::BothEnded => Ok(None),
+        Turn::OneEnded(difference) => Ok(Some(Differing { place, difference })),
     }
 }
 
@@ -144,16 +130,17 @@ fn stopped(ours: usize, theirs: usize, place: u64, turn: Turn) -> Progress
     }
 }
 
-// Where a part has ended, more of the logs is needed.
-fn found_by(place: u64, turn: Turn) -> Found
+// What is told whatever follows. Where a part has ended, more of the logs is needed.
+#[tactic(auto, unfolding(crate::specs::Comparing::told_in, crate::specs::Comparing::found_by))]
+fn found_by(place: u64, turn: Turn) -> Option<Compared>
     ensures { result ≡ found_by place turn }
 {
     match turn {
-        Turn::Onward(_, _) => Found::Going,
-        Turn::Unreadable(number) => Found::Ended(Compared::Unreadable(number, place)),
-        Turn::Different(difference) => Found::Ended(Compared::Differs(place, difference)),
-        Turn::BothEnded => Found::Going,
-        Turn::OneEnded(_) => Found::Going,
+        Turn::Onward(_, _) => None,
+        Turn::Unreadable(_) => Some(told(place, turn)),
+        Turn::Different(_) => Some(told(place, turn)),
+        Turn::BothEnded => None,
+        Turn::OneEnded(_) => None,
     }
 }
 
@@ -161,10 +148,7 @@ fn found_by(place: u64, turn: Turn) -> Found
 fn next_place(place: u64) -> u64
     ensures { result ≡ next_place place }
 {
-    if place < u64::MAX {
-        return place + 1;
-    }
-    place
+    place.saturating_add(1)
 }
 
 // The turn at a byte of each part.
@@ -186,115 +170,118 @@ fn whole_turn(ours: &[u8], theirs: &[u8], at: usize, by: usize) -> Turn
 }
 
 // What two records make of a place. An unreadable one of theirs comes before all else.
+#[tactic(auto, unfolding(crate::specs::Turns::turn_in))]
 fn judged(ours: Logged, theirs: Logged) -> Turn
-    ensures { result ≡ turn_in ours theirs }
+    ensures { result ≡ turn_in (logged_of ours) (logged_of theirs) }
 {
     match theirs {
-        Logged::End => against_end(ours),
-        Logged::Fault(number) => Turn::Unreadable(number),
-        Logged::Outcome(answer, behind) => against_outcome(ours, answer, behind),
-        Logged::Refusal(number, behind) => against_refusal(ours, number, behind),
+        Err(refusal) => Turn::Unreadable(refusal),
+        Ok(None) => against_end(ours),
+        Ok(Some((Reply::Outcome(answer), behind))) => against_outcome(ours, answer, behind),
+        Ok(Some((Reply::Refusal(refusal), behind))) => against_refusal(ours, refusal, behind),
     }
 }
 
+#[tactic(auto, unfolding(crate::specs::Turns::against_end))]
 fn against_end(ours: Logged) -> Turn
-    ensures { result ≡ against_end ours }
+    ensures { result ≡ against_end (logged_of ours) }
 {
     match ours {
-        Logged::End => Turn::BothEnded,
-        Logged::Fault(_) => Turn::OneEnded(Difference::NoneOfOurs),
-        Logged::Outcome(_, _) => Turn::OneEnded(Difference::NoneOfTheirs),
-        Logged::Refusal(_, _) => Turn::OneEnded(Difference::NoneOfTheirs),
+        Ok(None) => Turn::BothEnded,
+        Ok(Some(_)) => Turn::OneEnded(Difference::NoneOfTheirs),
+        Err(_) => Turn::OneEnded(Difference::NoneOfOurs),
     }
 }
 
+#[tactic(auto, unfolding(crate::specs::Turns::against_outcome))]
 fn against_outcome(ours: Logged, theirs: Answer, behind: usize) -> Turn
-    ensures { result ≡ against_outcome ours theirs behind }
+    ensures { result ≡ against_outcome (logged_of ours) theirs behind }
 {
     match ours {
-        Logged::End => Turn::OneEnded(Difference::NoneOfOurs), // theirs is surplus
-        Logged::Fault(_) => Turn::Different(Difference::NoneOfOurs),
-        Logged::Refusal(number, _) => Turn::Different(Difference::RefusalAndOutcome(
-            number,
+        Ok(None) => Turn::OneEnded(Difference::NoneOfOurs), // theirs is surplus
+        Err(_) => Turn::Different(Difference::NoneOfOurs),
+        Ok(Some((Reply::Refusal(refusal), _))) => Turn::Different(Difference::RefusalAndOutcome(
+            refusal.number(),
             theirs.code,
         )),
-        Logged::Outcome(answer, next) => onward(matched_outcomes(answer, theirs), next, behind),
+        Ok(Some((Reply::Outcome(answer), next))) => {
+            onward(matched_outcomes(answer, theirs), next, behind)
+        }
     }
 }
 
-fn against_refusal(ours: Logged, theirs: u8, behind: usize) -> Turn
-    ensures { result ≡ against_refusal ours theirs behind }
+#[tactic(auto, unfolding(crate::specs::Turns::against_refusal))]
+fn against_refusal(ours: Logged, theirs: Refusal, behind: usize) -> Turn
+    ensures { result ≡ against_refusal (logged_of ours) (number_of theirs) behind }
 {
     match ours {
-        Logged::End => Turn::OneEnded(Difference::NoneOfOurs),
-        Logged::Fault(_) => Turn::Different(Difference::NoneOfOurs),
-        Logged::Outcome(answer, _) => Turn::Different(Difference::OutcomeAndRefusal(
+        Ok(None) => Turn::OneEnded(Difference::NoneOfOurs),
+        Err(_) => Turn::Different(Difference::NoneOfOurs),
+        Ok(Some((Reply::Outcome(answer), _))) => Turn::Different(Difference::OutcomeAndRefusal(
             answer.code,
-            theirs,
+            theirs.number(),
         )),
-        Logged::Refusal(number, next) => onward(matched_refusals(number, theirs), next, behind),
+        Ok(Some((Reply::Refusal(refusal), next))) => onward(
+            matched_refusals(refusal.number(), theirs.number()),
+            next,
+            behind,
+        ),
     }
 }
 
 // Behind two records that agree the comparison goes on.
-fn onward(matched: Matched, next: usize, behind: usize) -> Turn
+#[tactic(auto, unfolding(crate::specs::Turns::turn_by))]
+fn onward(matched: Option<Difference>, next: usize, behind: usize) -> Turn
     ensures { result ≡ turn_by matched next behind }
 {
     match matched {
-        Matched::Same => Turn::Onward(next, behind),
-        Matched::Apart(difference) => Turn::Different(difference),
+        None => Turn::Onward(next, behind),
+        Some(difference) => Turn::Different(difference),
     }
 }
 
-// The first of outcome, point, failed line and probes in which two outcomes differ.
-fn matched_outcomes(ours: Answer, theirs: Answer) -> Matched
+// The first of outcome, point, failed line and probes in which two outcomes differ, or none where they agree.
+fn matched_outcomes(ours: Answer, theirs: Answer) -> Option<Difference>
     ensures { result ≡ matched_outcomes ours theirs }
 {
     if ours.code != theirs.code {
-        return Matched::Apart(Difference::Outcome(ours.code, theirs.code));
+        return Some(Difference::Outcome(ours.code, theirs.code));
     }
     if !same_number(ours.x, theirs.x) {
-        return Matched::Apart(Difference::PointX(ours.x, theirs.x));
+        return Some(Difference::PointX(ours.x, theirs.x));
     }
     if !same_number(ours.y, theirs.y) {
-        return Matched::Apart(Difference::PointY(ours.y, theirs.y));
+        return Some(Difference::PointY(ours.y, theirs.y));
     }
     if ours.failed != theirs.failed {
-        return Matched::Apart(Difference::FailedLine(ours.failed, theirs.failed));
+        return Some(Difference::FailedLine(ours.failed, theirs.failed));
     }
     if ours.probes != theirs.probes {
-        return Matched::Apart(Difference::Probes(ours.probes, theirs.probes));
+        return Some(Difference::Probes(ours.probes, theirs.probes));
     }
-    Matched::Same
+    None
 }
 
-fn matched_refusals(ours: u8, theirs: u8) -> Matched
+fn matched_refusals(ours: u8, theirs: u8) -> Option<Difference>
     ensures { result ≡ matched_refusals ours theirs }
 {
     if ours != theirs {
-        return Matched::Apart(Difference::Refusal(ours, theirs));
+        return Some(Difference::Refusal(ours, theirs));
     }
-    Matched::Same
+    None
 }
 
 // Whether two patterns are the same, or both a zero's.
+#[tactic(auto, unfolding(crate::specs::Agreeing::same_number))]
 fn same_number(a: u32, b: u32) -> bool
     ensures { result ≡ same_number a b }
 {
-    if a == b {
-        return true;
-    }
-    if is_zero(a) {
-        return is_zero(b);
-    }
-    false
+    a == b || (is_zero(a) && is_zero(b))
 }
 
+#[tactic(auto, unfolding(crate::specs::Agreeing::is_zero))]
 fn is_zero(pattern: u32) -> bool
     ensures { result ≡ is_zero pattern }
 {
-    if pattern == 0 {
-        return true;
-    }
-    pattern == 0x8000_0000
+    pattern == 0 || pattern == 0x8000_0000
 }

@@ -1,14 +1,13 @@
 -- What one record moved does for the work on all: the loop goes on. Assumes nothing.
-use Rattle.std.proofs.Common.{◌≡◌, ℕ, ◌+◌, ◌-◌, ◌*◌, ◌<◌, ◌≤◌, List, [], ◌++◌, length, take, drop, sym, refl, ap, ◌∙◌, append-nil, add-zero, arith, length-drop, take-append-drop, length-take-le, drop-drop}
+use Rattle.std.proofs.Common.{◌≡◌, ℕ, ◌+◌, ◌-◌, ◌*◌, ◌<◌, ◌≤◌, List, ◌++◌, length, take, drop, sym, refl, ap, ◌∙◌, append-nil, add-zero, arith, length-drop, take-append-drop, length-take-le, drop-drop}
 use Rattle.scene_records.specs.declared.Version.{Version}
 use Rattle.records.specs.Steps.{put_at}
 use Rattle.records.proofs.LoopLaws.{put-sized, put_front, put-behind, drop_more}
 use Rattle.conversion.specs.declared.Place.{Place}
 use Rattle.conversion.specs.declared.Stage.{Stage}
-use Rattle.conversion.specs.declared.Stage.TheVariants as stage
 use Rattle.conversion.specs.Streams.{Met, moves, refuses, waits, met_in, next_place, Walked, stopped, after}
 use Rattle.conversion.specs.Streams.{onward, walked}
-use Rattle.conversion.specs.Steps.{Stepped, goes_on, stops, step_by, step_over, Standing, standing, standing_by}
+use Rattle.conversion.specs.Steps.{Stepped, goes_on, stops, step_by, step_over, standing, standing_by}
 use Rattle.conversion.specs.Steps.{walked_over}
 use Rattle.conversion.proofs.MetLaws.{Meets, moving, refusing, waiting, meets}
 use Rattle.conversion.proofs.WalkedLaws.{after_nothing, after-after, work-on}

@@ -1,12 +1,12 @@
 -- Laws of the record at the start of a stream: how many bytes it and the moved one have, and that bytes behind it do
 -- not change what is met. Assumes nothing.
-use Rattle.std.proofs.Common.{◌≡◌, ℕ, ◌+◌, ◌-◌, ◌*◌, ◌≤◌, List, ◌++◌, length, take, sym, refl, ap, ◌∙◌, arith, length-take-le}
+use Rattle.std.proofs.Common.{◌≡◌, ℕ, ◌+◌, ◌-◌, ◌*◌, ◌≤◌, List, ◌++◌, length, take, refl, ap, arith, length-take-le}
 use lib.Seq.{take-append-le}
 use Rattle.fields.specs.Got.{Got, refused, got}
 use Rattle.scene_records.specs.declared.Version.{Version}
 use Rattle.scene_records.specs.declared.Version.TheVariants.{One, Two}
 use Rattle.scene_records.specs.Versions.{longest_either}
-use Rattle.scene_moves.specs.Moves.{line_size, lines_start, moved_length, moved}
+use Rattle.scene_moves.specs.Moves.{line_size, moved}
 use Rattle.scene_moves.proofs.Places.{lines-last}
 use Rattle.scene_moves.proofs.PutMoves.{moved-long}
 use Rattle.scene_moves.proofs.MoveLaws.{moved-taken}

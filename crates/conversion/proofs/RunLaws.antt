@@ -13,8 +13,8 @@ use Rattle.conversion.specs.declared.Stage.{Stage}
 use Rattle.conversion.specs.declared.Stage.TheVariants as stage
 use Rattle.conversion.specs.Streams.{Walked, stopped, after, walked, last_stage, is_open, Converted, ended}
 use Rattle.conversion.specs.Streams.{converted_from, converted_to}
-use Rattle.conversion.specs.Turns.{Turned, going_on, turned, told_by, ahead, run}
-use Rattle.conversion.proofs.WalkedLaws.{resumed, Leaves, leaves}
+use Rattle.conversion.specs.Turns.{turned, told_by, ahead, run}
+use Rattle.conversion.proofs.WalkedLaws.{leaves}
 
 -- ---- what is kept
 

@@ -1,6 +1,7 @@
 -- Laws of one record moved, in the code's words. Assumes nothing.
-use Rattle.std.proofs.Common.{◌≡◌, ℕ, ◌+◌, ◌-◌, ◌*◌, ◌≤◌, List, [], ◌++◌, length, take, drop, sym, refl, ap, ◌∙◌, append-nil, add-zero, arith, length-drop, take-append-drop, length-take-le, le-leb}
+use Rattle.std.proofs.Common.{◌≡◌, ℕ, ◌+◌, ◌-◌, ◌*◌, ◌≤◌, List, [], ◌++◌, length, take, drop, sym, refl, ap, ◌∙◌, append-nil, add-zero, arith, length-drop, take-append-drop, length-take-le, le-leb, Option, Some, None}
 use borrow.Rule.Slice.PartMut.{put_mid}
+use Rattle.admission.specs.Refusals.{refusal_of}
 use Rattle.admission.specs.Faults.{Fault, fine, fault}
 use Rattle.admission.proofs.FaultLaws.{no-fault}
 use Rattle.fields.specs.Got.{Got, refused, got}
@@ -38,7 +39,7 @@ nothing_put : (n : ℕ) (out part : List ℕ) → n ≤ length out → part ≡ 
     put_mid n (length out - n) out part ≡ out
 nothing_put n out part h e = put-in-part n [] out part h e ∙ rw (add-zero, append-nil) (take-append-drop n out)
 
-module _ (to : Version) (s out : List ℕ) (p : Place) (q : PartCode)
+module _ (to : Version) (s out : List ℕ) (p : Place) (q : Option PartCode)
     (there : part_of q ≡ part_in 0 (take (length s - p.used) (drop p.used s))) where
   by_part : step_over to s out p ≡ step_by out p (met_as to (drop p.used s) (part_of q))
   unfolding step_over met_in
@@ -47,16 +48,16 @@ module _ (to : Version) (s out : List ℕ) (p : Place) (q : PartCode)
   known : Lies 0 (drop p.used s) (part_of q)
   known = rw (there, rest_of p.used s) (lies 0 (drop p.used s))
 
-  pub cut_step : q ≡ code.Cut → stops stage.Open out ≡ step_over to s out p
+  pub cut_step : q ≡ None → stops stage.Open out ≡ step_over to s out p
   cut_step e = sym (rw e at by_part)
 
-  pub skip_step : (k : ℕ) → q ≡ code.Skipped k → stops stage.Open out ≡ step_over to s out p
+  pub skip_step : (k : ℕ) → q ≡ Some (code.Skipped k) → stops stage.Open out ≡ step_over to s out p
   skip_step k e = sym (rw e at by_part)
 
-  pub overlong-step : (n : ℕ) → q ≡ code.Overlong n → stops (stage.Refused 4) out ≡ step_over to s out p
+  pub overlong-step : (n : ℕ) → q ≡ Some (code.Overlong n) → stops (stage.Refused (refusal_of 4)) out ≡ step_over to s out p
   overlong-step n e = sym (rw e at by_part)
 
-  module _ (k : ℕ) (e : q ≡ code.Whole k) where
+  module _ (k : ℕ) (e : q ≡ Some (code.Whole k)) where
     pub whole-fits : (2 ≤ k) × (k ≤ length s - p.used)
     whole-fits = rw length-drop at (hold-lies (rw e at known))
 
@@ -85,11 +86,11 @@ module _ (to : Version) (s out : List ℕ) (p : Place) (q : PartCode)
       stepped = rw e at by_part
 
       pub refused-step : (r : ℕ) → f ≡ fault r →
-          stops (stage.Refused r) (put_mid p.put (length out - p.put) out part) ≡ step_over to s out p
+          stops (stage.Refused (refusal_of r)) (put_mid p.put (length out - p.put) out part) ≡ step_over to s out p
       refused-step r is = go moving told ∙ sym stepped
         where
           go : (g : Got (List ℕ)) → written f n part ≡ laid_freely g (drop p.put out) →
-              stops (stage.Refused r) (put_mid p.put (length out - p.put) out part) ≡ step_by out p (met_by k g)
+              stops (stage.Refused (refusal_of r)) (put_mid p.put (length out - p.put) out part) ≡ step_by out p (met_by k g)
           go (refused m) x =
               let number : r ≡ m = ap number_in (sym is ∙ ap (λ (y : Written). y.told) x) in
               rw (number, nothing_put p.put out part fits (ap (λ (y : Written). y.contents) x))

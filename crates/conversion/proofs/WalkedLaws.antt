@@ -1,6 +1,6 @@
 -- Laws of the work on a stream: it goes record by record, leaves less than the longest record, and cutting the stream
 -- anywhere changes nothing. Assumes nothing.
-use Rattle.std.proofs.Common.{◌≡◌, ℕ, ◌+◌, ◌-◌, ◌≤◌, Bool, true, false, List, [], ◌++◌, length, drop, sym, refl, ap, ◌∙◌, append_assoc, append-nil, add_assoc, zero-add, arith, length-drop, drop-drop}
+use Rattle.std.proofs.Common.{◌≡◌, ℕ, ◌+◌, ◌-◌, ◌≤◌, Bool, true, false, List, [], ◌++◌, length, drop, sym, refl, ap, ◌∙◌, append_assoc, add_assoc, zero-add, arith, length-drop, drop-drop}
 use mathlib.Core.Bool.{false≢true}
 use lib.Seq.{drop-append-le}
 use Rattle.arithmetic.specs.Binary32.{when◌then◌else◌}
@@ -8,7 +8,6 @@ use Rattle.kept.proofs.WalkLaws.{walk-on}
 use Rattle.scene_records.specs.declared.Version.{Version}
 use Rattle.scene_records.specs.Versions.{longest_either}
 use Rattle.records.proofs.WorkLaws.{by_parts}
-use Rattle.conversion.specs.declared.Stage.{Stage}
 use Rattle.conversion.specs.declared.Stage.TheVariants as stage
 use Rattle.conversion.specs.Streams.{Met, moves, refuses, waits, met_in, next_place, Walked, stopped, after}
 use Rattle.conversion.specs.Streams.{onward, step, walked, is_open}

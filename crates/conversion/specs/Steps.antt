@@ -1,12 +1,12 @@
 -- One record moved, and the work on what was read, over lent memory. Definitions only. Assumes nothing.
-use Rattle.std.specs.Prelude.{ℕ, ◌+◌, List, ◌++◌, length, drop}
+use Rattle.std.specs.Prelude.{ℕ, ◌+◌, List, ◌++◌, length, drop, Option, Some, None, Result, Ok, Err}
+use Rattle.admission.specs.declared.refusal.Refusal.{Refusal}
+use Rattle.admission.specs.Refusals.{refusal_of}
 use Rattle.scene_records.specs.declared.Version.{Version}
 use Rattle.records.specs.Steps.{Put, put_at}
 use Rattle.conversion.specs.declared.Place.{Place}
 use Rattle.conversion.specs.declared.Stage.{Stage}
 use Rattle.conversion.specs.declared.Stage.TheVariants as stage
-use Rattle.conversion.specs.declared.Step.{Step}
-use Rattle.conversion.specs.declared.Step.TheVariants as code
 use Rattle.conversion.specs.declared.Walk.{Walk}
 use Rattle.conversion.specs.Streams.{Met, moves, refuses, waits, met_in, next_place, Walked, walked}
 
@@ -17,9 +17,10 @@ pub data Stepped : Type 0 where
   goes_on : Place → List ℕ → Stepped
   stops : Stage → List ℕ → Stepped
 
-abbrev pub stepped_of : Step → List ℕ → Stepped
-stepped_of (code.More p) l = goes_on p l
-stepped_of (code.Stop g) l = stops g l
+abbrev pub stepped_of : Result (Option Place) Refusal → List ℕ → Stepped
+stepped_of (Ok (Some p)) l = goes_on p l
+stepped_of (Ok None) l = stops stage.Open l
+stepped_of (Err r) l = stops (stage.Refused r) l
 
 abbrev pub goes_with : ℕ → Put → ℕ → Stepped
 goes_with used p place = goes_on (record { used = used; put = p.count; place = place }) p.contents
@@ -27,7 +28,7 @@ goes_with used p place = goes_on (record { used = used; put = p.count; place = p
 -- the moved record goes behind those that stand; what lies behind it stays
 abbrev pub step_by : List ℕ → Place → Met → Stepped
 step_by out p waits = stops stage.Open out
-step_by out p (refuses r) = stops (stage.Refused r) out
+step_by out p (refuses r) = stops (stage.Refused (refusal_of r)) out
 step_by out p (moves k t) = goes_with (p.used + k) (put_at p.put t out) (next_place p.place)
 
 unfoldable pub step_over : Version → List ℕ → List ℕ → Place → Stepped

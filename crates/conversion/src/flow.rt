@@ -4,7 +4,8 @@ ghost use Rattle.conversion.specs.Streams.{last_stage};
 ghost use Rattle.conversion.specs.Steps.{standing, walked_over};
 
 use crate::steps::step;
-use crate::{Place, Stage, Step, Walk};
+use crate::{Place, Stage, Walk};
+use admission::Refusal;
 use scene_records::Version;
 
 // Moves record behind record from the input's start on, each behind the other at the output's start. It stops where
@@ -19,13 +20,19 @@ pub(crate) fn walk(input: &[u8], output: &mut [u8], place: u64, to: Version) -> 
         place,
     };
     loop {
-        let next = step(input, output, at, to);
-        match next {
-            Step::More(behind) => {
-                at = behind;
+        match step(input, output, at, to) {
+            Ok(Some(behind)) => at = behind,
+            Ok(None) => {
+                return Walk {
+                    place: at,
+                    stage: Stage::Open,
+                };
             }
-            Step::Stop(stage) => {
-                return Walk { place: at, stage };
+            Err(refusal) => {
+                return Walk {
+                    place: at,
+                    stage: Stage::Refused(refusal),
+                };
             }
         }
     }
@@ -38,5 +45,5 @@ pub(crate) fn last_stage(left: usize) -> Stage
     if left == 0 {
         return Stage::Whole;
     }
-    Stage::Refused(2)
+    Stage::Refused(Refusal::MissingOrLeftOver)
 }

@@ -4,25 +4,27 @@
 ghost use Rattle.std.specs.Prelude.{◌≡◌};
 ghost use Rattle.conversion.specs.Turns.{lent, beginning, closed_at, has_room, turn_over};
 
+use admission::Refusal;
 use scene_records::{NumberedScene, Version};
 
 mod flow;
 mod steps;
 
 // Whether there may be more to read; or the stream has ended behind a whole record; or the record at the place is
-// refused with this number; or the buffers of a turn were too short for it.
-#[derive(Clone, Copy)]
+// refused; or the buffers of a turn were too short for it.
+// kept: no plainer: beside a refusal stand the bytes that were moved before it, which a `Result` would not hold.
+#[derive(Clone, Copy, Debug, PartialEq, Eq)]
 pub enum Stage {
     Open,
     Whole,
-    Refused(u8),
+    Refused(Refusal),
     NoRoom,
 }
 
 // Where a stream stands after a turn: how many bytes of moved records are at the output's start, to be written; how
 // many bytes wait at the input's start for the next read; the place of the next record, counted from 0, or of the one
 // that is refused; and the stage.
-#[derive(Clone, Copy)]
+#[derive(Clone, Copy, Debug, PartialEq, Eq)]
 pub struct Stream {
     pub put: usize,
     pub kept: usize,
@@ -40,22 +42,15 @@ impl Stream {
 
 // How far the work on what was read got: the bytes of it that are used, the bytes that stand at the output's start,
 // and the place of the next record.
-#[derive(Clone, Copy)]
+#[derive(Clone, Copy, Debug, PartialEq, Eq)]
 pub(crate) struct Place {
     pub(crate) used: usize,
     pub(crate) put: usize,
     pub(crate) place: u64,
 }
 
-// The place behind a record that was moved; or there was none to move, and the stage that the stream is in then.
-#[derive(Clone, Copy)]
-pub(crate) enum Step {
-    More(Place),
-    Stop(Stage),
-}
-
 // Where the work stopped, and the stage that the stream is in.
-#[derive(Clone, Copy)]
+#[derive(Clone, Copy, Debug, PartialEq, Eq)]
 pub(crate) struct Walk {
     pub(crate) place: Place,
     pub(crate) stage: Stage,
@@ -120,11 +115,9 @@ fn closed(put: usize, place: u64, stage: Stage) -> Stream
 
 // Whether the bytes kept and read lie in the input, and the output has two bytes for each of the input's. No sum is
 // made that could overflow.
+#[tactic(auto, unfolding(crate::specs::Turns::has_room))]
 fn is_room(input: usize, output: usize, kept: usize, read: usize) -> bool
     ensures { result ≡ has_room input output kept read }
 {
-    if output / 2 < input {
-        return false;
-    }
-    admission::fits_behind(input, kept, read)
+    output / 2 >= input && admission::fits_behind(input, kept, read)
 }

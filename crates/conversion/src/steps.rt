@@ -5,44 +5,44 @@ ghost use Rattle.scene_moves.specs.Moves.{moved_into};
 ghost use Rattle.conversion.specs.Streams.{other_of};
 ghost use Rattle.conversion.specs.Steps.{stepped_of, step_over};
 
-use crate::{Place, Stage, Step};
+use crate::Place;
+use admission::Refusal;
 use records::Part;
-use scene_records::{SceneWritten, Version};
+use scene_records::Version;
 
-// Moves the record at a place behind those that stand. There are two bytes of room for each that is left.
-pub(crate) fn step(input: &[u8], output: &mut [u8], at: Place, to: Version) -> Step
+// Moves the record at a place behind those that stand: the place behind it; or none, where no whole record is there. There
+// are two bytes of room for each that is left.
+pub(crate) fn step(
+    input: &[u8],
+    output: &mut [u8],
+    at: Place,
+    to: Version,
+) -> Result<Option<Place>, Refusal>
     requires { (at.used ≤ length input.now) × (at.put ≤ length output.old)
         × (2 * (length input.now - at.used) ≤ length output.old - at.put) }
     ensures { stepped_of result output.new ≡ step_over to input.now output.old at }
 {
-    let used = at.used;
-    let put = at.put;
-    let part = records::next_part(&input[used..], 0);
+    let Some(part) = records::next_part(&input[at.used..], 0) else {
+        return Ok(None);
+    };
     match part {
-        Part::Cut => Step::Stop(Stage::Open),
-        Part::Skipped(_) => Step::Stop(Stage::Open),
-        Part::Overlong(_) => Step::Stop(Stage::Refused(4)),
+        Part::Skipped(_) => Ok(None),
+        Part::Overlong(_) => Err(Refusal::TooMany),
         Part::Whole(count) => {
-            let end = used + count;
-            let written = move_record(&input[used..end], &mut output[put..], to);
-            match written {
-                SceneWritten::Refused(number) => Step::Stop(Stage::Refused(number)),
-                SceneWritten::Length(length) => {
-                    let behind = put + length;
-                    let next = std::num::wrapping_add_u64(at.place, 1);
-                    Step::More(Place {
-                        used: end,
-                        put: behind,
-                        place: next,
-                    })
-                }
-            }
+            let end = at.used + count;
+            let length = move_record(&input[at.used..end], &mut output[at.put..], to)?;
+            let next = at.place.wrapping_add(1);
+            Ok(Some(Place {
+                used: end,
+                put: at.put + length,
+                place: next,
+            }))
         }
     }
 }
 
 // Moves one record to the version from the other one.
-fn move_record(source: &[u8], buffer: &mut [u8], to: Version) -> SceneWritten
+fn move_record(source: &[u8], buffer: &mut [u8], to: Version) -> Result<usize, Refusal>
     ensures { written_of result buffer.new ≡ moved_into (other_of to) to source.now buffer.old }
 {
     match to {

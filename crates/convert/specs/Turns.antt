@@ -1,20 +1,18 @@
 -- What a turn of the program comes to. Definitions only. Assumes nothing.
-use Rattle.std.specs.Prelude.{ℕ, ◌≡◌, true, List}
+use Rattle.std.specs.Prelude.{ℕ, ◌≡◌, List, Option, Some, None}
 use Rattle.scene_records.specs.declared.Version.{Version}
 use Rattle.conversion.specs.declared.Stream.{Stream}
 use Rattle.conversion.specs.Turns.{Follows}
-use Rattle.convert.specs.declared.Brought.{Brought}
-use Rattle.convert.specs.declared.Brought.TheVariants as brought
-use Rattle.convert.specs.declared.Standing.{Standing}
 
 -- a read that failed brought nothing
-abbrev pub brought_in : Brought → ℕ
-brought_in (brought.Bytes n) = n
-brought_in brought.Failed = 0
+abbrev pub brought_in : Option ℕ → ℕ
+brought_in (Some n) = n
+brought_in None = 0
 
--- the read failed, and the stream stands as before; or for what it brought the stream goes on by `run`'s step, whose
--- records stand at the output's start
-pub data GoesOn (to : Version) (before : Stream) (input : List ℕ) (next : Standing)
+-- a read or a write failed, and there is no stream more; or for what a read brought the stream goes on by `run`'s step,
+-- whose records stand at the output's start
+pub data GoesOn (to : Version) (before : Stream) (input : List ℕ) (next : Option Stream)
     (held output : List ℕ) : Type 0 where
-  failed : next.failed ≡ true → next.stream ≡ before → GoesOn to before input next held output
-  brought-some : Follows to before input next.stream held output → GoesOn to before input next held output
+  failed : next ≡ None → GoesOn to before input next held output
+  brought-some : (s : Stream) → next ≡ Some s → Follows to before input s held output →
+      GoesOn to before input next held output

@@ -4,7 +4,7 @@
 // too, the one sign of it that the program gives: its exit status is 0 all the same.
 #![tactic(auto)]
 
-ghost use Rattle.std.specs.Prelude.{◌≤◌, length};
+ghost use Rattle.std.specs.Prelude.{◌≤◌, length, IfSome};
 ghost use Rattle.conversion.specs.Turns.{Ready};
 ghost use Rattle.convert.specs.Turns.{brought_in, GoesOn};
 
@@ -13,82 +13,41 @@ use scene_records::Version;
 use std::io::Read;
 use std::rt::Env;
 
-// How many bytes a read brings, none at the input's end; or it has failed.
-#[derive(Clone, Copy)]
-enum Brought {
-    Bytes(usize),
-    Failed,
-}
-
-// Where the stream stands after a turn, and whether a read or a write has failed.
-#[derive(Clone, Copy)]
-struct Standing {
-    stream: Stream,
-    failed: bool,
-}
-
-fn read<R: Input + Eprint>(rt: &R, input: &mut [u8]) -> Brought
+// How many bytes a read brings, none at the input's end; or nothing where it has failed.
+fn read<R: Input + Eprint>(rt: &R, input: &mut [u8]) -> Option<usize>
     ensures { brought_in result ≤ length input.new }
 {
-    let mut reader = rt.reader();
-    match reader.read(input) {
-        Ok(got) => Brought::Bytes(got),
-        Err(error) => {
-            troubles::tell(rt, "convert: standard input", error);
-            Brought::Failed
-        }
-    }
+    let got = rt.reader().read(input);
+    troubles::told(rt, "convert: standard input", got)
 }
 
-// Whether all moved records could be written.
-fn write<R: Print + Eprint>(rt: &R, records: &[u8]) -> bool {
-    match rt.write_all(records) {
-        Ok(()) => true,
-        Err(error) => {
-            troubles::tell(rt, "convert: standard output", error);
-            false
-        }
-    }
+// Writes all moved records, or nothing is answered.
+fn write<R: Print + Eprint>(rt: &R, records: &[u8]) -> Option<()> {
+    troubles::told(rt, "convert: standard output", rt.write_all(records))
 }
 
-// One read, behind what is kept, a turn of the stream, and one write.
+// One read, behind what is kept, a turn of the stream, and one write. There is no stream more where a read or a write has
+// failed.
 fn turn<R: Input + Print + Eprint>(
     rt: &R,
     input: &mut [u8],
     output: &mut [u8],
     before: Stream,
     to: Version,
-) -> Standing
+) -> Option<Stream>
     requires { Ready (length input.old) (length output.old) before.kept }
     ensures goes_on { GoesOn to before input.old result input.new output.new }
-    ensures ready { Ready (length input.new) (length output.new) result.stream.kept }
+    ensures ready { IfSome result (λ next. Ready (length input.new) (length output.new) next.kept) }
 {
-    let kept = before.kept;
-    let Brought::Bytes(brought) = read(rt, &mut input[kept..]) else {
-        return Standing {
-            stream: before,
-            failed: true,
-        };
-    };
+    let brought = read(rt, &mut input[before.kept..])?;
     let next = conversion::turn(input, output, before, brought, to);
-    let put = next.put;
-    if write(rt, &output[0..put]) {
-        return Standing {
-            stream: next,
-            failed: false,
-        };
-    }
-    Standing {
-        stream: next,
-        failed: true,
-    }
+    write(rt, &output[0..next.put])?;
+    Some(next)
 }
 
 fn tell_refused(rt: &impl Eprint, number: u8, place: u64) {
-    let told = eprintln!(rt; "refused {number} at {place}");
-    if let Err(error) = told {
-        troubles::tell(rt, "convert: standard error", error);
-    }
+    let written = eprintln!(rt; "refused {number} at {place}");
+    troubles::told(rt, "convert: standard error", written);
 }
 
 // Turn behind turn until one fails or the stream has ended. The count only bounds the loop.
@@ -96,22 +55,15 @@ fn turns<R: Input + Print + Eprint>(rt: &R, input: &mut [u8], output: &mut [u8],
     requires { Ready (length input.old) (length output.old) 0 }
 {
     let mut stream = conversion::start();
-    let mut left = u64::MAX;
-    while left > 0 {
-        let next = turn(rt, input, output, stream, to);
-        if next.failed {
-            return;
-        }
-        stream = next.stream;
-        let stage = stream.stage;
-        if let Stage::Refused(number) = stage {
-            tell_refused(rt, number, stream.place);
-            return;
-        }
-        let Stage::Open = stage else {
+    for _ in 0..u64::MAX {
+        let Some(next) = turn(rt, input, output, stream, to) else {
             return;
         };
-        left -= 1;
+        match next.stage {
+            Stage::Open => stream = next,
+            Stage::Refused(refusal) => return tell_refused(rt, refusal.number(), next.place),
+            Stage::Whole | Stage::NoRoom => return,
+        }
     }
 }
 
@@ -124,13 +76,13 @@ fn convert<R: Input + Print + Eprint>(rt: &R, to: Version) {
 fn main(rt: HostRuntime) {
     let mut word = [0u8; 4096];
     let length = rt.arg(1, &mut word).unwrap_or(0);
-    if length == 1 && word[0] == b'1' {
-        convert(&rt, Version::One);
-        return;
-    }
-    if length == 1 && word[0] == b'2' {
-        convert(&rt, Version::Two);
-        return;
-    }
-    let _ = rt.eprint("convert: the version to move to is missing: 1 or 2\n");
+    let to = match &word[..length] {
+        [b'1'] => Version::One,
+        [b'2'] => Version::Two,
+        _ => {
+            let _ = rt.eprint("convert: the version to move to is missing: 1 or 2\n");
+            return;
+        }
+    };
+    convert(&rt, to);
 }

@@ -1,12 +1,18 @@
 -- Each figure of a tally over the list of records: how many, the sum, the largest; and any two tallies agree. Assumes nothing.
 use Rattle.std.proofs.Common.{◌≡◌, ℕ, ◌+◌, ◌<◌, ◌≤◌, Bool, true, false, List, [], ◌∷◌, length, get_or, refl, ap, ◌∙◌, le_trans, arith}
 use native.Mathlib.Nat.{max-le, le-max_left, le-max_right}
+use Rattle.std.specs.Prelude.{Result, Ok, Err}
+use Rattle.admission.specs.declared.refusal.Refusal.{Refusal}
+use Rattle.admission.specs.Refusals.{refusal_of}
+use Rattle.admission.proofs.FaultLaws.{refusal-back}
 use Rattle.arithmetic.specs.Binary32.{when◌then◌else◌}
-use Rattle.arithmetic.proofs.Agree.{agree}
+use Rattle.arithmetic.proofs.Agree.{agree-read}
 use Rattle.arithmetic.proofs.Lists.{All, none, more}
 use Rattle.answer_logs.specs.Logs.{Entry, records_in}
-use Rattle.daily_tally.specs.declared.Tallied.{Tallied}
-use Rattle.daily_tally.specs.Figures.{sum_of, largest_of, one, count_of, is_outcome, is_refusal, names_failed, probes_of, tally_of, tallied}
+use Rattle.daily_tally.specs.declared.DayTally.{DayTally}
+use Rattle.daily_tally.specs.declared.RefusedAt.{RefusedAt}
+use Rattle.daily_tally.specs.Figures as walked
+use Rattle.daily_tally.specs.Figures.{sum_of, largest_of, one, count_of, is_outcome, is_refusal, names_failed, probes_of, tally_of, Walked, Tallied, tallied, refused_by, tallied_of}
 use Rattle.daily_tally.proofs.AddingLaws.{below_at}
 
 -- ---- the figures of a list
@@ -71,6 +77,19 @@ largest-least number (e ∷ l) top (more h hs) = max-le h (largest-least number 
 
 -- ---- any two outcomes agree
 
-pub tallies-agree : (most : ℕ) (log : List ℕ) {first second : Tallied} → first ≡ tallied (records_in most log) →
-    second ≡ tallied (records_in most log) → first ≡ second
-tallies-agree most log p q = agree p q
+-- the result that it is told by
+tallied_as : Tallied → Result DayTally RefusedAt
+tallied_as t = by t.walked
+  where
+    by : Walked → Result DayTally RefusedAt
+    by walked.to-end = Ok t.tally
+    by (walked.stopped n place) = Err (refused_by (refusal_of n) place)
+
+tallied-back : (r : Result DayTally RefusedAt) → tallied_as (tallied_of r) ≡ r
+unfolding tallied_as
+tallied-back (Ok t) = refl
+tallied-back (Err e) = ap (λ (r : Refusal). Err (refused_by r e.place)) (refusal-back e.refusal)
+
+pub tallies-agree : (most : ℕ) (log : List ℕ) {first second : Result DayTally RefusedAt} →
+    tallied_of first ≡ tallied (records_in most log) → tallied_of second ≡ tallied (records_in most log) → first ≡ second
+tallies-agree most log p q = agree-read tallied_of tallied_as tallied-back p q

@@ -11,10 +11,8 @@ use Rattle.answer_logs.specs.Logs.{Entry, outcome, refusal, Records, whole, refu
 use Rattle.answer_logs.specs.Parts.{Wholes, reached, stopped, wholes_from}
 use Rattle.answer_logs.proofs.CutLaws.{ahead_all, joined_to, cut-anywhere, closing, closed}
 use Rattle.daily_tally.specs.declared.DayTally.{DayTally}
-use Rattle.daily_tally.specs.declared.Walked.{Walked}
-use Rattle.daily_tally.specs.declared.Walked.TheVariants as walked
-use Rattle.daily_tally.specs.declared.Tallied.{Tallied}
-use Rattle.daily_tally.specs.Figures.{tally_of, tallied}
+use Rattle.daily_tally.specs.Figures as walked
+use Rattle.daily_tally.specs.Figures.{tally_of, Walked, Tallied, tallied}
 use Rattle.daily_tally.specs.Adding.{sum64, with_entry}
 use Rattle.daily_tally.specs.Steps.{told_whole, told_beside, told_refused, going, stopped_at, progress, largest_in, advanced, ended_as, ended_by, finished}
 use Rattle.daily_tally.proofs.AddingLaws.{added, tally-fold, Kept, kept-nothing, kept-added, unwrapped-outcome, unwrapped-refusal}
@@ -66,7 +64,7 @@ folded place t kept (e ∷ l) (more g gs) h =
 
 -- ---- the log's end
 
-end-as : (b : Bool) (place : ℕ) (t : DayTally) → ended_as walked.Whole b place t
+end-as : (b : Bool) (place : ℕ) (t : DayTally) → ended_as walked.to-end b place t
     ≡ on_top t (when b then refused_at 2 place else whole [])
 unfolding when◌then◌else◌
 end-as true place t = refl
@@ -77,8 +75,8 @@ module _ (most : ℕ) (limit : most ≤ most_records) (place : ℕ) (t : DayTall
   unfolding going stopped_at
   finish-as n (reached l used) (good-reached k gs) =
       let f = folded place t kept l gs (omega arith) in
-      ap (λ (x : DayTally). ended_as walked.Whole (ltb (0 + used) n) (place + length l) x) f.same
-      ∙ ap (λ (m : ℕ). ended_as walked.Whole (ltb m n) (place + length l) (foldl added t l)) (zero-add used)
+      ap (λ (x : DayTally). ended_as walked.to-end (ltb (0 + used) n) (place + length l) x) f.same
+      ∙ ap (λ (m : ℕ). ended_as walked.to-end (ltb m n) (place + length l) (foldl added t l)) (zero-add used)
       ∙ end-as (ltb used n) (place + length l) (foldl added t l)
       ∙ sym (on-ahead-all t l (when ltb used n then refused_at 2 (place + length l) else whole []))
   finish-as n (stopped m p) good-stopped = refl
@@ -101,8 +99,8 @@ whole-told most limit s small =
 -- ---- the page of a log that comes in reads, each put behind what the last step left
 
 abbrev page_as : Walked → Tallied → Tallied
-page_as (walked.Refused n p) page = told_refused n p
-page_as walked.Whole page = page
+page_as (walked.stopped n p) page = told_refused n p
+page_as walked.to-end page = page
 
 abbrev pub paged : ℕ → List ℕ → ℕ → DayTally → List (List ℕ) → Tallied
 paged most left place t [] = finished most left place t

@@ -1,5 +1,5 @@
 -- A tally with one record more (02, T-02). Definitions only. Assumes nothing.
-use Rattle.std.specs.Prelude.{ℕ, ◌+◌, ◌%◌, ◌^◌, max, not, List, ◌==◌, slice_index, slice_set}
+use Rattle.std.specs.Prelude.{ℕ, ◌+◌, ◌%◌, ◌^◌, ◌<◌, max, not, List, ◌==◌, slice_index, slice_set}
 use Rattle.answer_records.specs.declared.Answer.{Answer}
 use Rattle.answer_records.specs.Answers.{no_failed_line}
 use Rattle.answer_logs.specs.Logs.{Entry, outcome, refusal}
@@ -34,6 +34,11 @@ with_refusal plus t n = record {
   largest = t.largest;
   failed = t.failed;
 }
+
+-- a record that has a place among the figures
+abbrev pub has_place : Entry → Type 0
+has_place (outcome a) = a.code < 6
+has_place (refusal n) = n < 16
 
 abbrev pub with_entry : (ℕ → ℕ → ℕ) → DayTally → Entry → DayTally
 with_entry plus t (outcome a) = with_outcome plus t a

@@ -1,11 +1,12 @@
 -- The figures of the daily tally, each over the list of a log's records (02, T-02). Definitions only. Assumes nothing.
-use Rattle.std.specs.Prelude.{ℕ, zero, suc, ◌+◌, max, Bool, false, not, List, [], ◌∷◌, ◌==◌}
+use Rattle.std.specs.Prelude.{ℕ, zero, suc, ◌+◌, max, Bool, false, not, List, [], ◌∷◌, ◌==◌, Result, Ok, Err}
 use Rattle.arithmetic.specs.Binary32.{when◌then◌else◌}
+use Rattle.admission.specs.declared.refusal.Refusal.{Refusal}
+use Rattle.admission.specs.Refusals.{number_of}
 use Rattle.answer_records.specs.Answers.{no_failed_line}
 use Rattle.answer_logs.specs.Logs.{Entry, outcome, refusal, Records, whole, refused_at}
 use Rattle.daily_tally.specs.declared.DayTally.{DayTally}
-use Rattle.daily_tally.specs.declared.Walked.TheVariants as walked
-use Rattle.daily_tally.specs.declared.Tallied.{Tallied}
+use Rattle.daily_tally.specs.declared.RefusedAt.{RefusedAt}
 
 -- the sum of a number of the records, and the largest; of none each is 0
 unfoldable pub sum_of : (Entry → ℕ) → List Entry → ℕ
@@ -57,7 +58,25 @@ tally_of l = record {
   failed = count_of names_failed l;
 }
 
+-- whether the walk came to the log's end, or the refusal's number and the place of the record that is refused
+pub data Walked : Type 0 where
+  to-end : Walked
+  stopped : ℕ → ℕ → Walked
+
+-- how the walk ended, and the figures; beside a refusal every figure is 0
+pub record Tallied : Type 0 where
+  pub walked : Walked
+  pub tally : DayTally
+
 -- "with no partial tally"; "the record's place, counted from 0, is returned beside the number"
 unfoldable pub tallied : Records → Tallied
-tallied (whole l) = record { walked = walked.Whole; tally = tally_of l }
-tallied (refused_at n place) = record { walked = walked.Refused n place; tally = tally_of [] }
+tallied (whole l) = record { walked = to-end; tally = tally_of l }
+tallied (refused_at n place) = record { walked = stopped n place; tally = tally_of [] }
+
+-- what the code says of it
+abbrev pub refused_by : Refusal → ℕ → RefusedAt
+refused_by r place = record { refusal = r; place = place }
+
+abbrev pub tallied_of : Result DayTally RefusedAt → Tallied
+tallied_of (Ok t) = record { walked = to-end; tally = t }
+tallied_of (Err e) = record { walked = stopped (number_of e.refusal) e.place; tally = tally_of [] }

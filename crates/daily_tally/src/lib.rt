@@ -2,18 +2,19 @@
 // and the largest of the probes, and how many answers name a failed line.
 #![tactic(auto)]
 
-ghost use Rattle.std.specs.Prelude.{◌≡◌, ◌-◌, ◌^◌, ◌<◌, max, []};
-ghost use Rattle.answer_logs.specs.Logs.{most_records, records_in};
+ghost use Rattle.std.specs.Prelude.{◌≡◌, ◌-◌, ◌^◌, ◌<◌, [], Ok};
+ghost use Rattle.answer_logs.specs.Logs.{most_records, entry_of, logged_of, records_in};
 ghost use Rattle.answer_logs.specs.Parts.{wholes_from};
-ghost use Rattle.daily_tally.specs.Figures.{tally_of, tallied};
-ghost use Rattle.daily_tally.specs.Adding.{sum64, names_line, with_outcome, with_refusal};
-ghost use Rattle.daily_tally.specs.Steps.{whole_within, probes_at, stepped, told_whole, told_beside, going, stopped_at, largest_in, advanced, finished};
+ghost use Rattle.daily_tally.specs.Figures.{probes_of, tally_of, refused_by, tallied_of, tallied};
+ghost use Rattle.daily_tally.specs.Adding.{sum64, has_place, names_line, with_outcome, with_refusal, with_entry};
+ghost use Rattle.daily_tally.specs.Steps.{whole_within, going, advance_of, largest_in, advanced, finished};
 
+use admission::Refusal;
 use answer_logs::Logged;
-use answer_records::Answer;
+use answer_records::{Answer, Reply};
 
 // The figures of a log. An outcome is counted at its code, a refusal at its number; the places that no answer has stay 0.
-#[derive(Clone, Copy)]
+#[derive(Clone, Copy, Debug, PartialEq, Eq)]
 pub struct DayTally {
     pub outcomes: [u64; 6],
     pub refusals: [u64; 16],
@@ -27,214 +28,123 @@ impl DayTally {
     pub const MOST: u64 = 4_294_967_295;
 }
 
-// Whether the walk came to the log's end, or the refusal's number and the place of the record that is refused, from 0 on.
-#[derive(Clone, Copy)]
-pub enum Walked {
-    Whole,
-    Refused(u8, u64),
+// Why the walk stopped before the log's end, and the place of the record that is refused, from 0 on.
+#[derive(Clone, Copy, Debug, PartialEq, Eq)]
+pub struct RefusedAt {
+    pub refusal: Refusal,
+    pub place: u64,
 }
 
-// How the walk ended, and the figures; beside a refusal every figure is 0.
-#[derive(Clone, Copy)]
-pub struct Tallied {
-    pub walked: Walked,
-    pub tally: DayTally,
-}
-
-// How far the tally of a log came: the bytes of the part that are used, the place of the next record, how the walk stands,
-// and the figures so far.
-#[derive(Clone, Copy)]
+// How far the tally of a log came: the bytes of the part that are used, the place of the next record, and the figures
+// so far.
+#[derive(Clone, Copy, Debug, PartialEq, Eq)]
 pub struct Progress {
     pub used: usize,
     pub place: u64,
-    pub walked: Walked,
     pub tally: DayTally,
 }
 
 // The tally of a log of answer records. Refused, at each record in turn: the 4,294,967,296th (4); then fewer than two
 // bytes, a length that is neither 16 nor 2, or fewer bytes than it names (2); another version (1); a code not of its
 // length (2).
-pub fn tally_log(log: &[u8]) -> Tallied
-    ensures { result ≡ tallied (records_in most_records log.now) }
+pub fn tally_log(log: &[u8]) -> Result<DayTally, RefusedAt>
+    ensures { tallied_of result ≡ tallied (records_in most_records log.now) }
 {
     finish_within(log, 0, nothing(), DayTally::MOST)
 }
 
 // The tally before the first part of a log.
 pub fn start() -> Progress
-    ensures { result ≡ going 0 0 (tally_of []) }
+    ensures { advance_of (Ok result) ≡ going 0 0 (tally_of []) }
 {
-    going_on(0, 0, nothing())
+    Progress {
+        used: 0,
+        place: 0,
+        tally: nothing(),
+    }
 }
 
 // Tallies the records of a part of a log behind those before it, as far as whole records reach; the bytes that are left
 // belong before the next part. A refusal is told with its place, and no figures. Totals that no log gave may wrap.
-pub fn advance(part: &[u8], place: u64, tally: DayTally) -> Progress
-    ensures { result ≡ advanced most_records part.now place tally }
+pub fn advance(part: &[u8], place: u64, tally: DayTally) -> Result<Progress, RefusedAt>
+    ensures { advance_of result ≡ advanced most_records part.now place tally }
 {
     advance_within(part, place, tally, DayTally::MOST)
 }
 
 // The log's end behind the bytes that the last step left: they are a record cut short, which gets 2. Where none are left,
 // the tally is told.
-pub fn finish(rest: &[u8], place: u64, tally: DayTally) -> Tallied
-    ensures { result ≡ finished most_records rest.now place tally }
+pub fn finish(rest: &[u8], place: u64, tally: DayTally) -> Result<DayTally, RefusedAt>
+    ensures { tallied_of result ≡ finished most_records rest.now place tally }
 {
     finish_within(rest, place, tally, DayTally::MOST)
 }
 
-// What was met at a byte: a record that was counted, the end of what is there, or a refusal's number.
-#[derive(Clone, Copy)]
-enum Met {
-    Record,
-    End,
-    Fault(u8),
-}
-
-// What was met, the byte behind it, and the tally with it.
-#[derive(Clone, Copy)]
-struct Step {
-    met: Met,
-    behind: usize,
-    tally: DayTally,
-}
-
 // `advance` of a log that may have so many records. Its probes being of 32 bits, no total from an empty tally on wraps.
-fn advance_within(part: &[u8], place: u64, tally: DayTally, most: u64) -> Progress
-    ensures { (result ≡ advanced most part.now place tally)
+fn advance_within(
+    part: &[u8],
+    place: u64,
+    tally: DayTally,
+    most: u64,
+) -> Result<Progress, RefusedAt>
+    ensures { (advance_of result ≡ advanced most part.now place tally)
         × (largest_in (wholes_from (most - place) place part.now) < 2 ^ 32) }
 {
-    let none = nothing();
     let mut sum = tally;
     let mut next = place;
-    let mut at = 0usize;
+    let mut at = 0;
     loop {
-        let step = count_at(part, at, sum, left(next, most));
-        let met = step.met;
-        match met {
-            Met::End => {
-                return going_on(at, next, sum);
+        // kept: tried, the proof does not close with `map_err(..)?`: the closure stays in the goals
+        match whole_within(part, at, most.saturating_sub(next)) {
+            Err(refusal) => return Err(refused(refusal, next)),
+            Ok(None) => {
+                return Ok(Progress {
+                    used: at,
+                    place: next,
+                    tally: sum,
+                });
             }
-            Met::Fault(number) => {
-                return stopped(number, next, none);
-            }
-            Met::Record => {
-                sum = step.tally;
+            Ok(Some((reply, behind))) => {
+                sum = add_reply(sum, reply);
                 next += 1;
-                at = step.behind;
+                at = behind;
             }
         }
     }
 }
 
 // `finish` of a log that may have so many records.
-fn finish_within(rest: &[u8], place: u64, tally: DayTally, most: u64) -> Tallied
-    ensures { (result ≡ finished most rest.now place tally)
+fn finish_within(rest: &[u8], place: u64, tally: DayTally, most: u64) -> Result<DayTally, RefusedAt>
+    ensures { (tallied_of result ≡ finished most rest.now place tally)
         × (largest_in (wholes_from (most - place) place rest.now) < 2 ^ 32) }
 {
-    let none = nothing();
-    let progress = advance_within(rest, place, tally, most);
-    let walked = progress.walked;
-    if let Walked::Refused(number, at) = walked {
-        return refused(number, at, none);
-    }
+    let progress = advance_within(rest, place, tally, most)?;
     if progress.used < rest.len() {
-        return refused(2, progress.place, none);
+        return Err(RefusedAt {
+            refusal: Refusal::MissingOrLeftOver,
+            place: progress.place,
+        });
     }
-    let sum = progress.tally;
-    whole(sum)
-}
-
-// How many records may begin from a place on.
-fn left(place: u64, most: u64) -> u64
-    ensures { result ≡ most - place }
-{
-    if place < most {
-        return most - place;
-    }
-    0
-}
-
-// The record at a byte of a part, counted, where so many more may begin.
-fn count_at(part: &[u8], at: usize, tally: DayTally, left: u64) -> Step
-    ensures { (result ≡ stepped left part.now at tally)
-        × (probes_at (whole_within left part.now at) < 2 ^ 32) }
-{
-    match whole_within(part, at, left) {
-        Logged::End => Step {
-            met: Met::End,
-            behind: at,
-            tally,
-        },
-        Logged::Fault(number) => Step {
-            met: Met::Fault(number),
-            behind: at,
-            tally,
-        },
-        Logged::Outcome(answer, behind) => Step {
-            met: Met::Record,
-            behind,
-            tally: add_outcome(tally, answer),
-        },
-        Logged::Refusal(number, behind) => Step {
-            met: Met::Record,
-            behind,
-            tally: add_refusal(tally, number),
-        },
-    }
+    Ok(progress.tally)
 }
 
 // The record at a byte of a part, through the log's reader. Where no more may begin, any byte is refused with 4.
 fn whole_within(part: &[u8], at: usize, left: u64) -> Logged
-    ensures { result ≡ whole_within left part.now at }
+    ensures { logged_of result ≡ whole_within left part.now at }
 {
     if left > 0 {
         return answer_logs::whole_at(part, at);
     }
     if at < part.len() {
-        return Logged::Fault(4);
+        return Err(Refusal::TooMany);
     }
-    Logged::End
+    Ok(None)
 }
 
-fn going_on(used: usize, place: u64, tally: DayTally) -> Progress
-    ensures { result ≡ going used place tally }
+fn refused(refusal: Refusal, place: u64) -> RefusedAt
+    ensures { result ≡ refused_by refusal place }
 {
-    Progress {
-        used,
-        place,
-        walked: Walked::Whole,
-        tally,
-    }
-}
-
-fn stopped(number: u8, place: u64, tally: DayTally) -> Progress
-    ensures { result ≡ stopped_at number place tally }
-{
-    Progress {
-        used: 0,
-        place,
-        walked: Walked::Refused(number, place),
-        tally,
-    }
-}
-
-fn whole(tally: DayTally) -> Tallied
-    ensures { result ≡ told_whole tally }
-{
-    Tallied {
-        walked: Walked::Whole,
-        tally,
-    }
-}
-
-fn refused(number: u8, place: u64, tally: DayTally) -> Tallied
-    ensures { result ≡ told_beside number place tally }
-{
-    Tallied {
-        walked: Walked::Refused(number, place),
-        tally,
-    }
+    RefusedAt { refusal, place }
 }
 
 // The tally of no records.
@@ -250,6 +160,17 @@ fn nothing() -> DayTally
     }
 }
 
+// The tally with one record more, whose probes are of 32 bits.
+fn add_reply(tally: DayTally, reply: Reply) -> DayTally
+    requires { has_place (entry_of reply) }
+    ensures { (result ≡ with_entry sum64 tally (entry_of reply)) × (probes_of (entry_of reply) < 2 ^ 32) }
+{
+    match reply {
+        Reply::Outcome(answer) => add_outcome(tally, answer),
+        Reply::Refusal(refusal) => add_refusal(tally, refusal.number()),
+    }
+}
+
 // The tally with one outcome more.
 fn add_outcome(tally: DayTally, answer: Answer) -> DayTally
     requires { answer.code < 6 }
@@ -257,13 +178,13 @@ fn add_outcome(tally: DayTally, answer: Answer) -> DayTally
 {
     let code = answer.code as usize;
     let mut outcomes = tally.outcomes;
-    outcomes[code] = std::num::wrapping_add_u64(outcomes[code], 1);
+    outcomes[code] = outcomes[code].wrapping_add(1);
     let probes = answer.probes as u64;
     DayTally {
         outcomes,
-        probes: std::num::wrapping_add_u64(tally.probes, probes),
-        largest: larger(tally.largest, probes),
-        failed: std::num::wrapping_add_u64(tally.failed, names_line(answer.failed)),
+        probes: tally.probes.wrapping_add(probes),
+        largest: tally.largest.max(probes),
+        failed: tally.failed.wrapping_add(names_line(answer.failed)),
         ..tally
     }
 }
@@ -275,7 +196,7 @@ fn add_refusal(tally: DayTally, number: u8) -> DayTally
 {
     let index = number as usize;
     let mut refusals = tally.refusals;
-    refusals[index] = std::num::wrapping_add_u64(refusals[index], 1);
+    refusals[index] = refusals[index].wrapping_add(1);
     DayTally { refusals, ..tally }
 }
 
@@ -287,13 +208,4 @@ fn names_line(failed: u16) -> u64
         return 0;
     }
     1
-}
-
-fn larger(a: u64, b: u64) -> u64
-    ensures { result ≡ max a b }
-{
-    if a < b {
-        return b;
-    }
-    a
 }

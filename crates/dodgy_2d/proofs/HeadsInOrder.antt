@@ -1,10 +1,12 @@
 -- A scene's obstacles in order: what a loop over them has left, and what their faults say of each. Assumes nothing.
-use Prim.Native.Nat.{ℕ, ◌+◌, ◌*◌, ◌≤◌, ◌<◌}
-use mathlib.Core.Path.{◌≡◌, sym, ap, ◌∙◌}
+use Prim.Native.Nat.{ℕ, zero, suc, ◌+◌, ◌*◌, ◌≤◌, ◌<◌}
+use mathlib.Core.Path.{◌≡◌, refl, sym, ap, ◌∙◌}
 use mathlib.Core.List.{List, [], ◌∷◌}
 use native.Mathlib.Omega.{arith}
 use lib.ListN.{length, take, drop, get_or, length-drop}
 use lib.Seq.{drop-drop}
+use Rattle.std.specs.Prelude.{sum}
+use Rattle.std.proofs.lemmas.List.Sums.{sum_by-cons}
 use lib.Ieee.{Float}
 use Rattle.admission.specs.declared.Head.{Head}
 use Rattle.admission.specs.Faults.{Fault, fine, fault, ◌⊳◌}
@@ -35,15 +37,21 @@ module _ (ks cs : List ℕ) (n i : ℕ) (kinds : n ≤ length ks) (counts : n �
   unfolding vertex_count
   count_next h = rw (heads-next h)
 
-  pub count_none : n ≤ i → vertex_count (heads_from ks cs n i) ≡ 0
-  unfolding vertex_count
-  count_none h = rw (heads-none h)
-
   -- behind `offset` vertices of those before it
   pub own-left : (offset : ℕ) → i < n →
       offset + vertex_count (heads_from ks cs n i) ≡ vertex_count (heads_from ks cs n 0) →
       (offset + get_or cs i 0) + vertex_count (heads_from ks cs n (i + 1)) ≡ vertex_count (heads_from ks cs n 0)
   own-left offset h e = omega (arith, count_next h, e)
+
+-- those of the first n obstacles are what their counts say
+pub vertices_sum : (ks cs : List ℕ) (n : ℕ) → length ks ≡ length cs → vertex_count (heads_of (take n ks) (take n cs)) ≡ sum (take n cs)
+unfolding vertex_count heads_of
+vertices_sum ks cs zero same = refl
+vertices_sum [] [] (suc n) same = refl
+vertices_sum [] (c ∷ cs) (suc n) same = absurd (omega arith)
+vertices_sum (k ∷ ks) [] (suc n) same = absurd (omega arith)
+vertices_sum (k ∷ ks) (c ∷ cs) (suc n) same =
+    ap (λ (m : ℕ). c + m) (vertices_sum ks cs n (omega arith)) ∙ sym (sum_by-cons (λ (m : ℕ). m) c (take n cs))
 
 -- ---- one obstacle of several, behind `total` vertices
 

@@ -1,22 +1,23 @@
 -- The origins of a pass's lines: walls noted one by one, obstacle behind obstacle, then the neighbours; and the one of
 -- a line. Assumes nothing.
-use Prim.Native.Nat.{ℕ, zero, suc, ◌+◌, ◌*◌, ◌/◌, ◌%◌, ◌≤◌, ◌<◌}
+use Prim.Native.Nat.{ℕ, zero, suc, ◌+◌, ◌≤◌, ◌<◌}
 use mathlib.Core.Path.{◌≡◌, refl, sym, ap, ◌∙◌}
 use mathlib.Core.List.{List, [], ◌∷◌, ◌++◌, map, map-append, append_assoc, append-nil}
 use native.Mathlib.Omega.{arith}
 use native.Mathlib.Nat.{add-zero, zero-add}
-use lib.ListN.{length, take, get_or, set, length-append, length-map, get_or-eq_default, get_or-append}
-use lib.Seq.{length-take-le, get_or-take, get_or-append-add}
+use lib.ListN.{length, take, get_or, set, length-append, get_or-eq_default}
+use lib.Seq.{length-take-le, get_or-append-add}
 use lib.Ieee.{Float}
+use Rattle.std.proofs.lemmas.List.{take-take}
+use Rattle.admission.specs.declared.refusal.Refusal.{Refusal}
 use Rattle.admission.specs.Heads.{head_of}
 use Rattle.lines.specs.declared.Origin.{Origin}
-use Rattle.lines.specs.Origins.{origin, unknown, edge_origin, neighbour_origin}
+use Rattle.lines.specs.Origins.{unknown, edge_origin, neighbour_origin}
 use Rattle.lines.proofs.Fold.{take_set_next}
 use Rattle.linear_programming.specs.Whole.{Outcome, refusal}
 use Rattle.common.specs.declared.Vec2.{Vec2}
 use Rattle.edges.specs.declared.Agent.{Agent}
-use Rattle.dodgy_2d.specs.declared.EdgeLines.{EdgeLines}
-use Rattle.dodgy_2d.specs.declared.EdgeLines.TheVariants as edge-lines
+use Rattle.std.specs.Prelude.{Result, Ok}
 use Rattle.dodgy_2d.specs.declared.Scene.{Scene}
 use Rattle.dodgy_2d.specs.Outcomes.{pass_at}
 use Rattle.dodgy_2d.specs.Origins.{origins_at, edge_origins, edge_origins_at, neighbours_from, failed_origin, pass_origin}
@@ -25,27 +26,12 @@ use Rattle.dodgy_2d.proofs.HeadsInOrder.{heads_from, heads-next, heads-none}
 
 -- ---- one wall more
 
--- the number of an edge's wall says its place and its left vertex
-wall-said : (place left : ℕ) → left < 256 → edge_origin ((256 * place + left) / 256) ((256 * place + left) % 256)
-    ≡ edge_origin place left
-wall-said place left h =
-    let p : (256 * place + left) / 256 ≡ place = omega arith in
-    let v : (256 * place + left) % 256 ≡ left = omega arith in
-    rw (p, v)
-
 -- behind the walls that are noted, and the obstacle's own among them
-pub noted-on : (walls : List ℕ) (at place left : ℕ) (noted : List Origin) (lefts : List ℕ) → at < length walls → left < 256 →
+pub noted-on : (walls : List Origin) (at place left : ℕ) (noted : List Origin) (lefts : List ℕ) → at < length walls →
     walls_in at walls ≡ noted ++ map (edge_origin place) lefts →
-    walls_in (at + 1) (set walls at (256 * place + left)) ≡ noted ++ map (edge_origin place) (lefts ++ (left ∷ []))
-noted-on walls at place left noted lefts there byte e =
-    let wall = 256 * place + left in
-    rw (
-      take_set_next walls at there wall,
-      map-append _ (take at walls) (wall ∷ []),
-      e,
-      wall-said place left byte,
-      map-append (edge_origin place) lefts (left ∷ []),
-    )
+    walls_in (at + 1) (set walls at (edge_origin place left)) ≡ noted ++ map (edge_origin place) (lefts ++ (left ∷ []))
+noted-on walls at place left noted lefts there e =
+    rw (take_set_next walls at there (edge_origin place left), e, map-append (edge_origin place) lefts (left ∷ []))
     (append_assoc noted (map (edge_origin place) lefts) (edge_origin place left ∷ []))
 
 -- ---- obstacle behind obstacle
@@ -65,19 +51,18 @@ module _ (agent : Agent) (margin horizon : Float) (v : List Float) (ks cs : List
   unfolding edge_origins
   origins-done i offset so_far h = rw (heads-none ks cs n i kinds counts h) (append-nil so_far)
 
-pub walls-told : {walls : List ℕ} {origins : List Origin} {e : EdgeLines} {n : ℕ} → WallsAre walls origins e →
-    e ≡ edge-lines.Count n → walls_in n walls ≡ origins
+pub walls-told : {walls : List Origin} {origins : List Origin} {e : Result ℕ Refusal} {n : ℕ} → WallsAre walls origins e →
+    e ≡ Ok n → walls_in n walls ≡ origins
 walls-told {walls} {origins} {e} {n} told same = count-told (rw same at told)
   where
-    count-told : {m : ℕ} → WallsAre walls origins (edge-lines.Count m) → walls_in m walls ≡ origins
+    count-told : {m : ℕ} → WallsAre walls origins (Ok m) → walls_in m walls ≡ origins
     count-told (counted h) = h
 
--- ---- the origin of one line
+-- those of the first n, lent alone
+pub walls-part : (n : ℕ) (walls : List Origin) → n ≤ length walls → walls_in (length (take n walls)) (take n walls) ≡ walls_in n walls
+walls-part n walls h = rw (length-take-le n walls h, take-take n n walls (omega arith)) refl
 
-map_at : {A B : Type 0} (f : A → B) (l : List A) (i : ℕ) (b : B) (a : A) → i < length l → get_or (map f l) i b ≡ f (get_or l i a)
-map_at f [] i b a h = absurd (omega arith)
-map_at f (x ∷ xs) zero b a h = refl
-map_at f (x ∷ xs) (suc i) b a h = map_at f xs i b a (omega arith)
+-- ---- the origin of one line
 
 neighbours-long : (place n : ℕ) → length (neighbours_from place n) ≡ n
 unfolding neighbours_from
@@ -92,18 +77,12 @@ neighbour-at place (suc n) (suc i) h =
     let k : place + 1 + i ≡ place + suc i = omega arith in
     neighbour-at (place + 1) n i (omega arith) ∙ ap neighbour_origin k
 
-module _ (walls : List ℕ) (rigid neighbours : ℕ) (fits : rigid ≤ length walls) where
+module _ (walls : List Origin) (rigid neighbours : ℕ) (fits : rigid ≤ length walls) where
   abbrev all-origins : List Origin
   all-origins = walls_in rigid walls ++ neighbours_from 0 neighbours
 
   walls-long : length (walls_in rigid walls) ≡ rigid
-  walls-long = length-map (take rigid walls) _ ∙ length-take-le rigid walls fits
-
-  pub edge_of : (k : ℕ) → k < rigid → get_or all-origins k unknown ≡ edge_origin (get_or walls k 0 / 256) (get_or walls k 0 % 256)
-  edge_of k h =
-      get_or-append (walls_in rigid walls) (neighbours_from 0 neighbours) unknown k (rw walls-long h)
-      ∙ map_at (λ (w : ℕ). edge_origin (w / 256) (w % 256)) (take rigid walls) k unknown 0 (rw (length-take-le rigid walls fits) h)
-      ∙ ap (λ (w : ℕ). edge_origin (w / 256) (w % 256)) (get_or-take rigid walls k 0 h)
+  walls-long = length-take-le rigid walls fits
 
   pub neighbour-of : (k i : ℕ) → k ≡ rigid + i → i < neighbours → get_or all-origins k unknown ≡ neighbour_origin i
   neighbour-of k i e h =

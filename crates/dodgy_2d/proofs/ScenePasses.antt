@@ -6,15 +6,21 @@ use mathlib.Core.List.{List, [], ◌∷◌, ◌++◌, append_assoc}
 use native.Mathlib.Omega.{arith}
 use lib.Dec.{leb}
 use lib.ListN.{length, take, drop, length-append, length-take}
-use lib.Seq.{paste, length-paste, length-take-le, take_at}
+use lib.Seq.{paste, length-take-le, take_at}
 use lib.Ieee.{Float}
 use borrow.Author.Tests.{leb-true, le-leb}
+use borrow.Rule.Slice.PartMut.{put_mid}
+use Rattle.std.proofs.lemmas.List.{take-take}
+use Rattle.std.proofs.lemmas.Slice.{put_mid-paste}
+use Rattle.admission.specs.declared.refusal.Refusal.{Refusal}
+use Rattle.admission.specs.Refusals.{number_of}
 use Rattle.admission.specs.declared.Head.{Head}
 use Rattle.admission.specs.Faults.{fine, must, within}
 use Rattle.admission.proofs.FaultLaws.{⊳-fine, must-fine}
 use Rattle.common.specs.declared.Vec2.{Vec2}
 use Rattle.common.specs.Vectors.{reach}
 use Rattle.lines.specs.declared.Line.{Line}
+use Rattle.lines.specs.declared.Origin.{Origin}
 use Rattle.lines.specs.Lines.{lines_of}
 use Rattle.lines.specs.LineFaults.{lines_fault}
 use Rattle.linear_programming.specs.Admit.{wish_fault, count_fault, admitted_call}
@@ -26,8 +32,7 @@ use Rattle.edges.specs.declared.Agent.{Agent}
 use Rattle.obstacles.specs.ObstacleFaults.{vector_fault, agent_fault}
 use Rattle.obstacles.specs.Obstacles.{Answer, lines, refused}
 use Rattle.obstacles.proofs.EdgesInOrder.{FewAdmitted, refuses, few-admitted, lines-few-admitted}
-use Rattle.dodgy_2d.specs.declared.EdgeLines.{EdgeLines}
-use Rattle.dodgy_2d.specs.declared.EdgeLines.TheVariants as edge-lines
+use Rattle.std.specs.Prelude.{Result, Ok, Err}
 use Rattle.dodgy_2d.specs.declared.Scene.{Scene}
 use Rattle.dodgy_2d.specs.Scenes.{heads_in, neighbours_in, cart_fault, obstacles_fault, scene_fault}
 use Rattle.dodgy_2d.specs.Outcomes.{joined, edge_lines, edges_at, solved_over, pass_at, scene_outcome}
@@ -183,24 +188,29 @@ paste-below : (b : List Float) (at : ℕ) (more : List Float) (n : ℕ) → at �
 paste-below b at more n h =
     rw (append_assoc (take at b) (take n more) (drop (at + n) b)) (take_at (take at b) _ at (length-take-le at b h))
 
+-- numbers that are written over a part are pasted there
+pub put-pasted : (b more : List Float) (at k n : ℕ) {put : List Float} → put ≡ take n more → n ≡ k → n ≤ length more →
+    put_mid at k b put ≡ paste b at more n
+put-pasted b more at k n {put} e f h =
+    let whole : n ≡ length (take n more) = sym (length-take-le n more h) in
+    put_mid-paste at k b put (take n more) n e f whole ∙ rw (take-take n n more (omega arith)) refl
+
 -- ---- the choice of lines: obstacles that are refused, or their lines with the neighbours' copied behind
 
-module _ (s : Scene) (velocity : Vec2) (b : List Float) (walls : List ℕ) (made : EdgeLines) (long : length b
-    ≡ 1024) (noted : length walls ≡ 192)
+module _ (s : Scene) (velocity : Vec2) (b : List Float) (walls : List Origin) (made : Result ℕ Refusal)
     (edges : edges_of made b ≡ edges_at s velocity) (told : WallsAre walls (edge_origins_at s velocity) made) where
-  pub none-chosen : {r : ℕ} → made ≡ edge-lines.Refused r → Chosen s velocity b walls made
+  pub none-chosen : {r : Refusal} → made ≡ Err r → Chosen s velocity b walls made
   none-chosen {r} same =
-      let refusal-told : refused r ≡ edges_at s velocity = rw same at edges in
-      record { room = (long, noted); few = rw same (omega arith); rigid = edges; all = rw (same, ← refusal-told); noted = told }
+      let refusal-told : refused (number_of r) ≡ edges_at s velocity = rw same at edges in
+      record { few = rw same (omega arith); rigid = edges; all = rw (same, ← refusal-told); noted = told }
 
-  pub all-chosen : {rigid : ℕ} → made ≡ edge-lines.Count rigid → count_in made ≤ 192 → s.neighbours ≤ 64 →
+  pub all-chosen : {rigid : ℕ} → length b ≡ 1024 → made ≡ Ok rigid → count_in made ≤ 192 → s.neighbours ≤ 64 →
       4 * s.neighbours ≤ length s.lines →
-      Chosen s velocity (paste b (4 * rigid) s.lines (4 * s.neighbours)) walls (edge-lines.Count rigid)
-  all-chosen {rigid} same most near lent =
+      Chosen s velocity (paste b (4 * rigid) s.lines (4 * s.neighbours)) walls (Ok rigid)
+  all-chosen {rigid} long same most near lent =
       let few : rigid ≤ 192 = rw same at most in
       let own : lines (lines_of (take (4 * rigid) b)) ≡ edges_at s velocity = rw same at edges in
       record {
-        room = (length-paste b (4 * rigid) s.lines (4 * s.neighbours) (omega arith) (omega arith) ∙ long, noted);
         few = few;
         rigid = rw (paste-below b (4 * rigid) s.lines (4 * s.neighbours) (omega arith)) own;
         all =

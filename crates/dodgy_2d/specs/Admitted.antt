@@ -1,7 +1,8 @@
 -- A scene that is known to be admitted, by its parts: nothing is judged again but its sizes. Definitions only. Assumes
 -- nothing.
-use Rattle.std.specs.Prelude.{ℕ, ◌+◌, ◌/◌, List, [], ◌∷◌, leb, length, Float}
+use Rattle.std.specs.Prelude.{ℕ, ◌+◌, ◌/◌, List, [], ◌∷◌, leb, length, Float, Result}
 use Rattle.admission.specs.declared.Head.{Head}
+use Rattle.admission.specs.declared.refusal.Refusal.{Refusal}
 use Rattle.admission.specs.Faults.{Fault, must, ◌⊳◌, unless_fault}
 use Rattle.admission.specs.Heads.{most_together}
 use Rattle.lines.specs.declared.Origin.{Origin}
@@ -74,5 +75,5 @@ admitted_outcome s = unless_fault refused_scene (sizes_fault s) (first_answer s)
 unfoldable pub admitted_origin : Scene → Origin
 admitted_origin s = unless_fault (λ (r : ℕ). unknown) (sizes_fault s) (last_origin s)
 
-abbrev pub admitted_answer : Scene → SceneAnswer
+abbrev pub admitted_answer : Scene → Result SceneAnswer Refusal
 admitted_answer s = scene_answer_as (admitted_outcome s) (admitted_origin s)

@@ -5,21 +5,24 @@
 ghost use Rattle.std.specs.Prelude.{◌≡◌};
 ghost use Rattle.dodgy_2d.specs.Outcomes.{scene_outcome};
 ghost use Rattle.dodgy_2d.specs.Origins.{scene_origin};
-ghost use Rattle.dodgy_2d.specs.Read.{origin_of, scene_answer_as};
-ghost use Rattle.dodgy_2d.specs.Admitted.{bare_of, scene_from, admitted_answer};
+ghost use Rattle.dodgy_2d.specs.Read.{code_of, outcome_of, origin_of, scene_answer_as};
+ghost use Rattle.dodgy_2d.specs.Admitted.{bare_of, scene_from, admitted_outcome, admitted_answer};
 
-use admission::Judged;
+use crate::sized::SizedScene;
+use admission::Refusal;
 use common::Vec2;
 use edges::Agent;
-use linear_programming::FailedLine;
 use lines::Origin;
+use pass_2d::Failure;
 
 mod edge_lines;
 mod judge;
 mod passes;
+mod sized;
 
 // What a velocity is wanted for: the cart, its walls and its neighbours' lines. Vertices are two numbers each, obstacle
 // behind obstacle; lines four.
+// kept: no heap: a list is an array with its count beside.
 #[derive(Clone, Copy)]
 pub struct Scene {
     pub agent: Agent,
@@ -70,30 +73,45 @@ pub struct BareScene {
     pub neighbours: usize,
 }
 
-// How many lines the obstacles made, or the number of a refusal.
-#[derive(Clone, Copy)]
-pub(crate) enum EdgeLines {
-    Count(usize),
-    Refused(u8),
+// How a scene's velocity was found, by the outcome's number: every line is met, or neighbours' lines had to be relaxed;
+// the same for a cart at rest, after a rigid failure; or that failed rigidly too.
+#[derive(Clone, Copy, Debug, PartialEq, Eq, Hash)]
+pub enum Outcome {
+    Solved = 1,
+    Relaxed = 2,
+    SolvedAtRest = 3,
+    RelaxedAtRest = 4,
+    FailedAtRest = 5,
 }
 
-// The outcome 1 to 5 with the velocity, the failed line of the last pass run, the probes of all passes, and the failed
-// line's origin; or the number of the scene's refusal.
-#[derive(Clone, Copy)]
-pub enum SceneAnswer {
-    Outcome(u8, f32, f32, FailedLine, u32, Origin),
-    Refused(u8),
+impl Outcome {
+    pub fn number(self) -> u8
+        ensures { result ≡ code_of self }
+    {
+        self as u8
+    }
+}
+
+// A scene's velocity, with the failed line of the last pass run, the probes of all passes, and where the failed line
+// comes from: an edge by its obstacle's place in the scene and its left vertex there, or a neighbour by its place;
+// unknown where no line failed.
+#[derive(Clone, Copy, Debug, PartialEq)]
+pub struct SceneAnswer {
+    pub outcome: Outcome,
+    pub velocity: Vec2,
+    pub failed: Option<Failure>,
+    pub probes: u32,
+    pub origin: Origin,
 }
 
 impl SceneAnswer {
-    // Where the failed line comes from: an edge by its obstacle's place in the scene and its left vertex there, or a
-    // neighbour by its place; unknown where no line failed.
-    pub fn origin(self) -> Origin
-        ensures { result ≡ origin_of self }
+    // Where the failed line of an answer comes from; unknown where the scene is refused.
+    pub fn origin(answer: Result<SceneAnswer, Refusal>) -> Origin
+        ensures { result ≡ origin_of answer }
     {
-        match self {
-            SceneAnswer::Outcome(_, _, _, _, _, origin) => origin,
-            SceneAnswer::Refused(_) => Origin::UNKNOWN,
+        match answer {
+            Ok(told) => told.origin,
+            Err(_) => Origin::UNKNOWN,
         }
     }
 }
@@ -102,34 +120,40 @@ impl SceneAnswer {
 // lines cannot be met, they are made again for a cart at rest: 3 and 4, and 5 where that fails too, whose point is
 // taken. Refused: the scene's first fault in the order of its fields (6, 4, 3, 5, 14, 7), an edge line that is not
 // admitted (9). The solves' own 8 and 9 are never told of a scene (proofs/SceneTold.antt).
-pub fn compute_avoiding_velocity(scene: Scene) -> SceneAnswer
-    ensures { result ≡ scene_answer_as (scene_outcome scene) (scene_origin scene) }
+pub fn compute_avoiding_velocity(scene: Scene) -> Result<SceneAnswer, Refusal>
+    ensures answer { result ≡ scene_answer_as (scene_outcome scene) (scene_origin scene) }
+    ensures told { outcome_of result ≡ scene_outcome scene }
 {
-    let judged = judge::judge_scene(scene);
-    if let Judged::Fault(number) = judged {
-        return SceneAnswer::Refused(number);
-    }
-    let bare = scene.bare();
-    let kinds = scene.kinds;
-    let counts = scene.counts;
-    passes::solve(bare, kinds, counts, &scene.vertices, &scene.lines)
+    judge::judge_scene(scene)?;
+    passes::solve(&SizedScene {
+        bare: scene.bare(),
+        kinds: scene.kinds,
+        counts: scene.counts,
+        vertices: &scene.vertices,
+        lines: &scene.lines,
+    })
 }
 
 // The velocity of a scene that was judged before, its lists lent beside it: as `compute_avoiding_velocity`, but nothing
 // is judged again other than its sizes: too many obstacles, vertices or neighbours (4), or more than the lists hold
 // (2). Of a scene that is not admitted 01 promises only an answer, which may be one that no scene has.
+// kept: promised: solve_admitted_scene: a scene's lists are lent one by one.
 pub fn solve_admitted_scene<'a>(
     scene: BareScene,
     kinds: [u8; 16],
     counts: [u8; 16],
     vertices: &'a [f32],
     lines: &'a [f32],
-) -> SceneAnswer
-    ensures { result ≡ admitted_answer (scene_from scene kinds counts vertices.now lines.now) }
+) -> Result<SceneAnswer, Refusal>
+    ensures answer { result ≡ admitted_answer (scene_from scene kinds counts vertices.now lines.now) }
+    ensures told { outcome_of result ≡ admitted_outcome (scene_from scene kinds counts vertices.now lines.now) }
 {
-    let judged = judge::judge_sizes(scene, kinds, counts, vertices, lines);
-    if let Judged::Fault(number) = judged {
-        return SceneAnswer::Refused(number);
-    }
-    passes::solve(scene, kinds, counts, vertices, lines)
+    judge::judge_sizes(scene, kinds, counts, vertices, lines)?;
+    passes::solve(&SizedScene {
+        bare: scene,
+        kinds,
+        counts,
+        vertices,
+        lines,
+    })
 }

@@ -2,17 +2,17 @@
 // in a record: all must tell the same number, 0 where none is told.
 #![tactic(auto)]
 
-use admission::Judged;
+use admission::Refusal;
 use verdict::Tally;
 
 mod in_records;
 mod lent;
 
-// The number that a judgement tells.
-fn number_of(judged: Judged) -> u8 {
-    match judged {
-        Judged::Fine => 0,
-        Judged::Fault(number) => number,
+// The number that is told.
+fn number_of<T>(told: &Result<T, Refusal>) -> u8 {
+    match told {
+        Ok(_) => 0,
+        Err(refusal) => refusal.number(),
     }
 }
 

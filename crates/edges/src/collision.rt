@@ -3,10 +3,11 @@ ghost use Rattle.std.specs.Prelude.{◌≡◌};
 ghost use Rattle.edges.specs.Collision.{shape_of, in_unit, reaches as reached, corner_line, next_handles, right_corner_line};
 ghost use Rattle.edges.specs.Read.{outer_of, edge_of, edge_line_of};
 
-use crate::{Edge, EdgeLine, EdgeShape, EdgeVertex, Outer};
+use crate::{Edge, EdgeShape, EdgeVertex};
 use common::Vec2;
 use lines::Line;
 
+#[tactic(auto, unfolding(crate::specs::Collision::shape_of))]
 pub(crate) fn edge_shape(
     relative_left_vertex: Vec2,
     relative_right_vertex: Vec2,
@@ -33,6 +34,7 @@ pub(crate) fn edge_shape(
 }
 
 // Whether a time lies on the edge, its ends included.
+#[tactic(auto, unfolding(crate::specs::Collision::in_unit))]
 pub(crate) fn in_unit(t: f32) -> bool
     ensures { result ≡ in_unit t }
 {
@@ -40,6 +42,7 @@ pub(crate) fn in_unit(t: f32) -> bool
 }
 
 // Whether the agent is where a test says and no farther away than the margin.
+#[tactic(auto, unfolding(crate::specs::Collision::reaches))]
 pub(crate) fn reaches(there: bool, distance_squared: f32, squared_radius: f32) -> bool
     ensures { result ≡ reached there distance_squared squared_radius }
 {
@@ -48,6 +51,7 @@ pub(crate) fn reaches(there: bool, distance_squared: f32, squared_radius: f32) -
 
 // The line of a collision with an edge's vertex: across the way to a convex one, else along the edge, so that no edge
 // is left by going deeper into the other.
+#[tactic(auto, unfolding(crate::specs::Collision::corner_line, crate::proofs::Choices::choices))]
 pub(crate) fn corner_line(convex: bool, relative_vertex: Vec2, edge_unit_vector: Vec2) -> Line
     ensures { result ≡ corner_line convex relative_vertex edge_unit_vector }
 {
@@ -58,31 +62,31 @@ pub(crate) fn corner_line(convex: bool, relative_vertex: Vec2, edge_unit_vector:
 }
 
 // Whether the next edge goes to the right of a convex right vertex, and so takes the collision over.
+#[tactic(auto, unfolding(crate::specs::Collision::next_handles))]
 fn is_handled_by_next(
     right_vertex: EdgeVertex,
     relative_right_vertex: Vec2,
-    right_right_vertex: Outer,
+    right_right_vertex: Option<Vec2>,
 ) -> bool
     ensures { result ≡ next_handles right_vertex relative_right_vertex (outer_of right_right_vertex) }
 {
-    let Outer::At(vertex) = right_right_vertex else {
+    let Some(vertex) = right_right_vertex else {
         return false;
     };
-    if right_vertex.convex {
-        return common::determinant(relative_right_vertex, vertex.sub(right_vertex.point)) < 0.0;
-    }
-    false
+    let next_edge = vertex.sub(right_vertex.point);
+    right_vertex.convex && common::determinant(relative_right_vertex, next_edge) < 0.0
 }
 
 // The line of a collision with the right vertex, unless the next edge handles it.
-pub(crate) fn right_corner_line(edge: Edge, shape: EdgeShape) -> EdgeLine
+#[tactic(auto, unfolding(crate::specs::Collision::right_corner_line, crate::proofs::Choices::choices))]
+pub(crate) fn right_corner_line(edge: Edge, shape: EdgeShape) -> Option<Line>
     ensures { edge_line_of result ≡ right_corner_line (edge_of edge) shape }
 {
     let right_vertex = edge.right_vertex;
     let right_right_vertex = edge.right_right_vertex;
     let relative = shape.relative_right_vertex;
     if is_handled_by_next(right_vertex, relative, right_right_vertex) {
-        return EdgeLine::Nothing;
+        return None;
     }
-    EdgeLine::Made(corner_line(right_vertex.convex, relative, shape.edge_unit_vector))
+    Some(corner_line(right_vertex.convex, relative, shape.edge_unit_vector))
 }

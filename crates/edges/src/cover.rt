@@ -9,6 +9,7 @@ use common::Vec2;
 use lines::Line;
 
 // Whether a vertex is deep enough in the invalid half of a line.
+#[tactic(auto, unfolding(crate::specs::Cover::is_deep))]
 fn is_deep(vertex: Vec2, horizon: f32, margin: f32, line: Line) -> bool
     ensures { result ≡ is_deep vertex horizon margin line }
 {
@@ -16,6 +17,7 @@ fn is_deep(vertex: Vec2, horizon: f32, margin: f32, line: Line) -> bool
     depth >= margin / horizon - Edge::COVER_EPSILON
 }
 
+#[tactic(auto, unfolding(crate::specs::Cover::covers))]
 fn is_covered_by(
     left_vertex: Vec2,
     right_vertex: Vec2,
@@ -38,13 +40,11 @@ pub(crate) fn is_edge_covered(
 ) -> bool
     ensures { result ≡ is_edge_covered left_vertex right_vertex horizon margin (lines_of existing_lines.now) }
 {
-    let mut i = 0usize;
-    while i < existing_lines.len() / 4 {
+    for i in 0..existing_lines.len() / 4 {
         let line = lines::line_at(existing_lines, i);
         if is_covered_by(left_vertex, right_vertex, horizon, margin, line) {
             return true;
         }
-        i += 1;
     }
     false
 }

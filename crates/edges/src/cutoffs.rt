@@ -3,11 +3,12 @@ ghost use Rattle.std.specs.Prelude.{◌≡◌};
 ghost use Rattle.edges.specs.Cutoffs.{t_cutoff, cutoff_of, vertex_line, are_below, projects_left, projects_right, misses_cutoff, distance_unless, cutoff_line, shadow_line, at_most_both, nearest_line, choose_line};
 ghost use Rattle.edges.specs.Read.{side_of, edge_line_of};
 
-use crate::{Agent, Cutoff, EdgeLine, Shadow, Side, collision};
+use crate::{Agent, Cutoff, Shadow, Side, collision};
 use common::Vec2;
 use lines::Line;
 
 // The time at which the velocity projects to the cutoff edge: halfway where that is degenerate.
+#[tactic(auto, unfolding(crate::specs::Cutoffs::t_cutoff, crate::proofs::Choices::choices))]
 fn t_cutoff_edge(
     is_degenerate_edge: bool,
     velocity: Vec2,
@@ -23,6 +24,7 @@ fn t_cutoff_edge(
 }
 
 // The cutoff of the edge between two points, which the shadow's vertices decide.
+#[tactic(auto, unfolding(crate::specs::Cutoffs::cutoff_of))]
 pub(crate) fn cut_off(
     agent: Agent,
     left: Vec2,
@@ -51,16 +53,18 @@ pub(crate) fn cut_off(
 }
 
 // The line at a cutoff circle, where the velocity projects to the circle.
-fn vertex_line(velocity: Vec2, cutoff: Vec2, reach: f32) -> EdgeLine
+#[tactic(auto, unfolding(crate::specs::Cutoffs::vertex_line))]
+fn vertex_line(velocity: Vec2, cutoff: Vec2, reach: f32) -> Option<Line>
     ensures { edge_line_of result ≡ vertex_line velocity cutoff reach }
 {
     let velocity_from_cutoff = velocity.sub(cutoff).normalize();
-    EdgeLine::Made(Line::new(
+    Some(Line::new(
         cutoff.add(velocity_from_cutoff.mul(reach)),
         velocity_from_cutoff.perp().neg(),
     ))
 }
 
+#[tactic(auto, unfolding(crate::specs::Cutoffs::are_below))]
 fn are_below(t: f32, t_shadow: f32) -> bool
     ensures { result ≡ are_below t t_shadow }
 {
@@ -69,19 +73,16 @@ fn are_below(t: f32, t_shadow: f32) -> bool
 
 // The velocity is left of the edge and does not project to the left shadow; or the edge is degenerate and it projects
 // to neither shadow.
+#[tactic(auto, unfolding(crate::specs::Cutoffs::projects_left))]
 fn projects_to_left(cutoff: Cutoff) -> bool
     ensures { result ≡ projects_left cutoff }
 {
-    if are_below(cutoff.t_cutoff_edge, cutoff.t_left_shadow) {
-        return true;
-    }
-    if cutoff.is_degenerate_edge {
-        return are_below(cutoff.t_left_shadow, cutoff.t_right_shadow);
-    }
-    false
+    are_below(cutoff.t_cutoff_edge, cutoff.t_left_shadow)
+        || cutoff.is_degenerate_edge && are_below(cutoff.t_left_shadow, cutoff.t_right_shadow)
 }
 
 // The velocity is right of the edge and does not project to the right shadow.
+#[tactic(auto, unfolding(crate::specs::Cutoffs::projects_right))]
 fn projects_to_right(t_cutoff_edge: f32, t_right_shadow: f32) -> bool
     ensures { result ≡ projects_right t_cutoff_edge t_right_shadow }
 {
@@ -89,50 +90,52 @@ fn projects_to_right(t_cutoff_edge: f32, t_right_shadow: f32) -> bool
 }
 
 // Whether the velocity does not project to the cutoff edge, or that is degenerate.
+#[tactic(auto, unfolding(crate::specs::Cutoffs::misses_cutoff))]
 fn misses_cutoff(cutoff: Cutoff) -> bool
     ensures { result ≡ misses_cutoff cutoff }
 {
-    if collision::in_unit(cutoff.t_cutoff_edge) {
-        return cutoff.is_degenerate_edge;
-    }
-    true
+    !collision::in_unit(cutoff.t_cutoff_edge) || cutoff.is_degenerate_edge
 }
 
 // The squared distance of the velocity from its projection, start + t * direction; infinite where there is none.
+#[tactic(auto, unfolding(crate::specs::Cutoffs::distance_unless, crate::proofs::Choices::choices))]
 fn distance_unless(missed: bool, velocity: Vec2, start: Vec2, t: f32, direction: Vec2) -> f32
     ensures { result ≡ distance_unless missed velocity start t direction }
 {
     if missed {
-        return 1.0 / 0.0;
+        return f32::INFINITY;
     }
     velocity.sub(start.add(direction.mul(t))).length_squared()
 }
 
-fn cutoff_line(cutoff: Cutoff, reach: f32) -> EdgeLine
+#[tactic(auto, unfolding(crate::specs::Cutoffs::cutoff_line))]
+fn cutoff_line(cutoff: Cutoff, reach: f32) -> Option<Line>
     ensures { edge_line_of result ≡ cutoff_line cutoff reach }
 {
     let line_direction = cutoff.cutoff_vector.normalize().neg();
-    EdgeLine::Made(Line::new(
+    Some(Line::new(
         cutoff.left_cutoff.add(line_direction.perp().mul(reach)),
         line_direction,
     ))
 }
 
 // The line along a side of the shadow. None where that is covered: the edge that covers it makes the line.
-fn shadow_line(side: Side, cutoff: Vec2, shadow: Shadow, reach: f32) -> EdgeLine
+#[tactic(auto, unfolding(crate::specs::Cutoffs::beside_shadow, crate::specs::Cutoffs::shadow_line, crate::proofs::Choices::choices))]
+fn shadow_line(side: Side, cutoff: Vec2, shadow: Shadow, reach: f32) -> Option<Line>
     ensures { edge_line_of result ≡ shadow_line (side_of side) cutoff shadow reach }
 {
     if shadow.covered {
-        return EdgeLine::Nothing;
+        return None;
     }
     let direction = shadow.direction;
     let across = direction.perp().mul(reach);
     match side {
-        Side::Left => EdgeLine::Made(Line::new(cutoff.add(across), direction)),
-        Side::Right => EdgeLine::Made(Line::new(cutoff.sub(across), direction.neg())),
+        Side::Left => Some(Line::new(cutoff.add(across), direction)),
+        Side::Right => Some(Line::new(cutoff.sub(across), direction.neg())),
     }
 }
 
+#[tactic(auto, unfolding(crate::specs::Cutoffs::at_most_both))]
 fn at_most_both(a: f32, b: f32, c: f32) -> bool
     ensures { result ≡ at_most_both a b c }
 {
@@ -140,7 +143,14 @@ fn at_most_both(a: f32, b: f32, c: f32) -> bool
 }
 
 // The line of the cutoff edge, the left shadow or the right one, whichever is closest to the velocity.
-fn nearest_line(velocity: Vec2, cutoff: Cutoff, left: Shadow, right: Shadow, reach: f32) -> EdgeLine
+#[tactic(auto, unfolding(crate::specs::Cutoffs::nearest_line, crate::proofs::Choices::choices))]
+fn nearest_line(
+    velocity: Vec2,
+    cutoff: Cutoff,
+    left: Shadow,
+    right: Shadow,
+    reach: f32,
+) -> Option<Line>
     ensures { edge_line_of result ≡ nearest_line velocity cutoff left right reach }
 {
     let cutoff_distance = distance_unless(
@@ -174,13 +184,14 @@ fn nearest_line(velocity: Vec2, cutoff: Cutoff, left: Shadow, right: Shadow, rea
 }
 
 // The line at the projection of the velocity to the cut off edge and its shadows.
+#[tactic(auto, unfolding(crate::specs::Cutoffs::choose_line, crate::proofs::Choices::choices))]
 pub(crate) fn choose_line(
     velocity: Vec2,
     cutoff: Cutoff,
     left: Shadow,
     right: Shadow,
     reach: f32,
-) -> EdgeLine
+) -> Option<Line>
     ensures { edge_line_of result ≡ choose_line velocity cutoff left right reach }
 {
     if projects_to_left(cutoff) {

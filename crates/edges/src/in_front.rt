@@ -4,188 +4,162 @@ ghost use Rattle.std.specs.Prelude.{◌≡◌};
 ghost use Rattle.edges.specs.EdgeLines.{is_degenerate, alone as aloneOf, line_for_shadows, line_of_vertex, line_of_edge, line_past, line_in_front};
 ghost use Rattle.edges.specs.Read.{side_of, edge_of, edge_line_of};
 
-use crate::{Agent, Edge, EdgeLine, EdgeShape, Outer, Side, collision, cutoffs, shadows};
+use crate::{Edge, EdgeShape, Keeper, Side, collision, cutoffs, shadows};
 use common::Vec2;
 use lines::Line;
 
 // Whether both ends of an edge are the same point.
+#[tactic(auto, unfolding(crate::specs::EdgeLines::is_degenerate, common::specs::Vectors::eq_of))]
 fn is_degenerate(edge: Edge) -> bool
     ensures { result ≡ is_degenerate (edge_of edge) }
 {
-    edge.left_vertex.point.eq(edge.right_vertex.point)
+    edge.left_vertex.point == edge.right_vertex.point
 }
 
 // The line beside the edge's shadow, whose vertices and directions are decided.
+#[tactic(auto, unfolding(crate::specs::EdgeLines::line_for_shadows))]
 fn line_for_shadows(
-    agent: Agent,
+    keeper: Keeper,
     edge: Edge,
     is_degenerate_edge: bool,
-    left_shadow_direction: Vec2,
-    right_shadow_direction: Vec2,
-    margin: f32,
-    horizon: f32,
-) -> EdgeLine
-    ensures { edge_line_of result ≡ line_for_shadows agent (edge_of edge) is_degenerate_edge left_shadow_direction
-        right_shadow_direction margin horizon }
+    left_direction: Vec2,
+    right_direction: Vec2,
+) -> Option<Line>
+    ensures { edge_line_of result ≡ line_for_shadows keeper.agent (edge_of edge) is_degenerate_edge left_direction
+        right_direction keeper.margin keeper.horizon }
 {
-    let left_vertex = edge.left_vertex;
-    let right_vertex = edge.right_vertex;
-    let left_left = edge.left_left_vertex;
-    let right_right = edge.right_right_vertex;
-    let left = shadows::shadow_beside(Side::Left, left_vertex, left_left, left_shadow_direction);
+    let Edge {
+        left_vertex,
+        right_vertex,
+        left_left_vertex,
+        right_right_vertex,
+    } = edge;
+    let left = shadows::shadow_beside(Side::Left, left_vertex, left_left_vertex, left_direction);
     let right = shadows::shadow_beside(
         Side::Right,
         right_vertex,
-        right_right,
-        right_shadow_direction,
+        right_right_vertex,
+        right_direction,
     );
     let cutoff = cutoffs::cut_off(
-        agent,
+        keeper.agent,
         left_vertex.point,
         right_vertex.point,
         is_degenerate_edge,
         left.direction,
         right.direction,
-        horizon,
+        keeper.horizon,
     );
-    cutoffs::choose_line(agent.velocity, cutoff, left, right, margin / horizon)
+    let reach = keeper.margin / keeper.horizon;
+    cutoffs::choose_line(keeper.agent.velocity, cutoff, left, right, reach)
 }
 
 // The edge as the vertex on one side shadows it: that vertex stands for both, and the other one lies beyond it.
+#[tactic(auto, unfolding(crate::specs::EdgeLines::alone))]
 fn alone(side: Side, edge: Edge) -> Edge
     ensures { edge_of result ≡ aloneOf (side_of side) (edge_of edge) }
 {
-    let left_vertex = edge.left_vertex;
-    let right_vertex = edge.right_vertex;
-    let left_left_vertex = edge.left_left_vertex;
-    let right_right_vertex = edge.right_right_vertex;
-    let left_point = left_vertex.point;
-    let right_point = right_vertex.point;
     match side {
         Side::Left => Edge {
-            left_vertex,
-            right_vertex: left_vertex,
-            left_left_vertex,
-            right_right_vertex: Outer::At(right_point),
+            right_vertex: edge.left_vertex,
+            right_right_vertex: Some(edge.right_vertex.point),
+            ..edge
         },
         Side::Right => Edge {
-            left_vertex: right_vertex,
-            right_vertex,
-            left_left_vertex: Outer::At(left_point),
-            right_right_vertex,
+            left_vertex: edge.right_vertex,
+            left_left_vertex: Some(edge.left_vertex.point),
+            ..edge
         },
     }
 }
 
 // The line where the vertex on one side shadows the whole edge. None for a concave vertex: another edge is in front of this one.
+#[tactic(auto, unfolding(crate::specs::EdgeLines::line_of_vertex, crate::proofs::Choices::choices))]
 fn line_of_vertex(
-    agent: Agent,
+    keeper: Keeper,
     side: Side,
     edge: Edge,
     relative_vertex: Vec2,
     dist_squared: f32,
-    margin: f32,
-    horizon: f32,
-) -> EdgeLine
-    ensures { edge_line_of result ≡ line_of_vertex agent (side_of side) (edge_of edge) relative_vertex dist_squared
-        margin horizon }
+) -> Option<Line>
+    ensures { edge_line_of result ≡ line_of_vertex keeper.agent (side_of side) (edge_of edge) relative_vertex
+        dist_squared keeper.margin keeper.horizon }
 {
     let vertex = alone(side, edge);
-    if vertex.left_vertex.convex {
-        let left = shadows::tangent_direction(Side::Left, relative_vertex, dist_squared, margin);
-        let right = shadows::tangent_direction(Side::Right, relative_vertex, dist_squared, margin);
-        return line_for_shadows(
-            agent,
-            vertex,
-            is_degenerate(vertex),
-            left,
-            right,
-            margin,
-            horizon,
-        );
+    if !vertex.left_vertex.convex {
+        return None;
     }
-    EdgeLine::Nothing
+    let margin = keeper.margin;
+    let left = shadows::tangent_direction(Side::Left, relative_vertex, dist_squared, margin);
+    let right = shadows::tangent_direction(Side::Right, relative_vertex, dist_squared, margin);
+    line_for_shadows(keeper, vertex, is_degenerate(vertex), left, right)
 }
 
 // The line where both vertices define the shadow, each its own side.
-fn line_of_edge(agent: Agent, edge: Edge, shape: EdgeShape, margin: f32, horizon: f32) -> EdgeLine
-    ensures { edge_line_of result ≡ line_of_edge agent (edge_of edge) shape margin horizon }
+#[tactic(auto, unfolding(crate::specs::EdgeLines::line_of_edge))]
+fn line_of_edge(keeper: Keeper, edge: Edge, shape: EdgeShape) -> Option<Line>
+    ensures { edge_line_of result ≡ line_of_edge keeper.agent (edge_of edge) shape keeper.margin keeper.horizon }
 {
-    let unit = shape.edge_unit_vector;
     let left = shadows::shadow_direction(
         Side::Left,
         edge.left_vertex.convex,
         shape.relative_left_vertex,
         shape.dist_left_squared,
-        margin,
-        unit,
+        keeper.margin,
+        shape.edge_unit_vector,
     );
     let right = shadows::shadow_direction(
         Side::Right,
         edge.right_vertex.convex,
         shape.relative_right_vertex,
         shape.dist_right_squared,
-        margin,
-        unit,
+        keeper.margin,
+        shape.edge_unit_vector,
     );
-    line_for_shadows(
-        agent,
-        edge,
-        is_degenerate(edge),
-        left,
-        right,
-        margin,
-        horizon,
-    )
+    line_for_shadows(keeper, edge, is_degenerate(edge), left, right)
 }
 
 // The agent does not collide: the line covers what of the edge's velocity obstacle the velocity is nearest to.
-fn line_past(agent: Agent, edge: Edge, shape: EdgeShape, margin: f32, horizon: f32) -> EdgeLine
-    ensures { edge_line_of result ≡ line_past agent (edge_of edge) shape margin horizon }
+#[tactic(auto, unfolding(crate::specs::EdgeLines::line_past, crate::proofs::Choices::choices))]
+fn line_past(keeper: Keeper, edge: Edge, shape: EdgeShape) -> Option<Line>
+    ensures { edge_line_of result ≡ line_past keeper.agent (edge_of edge) shape keeper.margin keeper.horizon }
 {
     let dist_line = shape.dist_to_edge_line_squared;
     if collision::reaches(shape.edge_t < 0.0, dist_line, shape.squared_radius) {
         let relative = shape.relative_left_vertex;
-        let dist = shape.dist_left_squared;
-        return line_of_vertex(agent, Side::Left, edge, relative, dist, margin, horizon);
+        return line_of_vertex(keeper, Side::Left, edge, relative, shape.dist_left_squared);
     }
     if collision::reaches(shape.edge_t > 1.0, dist_line, shape.squared_radius) {
         let relative = shape.relative_right_vertex;
-        let dist = shape.dist_right_squared;
-        return line_of_vertex(agent, Side::Right, edge, relative, dist, margin, horizon);
+        return line_of_vertex(
+            keeper,
+            Side::Right,
+            edge,
+            relative,
+            shape.dist_right_squared,
+        );
     }
-    line_of_edge(agent, edge, shape, margin, horizon)
+    line_of_edge(keeper, edge, shape)
 }
 
 // The agent is in front of the edge, and no line covers it: first the collisions with the left vertex, the right one,
 // and the edge between them.
-pub(crate) fn line_in_front(
-    agent: Agent,
-    edge: Edge,
-    shape: EdgeShape,
-    margin: f32,
-    horizon: f32,
-) -> EdgeLine
-    ensures { edge_line_of result ≡ line_in_front agent (edge_of edge) shape margin horizon }
+#[tactic(auto, unfolding(crate::specs::EdgeLines::line_in_front, crate::proofs::Choices::choices))]
+pub(crate) fn line_in_front(keeper: Keeper, edge: Edge, shape: EdgeShape) -> Option<Line>
+    ensures { edge_line_of result ≡ line_in_front keeper.agent (edge_of edge) shape keeper.margin keeper.horizon }
 {
     let unit = shape.edge_unit_vector;
     let radius = shape.squared_radius;
     if collision::reaches(shape.edge_t < 0.0, shape.dist_left_squared, radius) {
-        return EdgeLine::Made(collision::corner_line(
-            edge.left_vertex.convex,
-            shape.relative_left_vertex,
-            unit,
-        ));
+        let relative = shape.relative_left_vertex;
+        return Some(collision::corner_line(edge.left_vertex.convex, relative, unit));
     }
     if collision::reaches(shape.edge_t > 1.0, shape.dist_right_squared, radius) {
         return collision::right_corner_line(edge, shape);
     }
-    if collision::reaches(
-        collision::in_unit(shape.edge_t),
-        shape.dist_to_edge_line_squared,
-        radius,
-    ) {
-        return EdgeLine::Made(Line::new(Vec2::ZERO, unit.neg()));
+    let beside = collision::in_unit(shape.edge_t);
+    if collision::reaches(beside, shape.dist_to_edge_line_squared, radius) {
+        return Some(Line::new(Vec2::ZERO, unit.neg()));
     }
-    line_past(agent, edge, shape, margin, horizon)
+    line_past(keeper, edge, shape)
 }

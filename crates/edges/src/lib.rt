@@ -16,7 +16,7 @@ mod cutoffs;
 mod in_front;
 mod shadows;
 
-#[derive(Clone, Copy)]
+#[derive(Clone, Copy, Debug, PartialEq)]
 pub struct Agent {
     pub position: Vec2,
     pub velocity: Vec2,
@@ -30,38 +30,24 @@ impl Agent {
 }
 
 // An end of an edge, and whether the obstacle is convex there.
-#[derive(Clone, Copy)]
+#[derive(Clone, Copy, Debug, PartialEq)]
 pub struct EdgeVertex {
     pub point: Vec2,
     pub convex: bool,
 }
 
-// A vertex beyond the edge, where there is one.
-#[derive(Clone, Copy)]
-pub enum Outer {
-    At(Vec2),
-    Absent,
-}
-
-// An edge with the vertices beyond its ends.
-#[derive(Clone, Copy)]
+// An edge with the vertices beyond its ends, where there are some.
+#[derive(Clone, Copy, Debug, PartialEq)]
 pub struct Edge {
     pub left_vertex: EdgeVertex,
     pub right_vertex: EdgeVertex,
-    pub left_left_vertex: Outer,
-    pub right_right_vertex: Outer,
+    pub left_left_vertex: Option<Vec2>,
+    pub right_right_vertex: Option<Vec2>,
 }
 
 impl Edge {
     // How much less deep than the margin an edge may lie in a line that covers it.
     pub(crate) const COVER_EPSILON: f32 = 0.00001;
-}
-
-// An edge's line, where it has one.
-#[derive(Clone, Copy)]
-pub enum EdgeLine {
-    Made(Line),
-    Nothing,
 }
 
 // What is worked out once of an edge that the agent is in front of.
@@ -75,6 +61,14 @@ pub(crate) struct EdgeShape {
     pub(crate) squared_radius: f32,
     pub(crate) edge_t: f32,
     pub(crate) dist_to_edge_line_squared: f32,
+}
+
+// An agent, the margin that it keeps and the horizon for which it does.
+#[derive(Clone, Copy)]
+pub(crate) struct Keeper {
+    pub(crate) agent: Agent,
+    pub(crate) margin: f32,
+    pub(crate) horizon: f32,
 }
 
 // The two sides of an edge and of its shadow.
@@ -106,13 +100,14 @@ pub(crate) struct Cutoff {
 // The line that one edge asks an agent to keep to, beside the lines that the same obstacle's earlier edges made, lent
 // as numbers, four a line. None where the agent is behind the edge, where one of those lines covers it, or where
 // another edge's line does the work. Nothing is judged: a NaN compares false.
+#[tactic(auto, unfolding(crate::specs::EdgeLines::line_for_edge, crate::proofs::Choices::choices))]
 pub fn get_line_for_agent_to_edge(
     agent: Agent,
     edge: Edge,
     margin: f32,
     horizon: f32,
     existing_lines: &[f32],
-) -> EdgeLine
+) -> Option<Line>
     ensures { edge_line_of result ≡ line_for_edge agent (edge_of edge) margin horizon (lines_of existing_lines.now) }
 {
     let left_point = edge.left_vertex.point;
@@ -121,7 +116,7 @@ pub fn get_line_for_agent_to_edge(
     let relative_right = right_point.sub(agent.position);
     let edge_vector = right_point.sub(left_point);
     if common::determinant(relative_left.neg(), edge_vector) < 0.0 {
-        return EdgeLine::Nothing;
+        return None;
     }
     if cover::is_edge_covered(
         relative_left,
@@ -130,8 +125,13 @@ pub fn get_line_for_agent_to_edge(
         margin,
         existing_lines,
     ) {
-        return EdgeLine::Nothing;
+        return None;
     }
     let shape = collision::edge_shape(relative_left, relative_right, edge_vector, margin);
-    in_front::line_in_front(agent, edge, shape, margin, horizon)
+    let keeper = Keeper {
+        agent,
+        margin,
+        horizon,
+    };
+    in_front::line_in_front(keeper, edge, shape)
 }

@@ -3,10 +3,11 @@ ghost use Rattle.std.specs.Prelude.{◌≡◌};
 ghost use Rattle.edges.specs.Shadows.{tangent, side_direction, is_beyond, shadow_beside};
 ghost use Rattle.edges.specs.Read.{outer_of, side_of};
 
-use crate::{EdgeVertex, Outer, Shadow, Side};
+use crate::{EdgeVertex, Shadow, Side};
 use common::Vec2;
 
 // The direction of a side's tangent to the circle of the margin around a vertex.
+#[tactic(auto, unfolding(crate::specs::Shadows::tangent))]
 pub(crate) fn tangent_direction(
     side: Side,
     relative_vertex: Vec2,
@@ -26,6 +27,7 @@ pub(crate) fn tangent_direction(
 
 // The direction of a side of the shadow: its vertex's tangent, or where that is concave the edge itself, so that both
 // its edges extend the shadow alike.
+#[tactic(auto, unfolding(crate::specs::Shadows::extended, crate::specs::Shadows::side_direction, crate::proofs::Choices::choices))]
 pub(crate) fn shadow_direction(
     side: Side,
     convex: bool,
@@ -46,6 +48,7 @@ pub(crate) fn shadow_direction(
 }
 
 // Whether the edge beyond lies outside the shadow's side, and so covers it.
+#[tactic(auto, unfolding(crate::specs::Shadows::is_beyond))]
 fn is_beyond(side: Side, direction: Vec2, outer_edge: Vec2) -> bool
     ensures { result ≡ is_beyond (side_of side) direction outer_edge }
 {
@@ -56,10 +59,11 @@ fn is_beyond(side: Side, direction: Vec2, outer_edge: Vec2) -> bool
 }
 
 // A side of the shadow beside the edge beyond: that edge's direction where it covers the side.
+#[tactic(auto, unfolding(crate::specs::Shadows::shadow_beside, crate::proofs::Choices::choices))]
 pub(crate) fn shadow_beside(
     side: Side,
     vertex: EdgeVertex,
-    outer_vertex: Outer,
+    outer_vertex: Option<Vec2>,
     direction: Vec2,
 ) -> Shadow
     ensures { result ≡ shadow_beside (side_of side) vertex (outer_of outer_vertex) direction }
@@ -68,18 +72,15 @@ pub(crate) fn shadow_beside(
         direction,
         covered: false,
     };
-    let Outer::At(point) = outer_vertex else {
+    let Some(point) = outer_vertex else {
         return open;
     };
     let outer_edge = point.sub(vertex.point);
-    if vertex.convex {
-        if is_beyond(side, direction, outer_edge) {
-            return Shadow {
-                direction: outer_edge.normalize(),
-                covered: true,
-            };
-        }
-        return open;
+    if vertex.convex && is_beyond(side, direction, outer_edge) {
+        return Shadow {
+            direction: outer_edge.normalize(),
+            covered: true,
+        };
     }
     open
 }

@@ -5,40 +5,28 @@
 
 ghost use Rattle.std.specs.Prelude.{◌≤◌};
 
-use fallback_index::{Fallbacks, Update};
-use index_building::{Extent, IndexWritten, PartBuilt};
+use admission::Refusal;
+use fallback_index::{Head, Side};
+use index_building::{Extent, PartBuilt};
 use std::io;
 use std::io::{ErrorKind, Read, Write};
 
-// How many bytes of log and index there are, and whether to go on.
+// How many bytes of log and index there are.
 #[derive(Clone, Copy)]
 struct Held {
     log: usize,
     index: usize,
-    open: bool,
 }
 
 impl Held {
-    const NONE: Held = Held {
-        log: 0,
-        index: 0,
-        open: true,
-    };
-
-    const CLOSED: Held = Held {
-        log: 0,
-        index: 0,
-        open: false,
-    };
+    const NONE: Held = Held { log: 0, index: 0 };
 }
 
 // How many answers were a walk's; and of the first that was not, if there is one, the question.
 #[derive(Clone, Copy)]
 struct Agreed {
     good: u64,
-    all: bool,
-    a: u64,
-    b: u64,
+    other: Option<(u64, u64)>,
 }
 
 // Writes an answer: 0 and a number, or 1 and a refusal's. Its bytes are put together in those that a command brought.
@@ -52,21 +40,35 @@ fn put(output: &mut impl Write, brought: &mut [u8], refused: u8, number: u64) ->
     output.write_all(&brought[0..9])
 }
 
-fn put_count(output: &mut impl Write, brought: &mut [u8], fallbacks: Fallbacks) -> io::Result<()> {
-    match fallbacks {
-        Fallbacks::Count(count) => put(output, brought, 0, count),
-        Fallbacks::Refused(number) => put(output, brought, 1, number as u64),
+fn put_refused(output: &mut impl Write, brought: &mut [u8], refusal: Refusal) -> io::Result<()> {
+    put(output, brought, 1, refusal.number() as u64)
+}
+
+fn put_count(
+    output: &mut impl Write,
+    brought: &mut [u8],
+    counted: Result<u64, Refusal>,
+) -> io::Result<()> {
+    match counted {
+        Ok(count) => put(output, brought, 0, count),
+        Err(refusal) => put_refused(output, brought, refusal),
     }
 }
 
-fn put_update(output: &mut impl Write, brought: &mut [u8], update: Update) -> io::Result<()> {
+fn put_extent(output: &mut impl Write, brought: &mut [u8], extent: Extent) -> io::Result<()> {
+    put(output, brought, 0, extent.bytes)?;
+    put(output, brought, 0, extent.records)?;
+    put(output, brought, 0, extent.fallbacks)
+}
+
+fn put_update(
+    output: &mut impl Write,
+    brought: &mut [u8],
+    update: Result<Extent, Refusal>,
+) -> io::Result<()> {
     match update {
-        Update::Refused(number) => put(output, brought, 1, number as u64),
-        Update::Numbers(total, count, before) => {
-            put(output, brought, 0, total)?;
-            put(output, brought, 0, count)?;
-            put(output, brought, 0, before)
-        }
+        Ok(extent) => put_extent(output, brought, extent),
+        Err(refusal) => put_refused(output, brought, refusal),
     }
 }
 
@@ -74,17 +76,17 @@ fn put_update(output: &mut impl Write, brought: &mut [u8], update: Update) -> io
 fn put_written(
     output: &mut impl Write,
     brought: &mut [u8],
-    written: IndexWritten,
+    written: Result<usize, Refusal>,
     old: usize,
 ) -> io::Result<usize> {
     match written {
-        IndexWritten::Refused(number) => {
-            put(output, brought, 1, number as u64)?;
-            Ok(old)
-        }
-        IndexWritten::Length(length) => {
+        Ok(length) => {
             put(output, brought, 0, length as u64)?;
             Ok(length)
+        }
+        Err(refusal) => {
+            put_refused(output, brought, refusal)?;
+            Ok(old)
         }
     }
 }
@@ -116,15 +118,11 @@ fn bring(input: &mut impl Read, buffer: &mut [u8], at: usize, count: usize) -> i
 
 // 1: bytes of the log from a place on, which end it. 2: the same for the index. 6: their lengths. 7, 8: bytes in the
 // middle of them.
-fn hold(came: bool, log: usize, index: usize) -> Held {
+fn hold(came: bool, log: usize, index: usize) -> Option<Held> {
     if came {
-        return Held {
-            log,
-            index,
-            open: true,
-        };
+        return Some(Held { log, index });
     }
-    Held::CLOSED
+    None
 }
 
 // 3: a build into the first bytes of the index's buffer, which are written out.
@@ -135,12 +133,12 @@ fn build(
     brought: &mut [u8],
     held: Held,
     room: usize,
-) -> io::Result<Held> {
+) -> io::Result<Option<Held>> {
     if log.len() < held.log {
-        return Ok(Held::CLOSED);
+        return Ok(None);
     }
     if index.len() < room {
-        return Ok(Held::CLOSED);
+        return Ok(None);
     }
     let there = held.log;
     let written = index_building::build_index(&log[0..there], &mut index[0..room]);
@@ -158,18 +156,18 @@ fn ask(
     held: Held,
     a: usize,
     b: usize,
-) -> io::Result<Held> {
+) -> io::Result<Option<Held>> {
     if log.len() < held.log {
-        return Ok(Held::CLOSED);
+        return Ok(None);
     }
     if index.len() < held.index {
-        return Ok(Held::CLOSED);
+        return Ok(None);
     }
     let there = held.log;
     let length = held.index;
     let answer = fallback_index::count_fallbacks(&log[0..there], &index[0..length], a, b);
     put_count(output, brought, answer)?;
-    Ok(held)
+    Ok(Some(held))
 }
 
 // 13: every question a <= b of so many records, held to a walk's fallbacks before each, which the input brings, four bytes a
@@ -182,24 +180,24 @@ fn ask_all(
     brought: &mut [u8],
     held: Held,
     count: usize,
-) -> io::Result<Held> {
+) -> io::Result<Option<Held>> {
     if count > 1000 {
-        return Ok(Held::CLOSED);
+        return Ok(None);
     }
     if !bring(input, brought, 0, 4 * count + 4)? {
-        return Ok(Held::CLOSED);
+        return Ok(None);
     }
     if log.len() < held.log {
-        return Ok(Held::CLOSED);
+        return Ok(None);
     }
     if index.len() < held.index {
-        return Ok(Held::CLOSED);
+        return Ok(None);
     }
     let there = held.log;
     let length = held.index;
     let agreed = every_first(&log[0..there], &index[0..length], brought, count);
     put_agreed(output, brought, agreed)?;
-    Ok(held)
+    Ok(Some(held))
 }
 
 fn every_first(log: &[u8], index: &[u8], walked: &[u8], count: usize) -> Agreed
@@ -207,14 +205,10 @@ fn every_first(log: &[u8], index: &[u8], walked: &[u8], count: usize) -> Agreed
 {
     let mut agreed = Agreed {
         good: 0,
-        all: true,
-        a: 0,
-        b: 0,
+        other: None,
     };
-    let mut a = 0;
-    while a <= count {
+    for a in 0..=count {
         agreed = every_second(log, index, walked, a, count, agreed);
-        a += 1;
     }
     agreed
 }
@@ -230,53 +224,46 @@ fn every_second(
     requires { count ≤ 1000 }
 {
     let mut agreed = before;
-    let mut b = a;
-    while b <= count {
-        let answer = fallback_index::count_fallbacks(log, index, a, b);
-        agreed = compared(agreed, is_walked(answer, walked, a, b), a as u64, b as u64);
-        b += 1;
+    for b in a..=count {
+        let counted = fallback_index::count_fallbacks(log, index, a, b);
+        agreed = compared(agreed, is_walked(counted, walked, a, b), a as u64, b as u64);
     }
     agreed
 }
 
 // Whether an answer, and the walk's fallbacks before a, are those before b.
-fn is_walked(answer: Fallbacks, walked: &[u8], a: usize, b: usize) -> bool
+fn is_walked(counted: Result<u64, Refusal>, walked: &[u8], a: usize, b: usize) -> bool
     requires a_le_b { a ≤ b }
     requires b_bound { b ≤ 1000 }
 {
     let before_a = words::word_at(walked, 4 * a) as u64;
     let before_b = words::word_at(walked, 4 * b) as u64;
-    match answer {
-        Fallbacks::Count(count) => std::num::wrapping_add_u64(before_a, count) == before_b,
-        Fallbacks::Refused(_) => false,
+    match counted {
+        Ok(count) => before_a.wrapping_add(count) == before_b,
+        Err(_) => false,
     }
 }
 
 fn compared(agreed: Agreed, good: bool, a: u64, b: u64) -> Agreed {
     if good {
         return Agreed {
-            good: std::num::wrapping_add_u64(agreed.good, 1),
+            good: agreed.good.wrapping_add(1),
             ..agreed
         };
     }
-    if agreed.all {
-        return Agreed {
-            all: false,
-            a,
-            b,
-            ..agreed
-        };
+    Agreed {
+        other: agreed.other.or(Some((a, b))),
+        ..agreed
     }
-    agreed
 }
 
 fn put_agreed(output: &mut impl Write, brought: &mut [u8], agreed: Agreed) -> io::Result<()> {
     put(output, brought, 0, agreed.good)?;
-    if agreed.all {
+    let Some((a, b)) = agreed.other else {
         return Ok(());
-    }
-    put(output, brought, 0, agreed.a)?;
-    put(output, brought, 0, agreed.b)
+    };
+    put(output, brought, 0, a)?;
+    put(output, brought, 0, b)
 }
 
 // 5: an append of a record that the input brings, to an index of so many bytes.
@@ -290,18 +277,18 @@ fn append(
     length: usize,
     room: usize,
     size: usize,
-) -> io::Result<Held> {
+) -> io::Result<Option<Held>> {
     if !bring(input, brought, 0, size)? {
-        return Ok(Held::CLOSED);
+        return Ok(None);
     }
     if brought.len() < size {
-        return Ok(Held::CLOSED);
+        return Ok(None);
     }
     if log.len() < held.log {
-        return Ok(Held::CLOSED);
+        return Ok(None);
     }
     if index.len() < room {
-        return Ok(Held::CLOSED);
+        return Ok(None);
     }
     let there = held.log;
     let written = fallback_index::append_record(
@@ -324,27 +311,34 @@ fn ask_parts(
     total: usize,
     size: usize,
     a: usize,
-) -> io::Result<Held> {
+) -> io::Result<Option<Held>> {
     if !bring(input, brought, 0, 33)? {
-        return Ok(Held::CLOSED);
+        return Ok(None);
     }
     if brought.len() < 33 {
-        return Ok(Held::CLOSED);
+        return Ok(None);
     }
-    let b = words::word_at(brought, 29) as usize;
+    let parts = &brought[..];
+    let b = words::word_at(parts, 29) as usize;
     let answer = fallback_index::count_by_parts(
-        total,
-        size,
-        &brought[0..13],
-        &brought[13..21],
-        &brought[21..29],
-        &brought[0..0],
-        &brought[0..0],
+        Head {
+            log_length: total,
+            index_length: size,
+            bytes: &parts[..13],
+        },
+        Side {
+            entry: &parts[13..21],
+            stretch: &[],
+        },
+        Side {
+            entry: &parts[21..29],
+            stretch: &[],
+        },
         a,
         b,
     );
     put_count(output, brought, answer)?;
-    Ok(held)
+    Ok(Some(held))
 }
 
 // 10: an append's numbers by its parts, with no bytes of the log: head, two entries, and a record.
@@ -356,28 +350,33 @@ fn append_parts(
     total: usize,
     size: usize,
     count: usize,
-) -> io::Result<Held> {
+) -> io::Result<Option<Held>> {
     if count > 4000 {
-        return Ok(Held::CLOSED);
+        return Ok(None);
     }
     let end = 29 + count;
     if !bring(input, brought, 0, end)? {
-        return Ok(Held::CLOSED);
+        return Ok(None);
     }
     if brought.len() < end {
-        return Ok(Held::CLOSED);
+        return Ok(None);
     }
+    let parts = &brought[..];
     let update = fallback_index::update_by_parts(
-        total,
-        size,
-        &brought[0..13],
-        &brought[13..21],
-        &brought[21..29],
-        &brought[0..0],
-        &brought[29..end],
+        Head {
+            log_length: total,
+            index_length: size,
+            bytes: &parts[..13],
+        },
+        &parts[13..21],
+        Side {
+            entry: &parts[21..29],
+            stretch: &[],
+        },
+        &parts[29..end],
     );
     put_update(output, brought, update)?;
-    Ok(held)
+    Ok(Some(held))
 }
 
 // 11: a part of a log that the input brings, behind so much of one: 24 bytes of numbers, then the part. The entries go to the
@@ -390,25 +389,25 @@ fn build_part(
     held: Held,
     size: usize,
     room: usize,
-) -> io::Result<Held> {
+) -> io::Result<Option<Held>> {
     if size > 4000 {
-        return Ok(Held::CLOSED);
+        return Ok(None);
     }
     let end = 24 + size;
     if !bring(input, brought, 0, end)? {
-        return Ok(Held::CLOSED);
+        return Ok(None);
     }
     if brought.len() < end {
-        return Ok(Held::CLOSED);
+        return Ok(None);
     }
     if index.len() < room {
-        return Ok(Held::CLOSED);
+        return Ok(None);
     }
     let extent = extent_at(brought);
     let built = index_building::build_part(&brought[24..end], extent, &mut index[0..room]);
     put_part(output, brought, built)?;
     output.write_all(&index[0..room])?;
-    Ok(held)
+    Ok(Some(held))
 }
 
 // 12: the end of a log behind so much of it, with so many bytes left.
@@ -420,21 +419,21 @@ fn build_end(
     held: Held,
     left: usize,
     room: usize,
-) -> io::Result<Held> {
+) -> io::Result<Option<Held>> {
     if !bring(input, brought, 0, 24)? {
-        return Ok(Held::CLOSED);
+        return Ok(None);
     }
     if brought.len() < left {
-        return Ok(Held::CLOSED);
+        return Ok(None);
     }
     if index.len() < room {
-        return Ok(Held::CLOSED);
+        return Ok(None);
     }
     let extent = extent_at(brought);
     let written = index_building::build_end(&brought[0..left], extent, &mut index[0..room]);
     put_written(output, brought, written, 0)?;
     output.write_all(&index[0..room])?;
-    Ok(held)
+    Ok(Some(held))
 }
 
 // Three numbers of eight bytes.
@@ -450,16 +449,18 @@ fn long(high: u32, low: u32) -> u64 {
     high as u64 * 0x1_0000_0000 + low as u64
 }
 
-fn put_part(output: &mut impl Write, brought: &mut [u8], built: PartBuilt) -> io::Result<()> {
+fn put_part(
+    output: &mut impl Write,
+    brought: &mut [u8],
+    built: Result<PartBuilt, Refusal>,
+) -> io::Result<()> {
     match built {
-        PartBuilt::Refused(number) => put(output, brought, 1, number as u64),
-        PartBuilt::Whole(used, written, extent) => {
-            put(output, brought, 0, used as u64)?;
-            put(output, brought, 0, written as u64)?;
-            put(output, brought, 0, extent.bytes)?;
-            put(output, brought, 0, extent.records)?;
-            put(output, brought, 0, extent.fallbacks)
+        Ok(part) => {
+            put(output, brought, 0, part.used as u64)?;
+            put(output, brought, 0, part.written as u64)?;
+            put_extent(output, brought, part.extent)
         }
+        Err(refusal) => put_refused(output, brought, refusal),
     }
 }
 
@@ -471,9 +472,9 @@ fn command(
     index: &mut [u8],
     brought: &mut [u8],
     held: Held,
-) -> io::Result<Held> {
+) -> io::Result<Option<Held>> {
     if brought.len() < 13 {
-        return Ok(Held::CLOSED);
+        return Ok(None);
     }
     let kind = brought[0];
     let x = words::word_at(brought, 1) as usize;
@@ -493,7 +494,7 @@ fn command(
         11 => build_part(input, output, index, brought, held, x, y),
         12 => build_end(input, output, index, brought, held, x, y),
         13 => ask_all(input, output, log, index, brought, held, x),
-        _ => Ok(Held::CLOSED),
+        _ => Ok(None),
     }
 }
 
@@ -506,16 +507,14 @@ fn serve(
     brought: &mut [u8],
 ) -> io::Result<()> {
     let mut held = Held::NONE;
-    let mut left = u64::MAX;
-    while left > 0 {
+    for _ in 0..u64::MAX {
         if !bring(input, brought, 0, 13)? {
             return Ok(());
         }
-        held = command(input, output, log, index, brought, held)?;
-        if !held.open {
+        let Some(next) = command(input, output, log, index, brought, held)? else {
             return Ok(());
-        }
-        left -= 1;
+        };
+        held = next;
     }
     Ok(())
 }

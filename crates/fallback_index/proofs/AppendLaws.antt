@@ -9,20 +9,17 @@ use lib.Dec.{leb, eqb}
 use lib.ListN.{length, take, drop, length-append}
 use lib.Seq.{take_at, take-length}
 use borrow.Author.Tests.{leb-true, le-leb, lt-leb}
+use Rattle.std.specs.Prelude.{Ok, Err}
 use Rattle.arithmetic.specs.Binary32.{when◌then◌else◌}
 use Rattle.admission.specs.Faults.{Fault, fine, fault, must, unless_fault}
 use Rattle.admission.proofs.FaultLaws.{must-fine}
 use Rattle.answer_records.specs.Replies as said
 use Rattle.answer_records.specs.Replies.{Said, answer_in}
 use Rattle.answer_logs.specs.Logs.{Entry, outcome, refusal, Records, whole, refused_at}
-use Rattle.fallback_index.specs.declared.Fallbacks.TheVariants as answer
-use Rattle.index_building.specs.declared.IndexWritten.{IndexWritten}
-use Rattle.index_building.specs.declared.IndexWritten.TheVariants as index
-use Rattle.fallback_index.specs.declared.Update.TheVariants as update
 use Rattle.log_walks.specs.Figures.{sizes, fallback, fallbacks, fallbacks_among}
 use Rattle.log_walks.specs.Parts.{records_of}
-use Rattle.index_building.specs.Indexes.{greatest, index_length, index_of, laid_over, Standing, standing, refused_over, put_over, put_index}
-use Rattle.index_building.specs.Builds.{built_by, built_up_to, built_over}
+use Rattle.index_building.specs.Indexes.{greatest, index_length, index_of, laid_over, IndexWritten, Standing, standing, refused_over, put_over, put_index}
+use Rattle.index_building.specs.Builds.{extent, built_by, built_up_to, built_over}
 use Rattle.fallback_index.specs.Questions.{named_count, head_in, entry_in, stretch_in, question_of, question_in}
 use Rattle.fallback_index.specs.Appends.{new_entry_fits, grown_fault, grown, grown_by, updated, update_of, update_in, updated_over, appended_up_to, appended_over}
 use Rattle.log_walks.proofs.SplitLaws.{Splits, splits, all-bytes, few, fallbacks-few, records-there, splits-append, alone-outcome, alone-refusal}
@@ -45,7 +42,7 @@ module _ (log : List ℕ) (rs : List Entry) (t : Splits log rs) (fits : length l
   end-answered : question_of (length log) (length (built_from log rs)) (head_in (built_from log rs))
       (entry_in (built_from log rs) 0) (entry_in (built_from log rs) (length rs)) []
       (stretch_in log (entry_in (built_from log rs) (length rs)) (length rs)) 0 (length rs)
-      ≡ answer.Count (fallbacks_among 0 (length rs) rs)
+      ≡ Ok (fallbacks_among 0 (length rs) rs)
   unfolding question_in
   end-answered = rw (stretch-none log (entry_in (built_from log rs) 0)) at (answered log rs t fits 0 (length rs)
       (omega arith) (omega arith))
@@ -80,7 +77,7 @@ module _ (log : List ℕ) (rs : List Entry) (t : Splits log rs) (new : List ℕ)
   length_more = ap length (sym bytes-more) ∙ index-length (rs ++ (r ∷ [])) (length (log ++ new)) ∙ ap index_length (one_more rs r)
 
   put-more : put_index (updated (length log + length new) (length rs + 1) (fallbacks rs + fallback r) (take n buffer)) buffer
-      ≡ updated_over buffer n (update.Numbers (length log + length new) (length rs + 1) (fallbacks rs + fallback r))
+      ≡ updated_over buffer n (Ok (extent (length log + length new) (length rs + 1) (fallbacks rs + fallback r)))
   unfolding put_over
   put-more = rw length_more
 
@@ -130,10 +127,10 @@ module _ (log : List ℕ) (rs : List Entry) (t : Splits log rs) (new : List ℕ)
 -- ---- an index that a build wrote
 
 unless-told : {C : Type 0} (buffer : List ℕ) (f : Fault) (s : Standing IndexWritten) (n : ℕ) (c : List ℕ) →
-    unless_fault (refused_over buffer) f s ≡ standing (index.Length n) c →
-    (f ≡ fine → s ≡ standing (index.Length n) c → C) → C
+    unless_fault (refused_over buffer) f s ≡ standing (Ok n) c →
+    (f ≡ fine → s ≡ standing (Ok n) c → C) → C
 unless-told buffer fine s n c e go = go refl e
-unless-told buffer (fault r) s n c e go = absurd (let t : index.Refused r ≡ index.Length n =
+unless-told buffer (fault r) s n c e go = absurd (let t : ◌≡◌ {A = IndexWritten} (Err r) (Ok n) =
     ap (λ (x : Standing IndexWritten). x.told) e in let z : ◌≡◌ {A = ℕ} 0 1 = cc in omega arith)
 
 -- what a build that was not refused tells: the log's records, that its length fits, and that the index stands at the
@@ -145,12 +142,12 @@ pub record Built (log : List ℕ) (n : ℕ) (buffer : List ℕ) : Type 0 where
   pub there : take n buffer ≡ index_of (length log) replies
   pub room : n ≤ length buffer
 
-put-told : (log bytes buffer : List ℕ) (n : ℕ) (c : List ℕ) → put_index bytes buffer ≡ standing (index.Length n) c →
+put-told : (log bytes buffer : List ℕ) (n : ℕ) (c : List ℕ) → put_index bytes buffer ≡ standing (Ok n) c →
     (take n c ≡ bytes) × (n ≤ length c)
 unfolding put_over laid_over
 put-told log bytes buffer n c e =
     unless-told buffer (must (leb (length bytes) (length buffer)) 10) _ n c e λ f g.
-    let t : index.Length (length bytes) ≡ index.Length n = ap (λ (x : Standing IndexWritten). x.told) g in
+    let t : ◌≡◌ {A = IndexWritten} (Ok (length bytes)) (Ok n) = ap (λ (x : Standing IndexWritten). x.told) g in
     let l : length bytes ≡ n = cc in
     let h : bytes ++ drop (length bytes) buffer ≡ c = ap (λ (x : Standing IndexWritten). x.contents) g in (
       sym (ap (take n) h) ∙ take_at bytes (drop (length bytes) buffer) n l,
@@ -162,8 +159,8 @@ put-told log bytes buffer n c e =
     )
 
 built-by : (log buffer : List ℕ) (n : ℕ) (c : List ℕ) (q : Records) → records_of log ≡ q → built_by greatest log buffer q
-    ≡ standing (index.Length n) c → Built log n c
-built-by log buffer n c (refused_at r place) p e = absurd (let t : index.Refused r ≡ index.Length n =
+    ≡ standing (Ok n) c → Built log n c
+built-by log buffer n c (refused_at r place) p e = absurd (let t : ◌≡◌ {A = IndexWritten} (Err r) (Ok n) =
     ap (λ (x : Standing IndexWritten). x.told) e in let z : ◌≡◌ {A = ℕ} 0 1 = cc in omega arith)
 built-by log buffer n c (whole rs) p e =
     unless-told buffer (must (leb (length log) greatest) 4) _ n c e λ f g.
@@ -176,7 +173,7 @@ built-by log buffer n c (whole rs) p e =
       room = put.1;
     }
 
-pub built : (log buffer : List ℕ) (n : ℕ) (c : List ℕ) → built_over log buffer ≡ standing (index.Length n) c → Built log n c
+pub built : (log buffer : List ℕ) (n : ℕ) (c : List ℕ) → built_over log buffer ≡ standing (Ok n) c → Built log n c
 unfolding built_over built_up_to
 built log buffer n c e = built-by log buffer n c (records_of log) refl e
 
@@ -209,5 +206,5 @@ appended-built log new buffer n b good =
 
 -- a question to the index that a build wrote is answered as the full walk does
 pub build-answers : (log buffer : List ℕ) (n : ℕ) (b : Built log n buffer) (i j : ℕ) → i ≤ j → j ≤ length b.replies →
-    question_in log (take n buffer) i j ≡ answer.Count (fallbacks_among i j b.replies)
+    question_in log (take n buffer) i j ≡ Ok (fallbacks_among i j b.replies)
 build-answers log buffer n b i j ordered h = rw b.there (built-answers log b.replies b.split b.fits i j ordered h)

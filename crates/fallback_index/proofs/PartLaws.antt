@@ -1,19 +1,19 @@
 -- Laws of the cuts: the parts that the code hands over are those of the definitions. Assumes nothing.
-use Prim.Native.Nat.{ℕ, ◌+◌, ◌-◌, ◌*◌, ◌%◌, ◌≤◌}
+use Prim.Native.Nat.{ℕ, ◌+◌, ◌-◌, ◌*◌, ◌%◌, ◌≤◌, min}
 use native.Mathlib.Omega.{arith}
 use native.Mathlib.Decide.{dec_le}
-use native.Mathlib.Nat.{zero-add}
+use native.Mathlib.Nat.{zero-add, min-eq_left, min-eq_right}
 use mathlib.Core.Path.{◌≡◌, sym, ap, ◌∙◌}
 use mathlib.Core.List.{List}
 use lib.Dec.{leb}
 use lib.ListN.{length, take, drop, length-drop, drop_of_length-le}
 use lib.Seq.{take_all}
 use borrow.Author.Tests.{le-leb, lt-leb}
+use Rattle.std.specs.Prelude.{Err}
 use Rattle.arithmetic.specs.Binary32.{when◌then◌else◌}
 use Rattle.words.specs.Words.{word_of}
 use Rattle.admission.specs.Faults.{fine, fault, ◌⊳◌}
-use Rattle.fallback_index.specs.declared.Fallbacks.TheVariants as answer
-use Rattle.log_walks.specs.declared.Met.{Met}
+use Rattle.log_walks.specs.Walks.{Met}
 use Rattle.fallback_index.specs.Questions.{named_log, named_count, head_fault, places_fault, before, between, head_in, entry_in, stretch_in, question_of, question_in}
 use Rattle.fallback_index.specs.Appends.{update_of, update_in}
 use Rattle.index_building.specs.Indexes.{entry_place}
@@ -64,6 +64,24 @@ cut {s} {p} {k} {x} {y} c = go (dec_le p (length s)) (dec_le (x + k) (length s))
 pub cut-head : (s : List ℕ) (k x : ℕ) → x ≡ up_to (length s) k → take (x - 0) (drop 0 s) ≡ take k s
 cut-head s k x e = cut {s = s} {p = 0} {k = k} {x = 0} {y =
     x} (record { starts = up-there (length s) 0 (omega arith); ends = e ∙ ap (up_to (length s)) (sym (zero-add k)) })
+
+-- the smaller of the two
+pub up-min : (all at : ℕ) → min at all ≡ up_to all at
+up-min all at = go (dec_le at all)
+  where
+    go : Dec (at ≤ all) → min at all ≡ up_to all at
+    go (yes h) = min-eq_left h ∙ up-there all at h
+    go (no h) = let past : all ≤ at = omega arith in min-eq_right past ∙ up-past all at (omega arith)
+
+pub up-sum : (all at count : ℕ) → at ≤ all → at + min count (all - at) ≡ up_to all (at + count)
+up-sum all at count h = go (dec_le count (all - at))
+  where
+    go : Dec (count ≤ all - at) → at + min count (all - at) ≡ up_to all (at + count)
+    go (yes k) = ap (λ (n : ℕ). at + n) (min-eq_left k) ∙ up-there all (at + count) (omega arith)
+    go (no k) =
+        let past : all - at ≤ count = omega arith in
+        let whole : at + (all - at) ≡ all = omega arith in
+        ap (λ (n : ℕ). at + n) (min-eq_right past) ∙ whole ∙ up-past all (at + count) (omega arith)
 
 module _ (log index : List ℕ) (head : ℕ) (of-head : head ≡ up_to (length index) 13) where
   head-cut : take (head - 0) (drop 0 index) ≡ head_in index
@@ -118,7 +136,7 @@ module _ (log index : List ℕ) (head : ℕ) (of-head : head ≡ up_to (length i
 module _ (total n : ℕ) (h entry_a entry_b stretch_a stretch_b : List ℕ) (a b x y : ℕ) (of-a : x ≡ word_of entry_a 0) (of-b : y
     ≡ word_of entry_b 0) where
   pub parts-refused : (r : ℕ) → fault r ≡ (head_fault n h ⊳ places_fault total (named_log h) (named_count h) x y a b) →
-      answer.Refused r ≡ question_of total n h entry_a entry_b stretch_a stretch_b a b
+      Err r ≡ question_of total n h entry_a entry_b stretch_a stretch_b a b
   unfolding question_of
   parts-refused r e = rw (← of-a, ← of-b, ← e)
 

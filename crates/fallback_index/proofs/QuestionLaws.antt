@@ -5,11 +5,10 @@ use mathlib.Core.Path.{◌≡◌, refl, sym, ap, ◌∙◌}
 use mathlib.Core.List.{List}
 use lib.ListN.{length, take, drop, length-drop}
 use borrow.Author.Tests.{le-leb, eq-eqb, le-ltb}
+use Rattle.std.specs.Prelude.{Ok}
 use Rattle.arithmetic.specs.Binary32.{when◌then◌else◌}
 use Rattle.admission.specs.Faults.{fine}
 use Rattle.answer_logs.specs.Logs.{Entry, whole}
-use Rattle.fallback_index.specs.declared.Fallbacks.TheVariants as answer
-use Rattle.log_walks.specs.declared.Met.TheVariants as met
 use Rattle.log_walks.specs.Figures.{sizes, fallbacks, fallbacks_among}
 use Rattle.log_walks.specs.Parts.{records_of}
 use Rattle.log_walks.specs.Walks.{more, walked, reach}
@@ -103,7 +102,7 @@ module _ (log : List ℕ) (rs : List Entry) (t : Splits log rs) (fits : length l
 
     -- entry and walk together give the fallbacks before a
     pub found_before : before (a % 64) (entry_in (built_from log rs) a) (stretch_in log (entry_in (built_from log rs) a) a)
-        ≡ met.Count (fallbacks (take a rs))
+        ≡ Ok (fallbacks (take a rs))
     found_before =
         let q = 64 * (a / 64) in
         let n = a % 64 in
@@ -142,7 +141,7 @@ module _ (log : List ℕ) (rs : List Entry) (t : Splits log rs) (fits : length l
     unfolding fallbacks_among
     differ = let e : a + (b - a) ≡ b = omega arith in sym (ap (λ (k : ℕ). fallbacks (take k rs)) e) ∙ fallbacks-on a (b - a) rs
 
-    pub answered : question_in log (built_from log rs) a b ≡ answer.Count (fallbacks_among a b rs)
+    pub answered : question_in log (built_from log rs) a b ≡ Ok (fallbacks_among a b rs)
     unfolding question_in question_of when◌then◌else◌
     answered =
         let x = fallbacks (take a rs) in
@@ -152,7 +151,7 @@ module _ (log : List ℕ) (rs : List Entry) (t : Splits log rs) (fits : length l
 
 -- "With an index built from this log, a question's answer equals the full walk's."
 pub built-answers : (log : List ℕ) (rs : List Entry) → records_of log ≡ whole rs → length log ≤ greatest →
-    (a b : ℕ) → a ≤ b → b ≤ length rs → question_in log (index_of (length log) rs) a b ≡ answer.Count (fallbacks_among a b rs)
+    (a b : ℕ) → a ≤ b → b ≤ length rs → question_in log (index_of (length log) rs) a b ≡ Ok (fallbacks_among a b rs)
 built-answers log rs e fits a b ordered h = answered log rs (splits log rs e) fits a b ordered h
 
 -- "the fewer than 128 records from there to a and to b"

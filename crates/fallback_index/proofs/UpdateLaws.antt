@@ -9,23 +9,22 @@ use lib.Dec.{eqb, leb}
 use lib.ListN.{length, take, drop, get_or, length-drop, length-append, take-append-drop}
 use lib.Seq.{sets, length-take-le, drop-append-le}
 use borrow.Author.Tests.{le-leb, lt-leb, leb-true, eqb-true}
+use Rattle.std.specs.Prelude.{Ok, Err}
 use Rattle.words.specs.Words.{word_of}
 use Rattle.admission.specs.Faults.{Fault, fine, fault, must, ◌⊳◌, unless_fault}
 use Rattle.admission.proofs.FaultLaws.{⊳-fine, must-fine}
 use Rattle.answer_records.specs.Replies as said
-use Rattle.answer_records.specs.Replies.{Said, answer_in}
-use Rattle.answer_logs.specs.Logs.{outcome, refusal}
-use Rattle.fallback_index.specs.declared.Fallbacks.{Fallbacks}
-use Rattle.fallback_index.specs.declared.Fallbacks.TheVariants as answer
-use Rattle.log_walks.specs.declared.Met.{Met}
-use Rattle.log_walks.specs.declared.Met.TheVariants as met
-use Rattle.fallback_index.specs.declared.Update.TheVariants as update
-use Rattle.index_building.specs.declared.IndexWritten.{IndexWritten}
-use Rattle.index_building.specs.declared.IndexWritten.TheVariants as index
+use Rattle.answer_records.specs.declared.Reply.{Reply}
+use Rattle.answer_records.specs.declared.Reply.TheVariants as reply
+use Rattle.answer_records.specs.Replies.{Said, said_of, answer_in}
+use Rattle.answer_logs.specs.Logs.{outcome, refusal, entry_of}
 use Rattle.log_walks.specs.Figures.{fallback}
-use Rattle.index_building.specs.Indexes.{greatest, index_length, entry_place, new_entry, head, laid_over, Standing, standing}
+use Rattle.index_building.specs.Indexes.{greatest, index_length, entry_place, new_entry, head, laid_over, IndexWritten, Standing, standing}
+use Rattle.log_walks.specs.Walks.{Met}
+use Rattle.index_building.specs.declared.Extent.{Extent}
+use Rattle.index_building.specs.Builds.{extent}
 use Rattle.index_building.specs.Stores.{store_fault, stored_over}
-use Rattle.fallback_index.specs.Questions.{named_log, named_count, head_fault, places_fault, before, head_in, entry_in, stretch_in, question_of}
+use Rattle.fallback_index.specs.Questions.{Fallbacks, named_log, named_count, head_fault, places_fault, before, head_in, entry_in, stretch_in, question_of}
 use Rattle.fallback_index.specs.Appends.{grown_fault, grown, grown_by, asked, unless_bad, update_of, update_in, updated, updated_over, appended_up_to, appended_over}
 use Rattle.index_building.proofs.LengthLaws.{head-length}
 use Rattle.index_building.proofs.LaidLaws.{laid-sets, nothing-laid}
@@ -33,7 +32,7 @@ use Rattle.index_building.proofs.StoredLaws.{new-length}
 
 -- ---- what a question that was answered says of the head
 
-unless-counted : {C : Type 0} (f : Fault) (q : Fallbacks) (m : ℕ) → answer.Count m ≡ unless_fault answer.Refused f q →
+unless-counted : {C : Type 0} (f : Fault) (q : Fallbacks) (m : ℕ) → Ok m ≡ unless_fault Err f q →
     (f ≡ fine → C) → C
 unless-counted fine q m e go = go refl
 unless-counted (fault r) q m e go = absurd (let z : ◌≡◌ {A = ℕ} 0 1 = cc in omega arith)
@@ -53,7 +52,7 @@ unfolding places_fault
 named-log total named count x y a b e =
     eqb-true total named (must-fine (eqb total named) 12 (⊳-fine (must (eqb total named) 12) e).0)
 
-pub answered-head : (total n : ℕ) (h x y s t : List ℕ) (a b m : ℕ) → answer.Count m ≡ question_of total n h x y s t a b →
+pub answered-head : (total n : ℕ) (h x y s t : List ℕ) (a b m : ℕ) → Ok m ≡ question_of total n h x y s t a b →
     (n ≡ index_length (named_count h)) × (total ≡ named_log h)
 unfolding question_of
 answered-head total n h x y s t a b m e =
@@ -64,18 +63,18 @@ answered-head total n h x y s t a b m e =
 -- ---- an append's numbers
 
 module _ (most total n : ℕ) (h first last stretch new : List ℕ) (count : ℕ) (named : count ≡ named_count h) where
-  pub update-refused : (r : ℕ) → answer.Refused r ≡ question_of total n h first last [] stretch 0 count →
-      update.Refused r ≡ update_of most total n h first last stretch new
+  pub update-refused : (r : ℕ) → Err r ≡ question_of total n h first last [] stretch 0 count →
+      Err r ≡ update_of most total n h first last stretch new
   unfolding update_of
   update-refused r e = rw (← rw named at e)
 
-  module _ (m : ℕ) (e : answer.Count m ≡ question_of total n h first last [] stretch 0 count) where
-    pub update-bad : (r : ℕ) → met.Fault r ≡ before (count % 64) last stretch →
-        update.Refused r ≡ update_of most total n h first last stretch new
+  module _ (m : ℕ) (e : Ok m ≡ question_of total n h first last [] stretch 0 count) where
+    pub update-bad : (r : ℕ) → Err r ≡ before (count % 64) last stretch →
+        Err r ≡ update_of most total n h first last stretch new
     unfolding update_of
     update-bad r f = rw (← rw named at e, ← rw named at f)
 
-    pub update-grown : (log k : ℕ) → log ≡ named_log h → met.Count k ≡ before (count % 64) last stretch →
+    pub update-grown : (log k : ℕ) → log ≡ named_log h → Ok k ≡ before (count % 64) last stretch →
         grown_by most (log + length new) count k (answer_in new) ≡ update_of most total n h first last stretch new
     unfolding update_of
     update-grown log k p f = rw (
@@ -87,56 +86,62 @@ module _ (most total n : ℕ) (h first last stretch new : List ℕ) (count : ℕ
       ← rw named at f,
     )
 
+-- the numbers with a record that was read
+pub grown-said : (most total count fell : ℕ) (r : Reply) → grown_by most total count fell (said_of (Ok r))
+    ≡ grown most total (count + 1) (fell + fallback (entry_of r))
+grown-said most total count fell (reply.Outcome a) = refl
+grown-said most total count fell (reply.Refusal r) = refl
+
 -- what numbers that are told say: they fit, and the index was one of a record less
 pub record Fits (n total count fell : ℕ) : Type 0 where
   pub log : total ≤ greatest
   pub records : count ≤ greatest
   pub old : n ≡ entry_place (count + 63)
 
-grown-fits : (n c total count fell t k f : ℕ) → n ≡ index_length c → count ≡ c + 1 → update.Numbers t k f
+grown-fits : (n c total count fell t k f : ℕ) → n ≡ index_length c → count ≡ c + 1 → Ok (extent t k f)
     ≡ grown greatest total count fell → Fits n t k f
 unfolding grown grown_fault
 grown-fits n c total count fell t k f old one e = go (grown_fault greatest total count fell) refl e
   where
-    go : (g : Fault) → grown_fault greatest total count fell ≡ g → update.Numbers t k f
-        ≡ unless_fault update.Refused g (update.Numbers total count fell) → Fits n t k f
+    go : (g : Fault) → grown_fault greatest total count fell ≡ g → Ok (extent t k f)
+        ≡ unless_fault Err g (Ok (extent total count fell)) → Fits n t k f
     go (fault r) p e = absurd (let z : ◌≡◌ {A = ℕ} 0 1 = cc in omega arith)
     go fine p e =
-        let a : t ≡ total = cc in
-        let b : k ≡ count = cc in
-        let d : f ≡ fell = cc in
+        let same : extent t k f ≡ extent total count fell = cc in
+        let a : t ≡ total = ap (λ (x : Extent). x.bytes) same in
+        let b : k ≡ count = ap (λ (x : Extent). x.records) same in
         let g = ⊳-fine (must (leb total greatest) 4) p in
         let i = ⊳-fine (must (leb count greatest) 4) g.1 in
-        rw (a, b, d) (record {
+        rw (a, b) (record {
           log = leb-true total greatest (must-fine (leb total greatest) 4 g.0);
           records = leb-true count greatest (must-fine (leb count greatest) 4 i.0);
           old = omega arith;
         })
 
-by-reply : (n c total m t k f : ℕ) (q : Said) → n ≡ index_length c → update.Numbers t k f ≡ grown_by greatest total c m q
+by-reply : (n c total m t k f : ℕ) (q : Said) → n ≡ index_length c → Ok (extent t k f) ≡ grown_by greatest total c m q
     → Fits n t k f
 by-reply n c total m t k f (said.outcome a) old e = grown-fits n c total (c + 1) (m + fallback (outcome a)) t k f old refl e
 by-reply n c total m t k f (said.refusal r) old e = grown-fits n c total (c + 1) (m + fallback (refusal r)) t k f old refl e
 by-reply n c total m t k f (said.unreadable r) old e = absurd (let z : ◌≡◌ {A = ℕ} 0 1 = cc in omega arith)
 
 module _ (total n : ℕ) (h first last stretch new : List ℕ) (t k f : ℕ) where
-  by_before : (m : Met) → n ≡ index_length (named_count h) → update.Numbers t k f
+  by_before : (m : Met) → n ≡ index_length (named_count h) → Ok (extent t k f)
       ≡ unless_bad (λ x. grown_by greatest (total + length new) (named_count h) x (answer_in new)) m → Fits n t k f
-  by_before (met.Fault r) old e = absurd (let z : ◌≡◌ {A = ℕ} 0 1 = cc in omega arith)
-  by_before (met.Count m) old e = by-reply n (named_count h) (total + length new) m t k f (answer_in new) old e
+  by_before (Err r) old e = absurd (let z : ◌≡◌ {A = ℕ} 0 1 = cc in omega arith)
+  by_before (Ok m) old e = by-reply n (named_count h) (total + length new) m t k f (answer_in new) old e
 
   by-question : (q : Fallbacks) → q ≡ question_of total n h first last [] stretch 0 (named_count h) →
-      update.Numbers t k f ≡ unless_bad (λ x. grown_by greatest (total + length new) (named_count h) x (answer_in new))
+      Ok (extent t k f) ≡ unless_bad (λ x. grown_by greatest (total + length new) (named_count h) x (answer_in new))
       (asked q (before (named_count h % 64) last stretch)) → Fits n t k f
-  by-question (answer.Refused r) p e = absurd (let z : ◌≡◌ {A = ℕ} 0 1 = cc in omega arith)
-  by-question (answer.Count m) p e = by_before (before (named_count h % 64) last stretch)
+  by-question (Err r) p e = absurd (let z : ◌≡◌ {A = ℕ} 0 1 = cc in omega arith)
+  by-question (Ok m) p e = by_before (before (named_count h % 64) last stretch)
       (answered-head total n h first last [] stretch 0 (named_count h) m p).0 e
 
-  pub update-fits : update.Numbers t k f ≡ update_of greatest total n h first last stretch new → Fits n t k f
+  pub update-fits : Ok (extent t k f) ≡ update_of greatest total n h first last stretch new → Fits n t k f
   unfolding update_of
   update-fits e = by-question (question_of total n h first last [] stretch 0 (named_count h)) refl e
 
-pub numbers_fit : (log old new : List ℕ) (t k f : ℕ) → update.Numbers t k f ≡ update_in greatest log old new →
+pub numbers_fit : (log old new : List ℕ) (t k f : ℕ) → Ok (extent t k f) ≡ update_in greatest log old new →
     Fits (length old) t k f
 unfolding update_in
 numbers_fit log old new t k f e = update-fits (length log) (length old) (head_in old) (entry_in old 0)
@@ -178,11 +183,11 @@ module _ (l : List ℕ) (n total count fell : ℕ) (room : n ≤ length l) (old 
       ∙ ap (λ (x : List ℕ). laid_over x l) (append_assoc (head total count) (drop 13 (take n l)) (new_entry count total fell)))
 
 pub append-stored : (l : List ℕ) (n total count fell : ℕ) → n ≤ length l → Fits n total count fell →
-    stored_over l total count fell ≡ updated_over l n (update.Numbers total count fell)
+    stored_over l total count fell ≡ updated_over l n (Ok (extent total count fell))
 unfolding stored_over store_fault
 append-stored l n total count fell room f = go (dec_le (index_length count) (length l))
   where
-    go : Dec (index_length count ≤ length l) → stored_over l total count fell ≡ updated_over l n (update.Numbers total count fell)
+    go : Dec (index_length count ≤ length l) → stored_over l total count fell ≡ updated_over l n (Ok (extent total count fell))
     go (yes p) =
         rw (
           le-leb total greatest f.log,
@@ -199,17 +204,17 @@ append-stored l n total count fell room f = go (dec_le (index_length count) (len
 -- ---- an append's answers
 
 module _ (log l new : List ℕ) (n : ℕ) where
-  pub append-long : length l < n → standing (index.Refused 2) l ≡ appended_over log l n new
+  pub append-long : length l < n → standing (Err 2) l ≡ appended_over log l n new
   unfolding appended_over appended_up_to
   append-long h = rw (lt-leb n (length l) h)
 
   module _ (room : n ≤ length l) where
-    pub append-refused : (r : ℕ) → update.Refused r ≡ update_in greatest log (take (n - 0) (drop 0 l)) new →
-        standing (index.Refused r) l ≡ appended_over log l n new
+    pub append-refused : (r : ℕ) → Err r ≡ update_in greatest log (take (n - 0) (drop 0 l)) new →
+        standing (Err r) l ≡ appended_over log l n new
     unfolding appended_over appended_up_to
     append-refused r e = rw (le-leb n (length l) room, ← rw sub-zero at e)
 
-    module _ (t k f : ℕ) (e : update.Numbers t k f ≡ update_in greatest log (take (n - 0) (drop 0 l)) new) where
+    module _ (t k f : ℕ) (e : Ok (extent t k f) ≡ update_in greatest log (take (n - 0) (drop 0 l)) new) where
       append-fits : Fits n t k f
       append-fits = rw (length-take-le n l room) at (numbers_fit log (take n l) new t k f (rw sub-zero at e))
 

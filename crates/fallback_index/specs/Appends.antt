@@ -1,22 +1,17 @@
 -- An append: the index of a log, brought up to date for one record more, as a function of just the parts that it rests on and
 -- of a whole log and index (02, T-10). Definitions only. Assumes nothing.
-use Rattle.std.specs.Prelude.{ℕ, ◌+◌, ◌%◌, Bool, true, List, [], ◌++◌, eqb, leb, length, take, drop}
+use Rattle.std.specs.Prelude.{ℕ, ◌+◌, ◌%◌, Bool, true, List, [], ◌++◌, eqb, leb, length, take, drop, Result, Ok, Err}
 use Rattle.arithmetic.specs.Binary32.{when◌then◌else◌}
 use Rattle.admission.specs.Faults.{Fault, must, ◌⊳◌, unless_fault}
 use Rattle.answer_records.specs.Replies as said
 use Rattle.answer_records.specs.Replies.{Said, answer_in}
 use Rattle.answer_logs.specs.Logs.{outcome, refusal}
-use Rattle.fallback_index.specs.declared.Fallbacks.{Fallbacks}
-use Rattle.fallback_index.specs.declared.Fallbacks.TheVariants as answer
-use Rattle.log_walks.specs.declared.Met.{Met}
-use Rattle.log_walks.specs.declared.Met.TheVariants as met
-use Rattle.fallback_index.specs.declared.Update.{Update}
-use Rattle.fallback_index.specs.declared.Update.TheVariants as update
-use Rattle.index_building.specs.declared.IndexWritten.{IndexWritten}
-use Rattle.index_building.specs.declared.IndexWritten.TheVariants as index
 use Rattle.log_walks.specs.Figures.{fallback}
-use Rattle.index_building.specs.Indexes.{apart, head_bytes, greatest, index_length, new_entry, head, Standing, standing, refused_over, laid_over}
-use Rattle.fallback_index.specs.Questions.{named_count, before, question_of, head_in, entry_in, stretch_in}
+use Rattle.log_walks.specs.Walks.{Met}
+use Rattle.index_building.specs.declared.Extent.{Extent}
+use Rattle.index_building.specs.Indexes.{apart, head_bytes, greatest, index_length, new_entry, head, IndexWritten, Standing, standing, refused_over, laid_over}
+use Rattle.index_building.specs.Builds.{extent}
+use Rattle.fallback_index.specs.Questions.{Fallbacks, named_count, before, question_of, head_in, entry_in, stretch_in}
 
 -- ---- an append's numbers by its parts
 
@@ -29,9 +24,13 @@ unfoldable pub grown_fault : ℕ → ℕ → ℕ → ℕ → Fault
 grown_fault most log_length count fallbacks_before =
     must (leb log_length most) 4 ⊳ must (leb count most) 4 ⊳ must (new_entry_fits most count fallbacks_before) 4
 
+-- the log's length, the count and the fallbacks, all with the new record, or the number of a refusal
+abbrev pub Update : Type 0
+Update = Result Extent ℕ
+
 unfoldable pub grown : ℕ → ℕ → ℕ → ℕ → Update
 grown most log_length count fallbacks_before =
-    unless_fault update.Refused (grown_fault most log_length count fallbacks_before) (update.Numbers log_length count fallbacks_before)
+    unless_fault Err (grown_fault most log_length count fallbacks_before) (Ok (extent log_length count fallbacks_before))
 
 -- the record "as 01's answer reader reads one", behind `count` records with so many fallbacks
 abbrev pub grown_by : ℕ → ℕ → ℕ → ℕ → Said → Update
@@ -39,16 +38,16 @@ grown_by most log_length count fallbacks_before (said.outcome a) =
     grown most log_length (count + 1) (fallbacks_before + fallback (outcome a))
 grown_by most log_length count fallbacks_before (said.refusal n) =
     grown most log_length (count + 1) (fallbacks_before + fallback (refusal n))
-grown_by most log_length count fallbacks_before (said.unreadable r) = update.Refused r
+grown_by most log_length count fallbacks_before (said.unreadable r) = Err r
 
 -- what the question refuses; else the fallbacks found before the log's end
 abbrev pub asked : Fallbacks → Met → Met
-asked (answer.Refused r) m = met.Fault r
-asked (answer.Count n) m = m
+asked (Err r) m = Err r
+asked (Ok n) m = m
 
 abbrev pub unless_bad : (ℕ → Update) → Met → Update
-unless_bad go (met.Fault r) = update.Refused r
-unless_bad go (met.Count n) = go n
+unless_bad go (Err r) = Err r
+unless_bad go (Ok n) = go n
 
 -- "a question's for 0 and the record count, then a build's for the new record": the entries for 0 and at or before the log's end,
 -- and the log from where that one points
@@ -74,10 +73,10 @@ updated log_length count fallbacks_before old =
     head log_length count ++ (drop head_bytes old ++ new_entry count log_length fallbacks_before)
 
 abbrev pub updated_over : List ℕ → ℕ → Update → Standing IndexWritten
-updated_over buffer n (update.Refused r) = refused_over buffer r
-updated_over buffer n (update.Numbers log_length count fallbacks_before) =
-    unless_fault (refused_over buffer) (must (leb (index_length count) (length buffer)) 10)
-    (standing (index.Length (index_length count)) (laid_over (updated log_length count fallbacks_before (take n buffer)) buffer))
+updated_over buffer n (Err r) = refused_over buffer r
+updated_over buffer n (Ok x) =
+    unless_fault (refused_over buffer) (must (leb (index_length x.records) (length buffer)) 10)
+    (standing (Ok (index_length x.records)) (laid_over (updated x.bytes x.records x.fallbacks (take n buffer)) buffer))
 
 -- the greatest number that an index may hold is an argument
 unfoldable pub appended_up_to : ℕ → List ℕ → List ℕ → ℕ → List ℕ → Standing IndexWritten

@@ -1,15 +1,11 @@
 -- The question as a function of just the parts that it rests on, and of a whole log and index, which hand those parts over
 -- (02, T-10). Definitions only. Assumes nothing.
-use Rattle.std.specs.Prelude.{ℕ, ◌+◌, ◌-◌, ◌*◌, ◌%◌, List, eqb, leb, ltb, length, take, drop, get_or}
+use Rattle.std.specs.Prelude.{ℕ, ◌+◌, ◌-◌, ◌*◌, ◌%◌, List, eqb, leb, ltb, length, take, drop, get_or, Result, Ok, Err}
 use Rattle.arithmetic.specs.Binary32.{when◌then◌else◌}
 use Rattle.words.specs.Words.{word_of}
 use Rattle.admission.specs.Faults.{Fault, must, ◌⊳◌, unless_fault}
 use Rattle.answer_records.specs.Answers.{longest_answer}
-use Rattle.fallback_index.specs.declared.Fallbacks.{Fallbacks}
-use Rattle.fallback_index.specs.declared.Fallbacks.TheVariants as answer
-use Rattle.log_walks.specs.declared.Met.{Met}
-use Rattle.log_walks.specs.declared.Met.TheVariants as met
-use Rattle.log_walks.specs.Walks.{more, walked}
+use Rattle.log_walks.specs.Walks.{Met, more, walked}
 use Rattle.index_building.specs.Indexes.{apart, index_version, head_bytes, entry_bytes, index_length, entry_place}
 
 -- ---- the parts' numbers
@@ -56,16 +52,20 @@ places_fault log_length named count offset_a offset_b a b =
 unfoldable pub before : ℕ → List ℕ → List ℕ → Met
 before n entry stretch = more (before_in entry) (walked n stretch)
 
+-- how many fallbacks lie between two records, or the number of a refusal
+abbrev pub Fallbacks : Type 0
+Fallbacks = Result ℕ ℕ
+
 -- "1 or 2 at a bad record on the walk to a, then on that to b; 2 if fewer fallbacks are found before b than before a"
 abbrev pub between : Met → Met → Fallbacks
-between (met.Fault r) y = answer.Refused r
-between (met.Count m) (met.Fault r) = answer.Refused r
-between (met.Count m) (met.Count n) = when ltb n m then answer.Refused 2 else answer.Count (n - m)
+between (Err r) y = Err r
+between (Ok m) (Err r) = Err r
+between (Ok m) (Ok n) = when ltb n m then Err 2 else Ok (n - m)
 
 -- the two lengths, the index's first bytes, two entries, and the log from where each of them points
 unfoldable pub question_of : ℕ → ℕ → List ℕ → List ℕ → List ℕ → List ℕ → List ℕ → ℕ → ℕ → Fallbacks
 question_of log_length length head entry_a entry_b stretch_a stretch_b a b =
-    unless_fault answer.Refused
+    unless_fault Err
     (head_fault length head ⊳ places_fault log_length (named_log head) (named_count head) (offset_in entry_a) (offset_in entry_b) a b)
     (between (before (a % apart) entry_a stretch_a) (before (b % apart) entry_b stretch_b))
 

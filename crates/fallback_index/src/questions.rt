@@ -1,23 +1,20 @@
 // The steps of a question: where the parts of a log and an index lie, their faults, and the fallbacks before a record.
-ghost use Rattle.std.specs.Prelude.{◌≡◌, ◌+◌, ◌*◌, ◌%◌, ◌≤◌, ◌<◌, get_or};
+ghost use Rattle.std.specs.Prelude.{◌≡◌, ◌+◌, ◌*◌, ◌%◌, ◌≤◌, ◌<◌, get_or, Ok};
 ghost use Rattle.admission.specs.Faults.{◌⊳◌, fault_of};
+ghost use Rattle.answer_records.specs.Numbers.{numbered};
 ghost use Rattle.fallback_index.specs.Questions.{named_log, named_count, head_fault, range_fault, places_fault, before, between};
 ghost use Rattle.fallback_index.specs.Parts.{up_to, count_in};
 ghost use Rattle.index_building.specs.Indexes.{greatest};
 
-use crate::Fallbacks;
-use admission::Judged;
-use index_building::IndexWritten;
-use log_walks::Met;
+use crate::{Head, Side};
+use admission::{Judged, Refusal};
+use index_building::{APART, ENTRY_BYTES, HEAD_BYTES, VERSION};
 
 // A place, or the end of all bytes where it lies past that.
 pub(crate) fn start_within(all: usize, at: usize) -> usize
     ensures { (result ≡ up_to all at) × (result ≤ all) }
 {
-    if at <= all {
-        return at;
-    }
-    all
+    at.min(all)
 }
 
 // The end of so many bytes from a place on, or that of all bytes.
@@ -25,68 +22,38 @@ pub(crate) fn end_within(all: usize, at: usize, count: usize) -> usize
     requires { at ≤ all }
     ensures { (result ≡ up_to all (at + count)) × (at ≤ result) × (result ≤ all) }
 {
-    if count <= all - at {
-        return at + count;
-    }
-    all
+    at + count.min(all - at)
 }
 
 // The first fault of the parts but for the walks.
-pub(crate) fn judge(
-    log_length: usize,
-    index_length: usize,
-    head: &[u8],
-    first: usize,
-    second: usize,
-    a: usize,
-    b: usize,
-) -> Judged
-    ensures { fault_of result ≡ (head_fault index_length head.now ⊳ places_fault log_length
-        (named_log head.now) (named_count head.now) first second a b) }
+pub(crate) fn judge(head: Head, first: usize, second: usize, a: usize, b: usize) -> Judged
+    ensures { fault_of result ≡ (head_fault head.entry.index_length head.entry.bytes.now ⊳ places_fault head.entry.log_length
+        (named_log head.entry.bytes.now) (named_count head.entry.bytes.now) first second a b) }
 {
-    let named = words::word_at(head, 5) as usize;
-    let count = words::word_at(head, 9) as usize;
-    admission::first_of(
-        judge_head(index_length, head),
-        judge_places(log_length, named, count, first, second, a, b),
-    )
+    let named = words::word_at(head.bytes, 5) as usize;
+    let count = words::word_at(head.bytes, 9) as usize;
+    judge_head(head.index_length, head.bytes)?;
+    judge_places(head.log_length, named, count, first, second, a, b)
 }
 
 // The first fault of the fields before the entries, and of the index's length.
 fn judge_head(n: usize, head: &[u8]) -> Judged
     ensures { fault_of result ≡ head_fault n head.now }
 {
-    if n < 4 {
-        return Judged::Fault(2);
-    }
-    if n != 4 + words::word_at(head, 0) as usize {
-        return Judged::Fault(2);
-    }
-    if n < 5 {
-        return Judged::Fault(2);
-    }
-    if version_of(head) != IndexWritten::VERSION {
-        return Judged::Fault(1);
-    }
-    if n < IndexWritten::HEAD_BYTES {
-        return Judged::Fault(2);
-    }
+    Refusal::MissingOrLeftOver.unless(n >= 4)?;
+    Refusal::MissingOrLeftOver.unless(n == 4 + words::word_at(head, 0) as usize)?;
+    Refusal::MissingOrLeftOver.unless(n >= 5)?;
+    Refusal::OtherVersion.unless(version_of(head) == VERSION)?;
+    Refusal::MissingOrLeftOver.unless(n >= HEAD_BYTES)?;
     let count = words::word_at(head, 9) as usize;
-    admission::fault_unless(
-        n == IndexWritten::HEAD_BYTES
-            + IndexWritten::ENTRY_BYTES * (count / IndexWritten::APART + 1),
-        2,
-    )
+    Refusal::MissingOrLeftOver.unless(n == HEAD_BYTES + ENTRY_BYTES * (count / APART + 1))
 }
 
 // The version byte; 0 where it is missing.
 fn version_of(head: &[u8]) -> u8
     ensures { result ≡ get_or head.now 4 0 }
 {
-    if head.len() < 5 {
-        return 0;
-    }
-    head[4]
+    head.get(4).copied().unwrap_or(0)
 }
 
 // The first fault of the question: the log's length against the one named, then its records and entries.
@@ -101,9 +68,9 @@ fn judge_places(
 ) -> Judged
     ensures { fault_of result ≡ places_fault total named count first second a b }
 {
-    let log = admission::fault_unless(total == named, 12);
+    let log = Refusal::AnotherLog.unless(total == named);
     let range = judge_range(total, count, first, second, a, b);
-    admission::first_of(log, range)
+    log.and(range)
 }
 
 // The records against their count, and the two entries' offsets against the log's length.
@@ -117,44 +84,28 @@ fn judge_range(
 ) -> Judged
     ensures { fault_of result ≡ range_fault total count first second a b }
 {
-    if a > b {
-        return Judged::Fault(13);
-    }
-    if b > count {
-        return Judged::Fault(13);
-    }
-    if first > total {
-        return Judged::Fault(2);
-    }
-    admission::fault_unless(second <= total, 2)
+    Refusal::NoSuchRecords.unless(a <= b)?;
+    Refusal::NoSuchRecords.unless(b <= count)?;
+    Refusal::MissingOrLeftOver.unless(first <= total)?;
+    Refusal::MissingOrLeftOver.unless(second <= total)
 }
 
 // The fallbacks before a record: those before its entry's record, and those met on the walk of `count` records from there.
-pub(crate) fn count_before(entry: &[u8], stretch: &[u8], count: usize) -> Met
+pub(crate) fn count_before(side: Side, count: usize) -> Result<u64, Refusal>
     requires { count < 64 }
-    ensures { (result ≡ before count entry.now stretch.now) × (count_in result ≤ greatest + 63) }
+    ensures { (numbered result ≡ before count side.entry.entry.now side.entry.stretch.now)
+        × (count_in (numbered result) ≤ greatest + 63) }
 {
-    let met = log_walks::walk(stretch, count);
-    match met {
-        Met::Count(found) => Met::Count(words::word_at(entry, 4) as u64 + found),
-        Met::Fault(number) => Met::Fault(number),
-    }
+    let found = log_walks::walk(side.stretch, count)?;
+    Ok(words::word_at(side.entry, 4) as u64 + found)
 }
 
 // The fallbacks between two records, from those before each.
-pub(crate) fn count_between(first: Met, second: Met) -> Fallbacks
-    ensures { result ≡ between first second }
+pub(crate) fn count_between(before_a: u64, before_b: u64) -> Result<u64, Refusal>
+    ensures { numbered result ≡ between (Ok before_a) (Ok before_b) }
 {
-    match first {
-        Met::Fault(number) => Fallbacks::Refused(number),
-        Met::Count(before_a) => match second {
-            Met::Fault(number) => Fallbacks::Refused(number),
-            Met::Count(before_b) => {
-                if before_b < before_a {
-                    return Fallbacks::Refused(2);
-                }
-                Fallbacks::Count(before_b - before_a)
-            }
-        },
+    if before_b < before_a {
+        return Err(Refusal::MissingOrLeftOver);
     }
+    Ok(before_b - before_a)
 }

@@ -8,11 +8,13 @@ use mathlib.Core.List.{List}
 use lib.ListN.{length, take}
 use lib.Seq.{length-take-le}
 use borrow.Rule.Slice.PartMut.{put_mid}
+use Rattle.std.specs.Prelude.{Result, Ok, Err}
+use Rattle.admission.specs.declared.refusal.Refusal.{Refusal}
+use Rattle.admission.specs.Refusals.{number_of}
+use Rattle.admission.proofs.FaultLaws.{refusal-back}
 use Rattle.kept.specs.Kept.{Kept, kept, shifted, kept_over}
 use Rattle.kept.proofs.KeptLaws.{kept_there, kept-stays}
-use Rattle.index_building.specs.declared.Extent.{Extent}
 use Rattle.index_building.specs.declared.PartBuilt.{PartBuilt}
-use Rattle.index_building.specs.declared.PartBuilt.TheVariants as built
 use Rattle.index_building.specs.Indexes.{standing}
 use Rattle.index_building.specs.Builds.{part_over}
 use Rattle.index_building.proofs.BuildLaws.{Within, part-within}
@@ -22,36 +24,38 @@ use Rattle.fallbacks.specs.Turns.{held, staged, went_on, read_as, read_over, Ste
 
 module _ (input : List ℕ) (there : ℕ) (entries : List ℕ) (before : Reading) (fits : there ≤ length input) where
   -- what the step over the bytes that are there tells, and what it leaves in the entries' buffer
-  module _ (told : PartBuilt) (out : List ℕ) (e : standing told out
+  module _ (told : Result PartBuilt ℕ) (out : List ℕ) (e : standing told out
       ≡ part_over (take (there - 0) input) before.extent entries) where
     read_as_lem : read_over input there entries before ≡ went_on input there before out told
     unfolding read_over
     read_as_lem = ap (read_as input there before) (sym (rw sub-zero at e))
 
-  pub refused-step : (r : ℕ) (out : List ℕ) → standing (built.Refused r) out
+  pub refused-step : (r : Refusal) (out : List ℕ) → standing (Err (number_of r)) out
       ≡ part_over (take (there - 0) input) before.extent entries →
       held (staged (stage.Refused r) before) input out ≡ read_over input there entries before
-  refused-step r out e = sym (read_as_lem (built.Refused r) out e)
+  refused-step r out e =
+      ap (λ (x : Refusal). held (staged (stage.Refused x) before) input out) (sym (refusal-back r))
+      ∙ sym (read_as_lem (Err (number_of r)) out e)
 
-  module _ (used n : ℕ) (after : Extent) (out : List ℕ)
-      (e : standing (built.Whole used n after) out ≡ part_over (take (there - 0) input) before.extent entries) where
-    within : Within (take there input) out used n
-    within = part-within (take there input) before.extent entries used n after out (rw sub-zero at e)
+  module _ (p : PartBuilt) (out : List ℕ)
+      (e : standing (Ok p) out ≡ part_over (take (there - 0) input) before.extent entries) where
+    within : Within (take there input) out p.used p.written
+    within = part-within (take there input) before.extent entries p.used p.written p.extent out (rw sub-zero at e)
 
     size : length (take there input) ≡ there
     size = length-take-le there input fits
 
-    pub entries-there : n ≤ length out
+    pub entries-there : p.written ≤ length out
     entries-there = within.within-buffer
 
-    module _ (k : ℕ) (rest : List ℕ) (moved : kept k rest ≡ kept_over used there input) where
-      here : kept k rest ≡ kept (there - used) (shifted used (there - used) input)
-      here = moved ∙ kept_there used there input (omega (arith, within.within-part, size)) fits
+    module _ (k : ℕ) (rest : List ℕ) (moved : kept k rest ≡ kept_over p.used there input) where
+      here : kept k rest ≡ kept (there - p.used) (shifted p.used (there - p.used) input)
+      here = moved ∙ kept_there p.used there input (omega (arith, within.within-part, size)) fits
 
-      pub whole-step : held (record { stage = stage.Open; kept = k; extent = after }) rest out
+      pub whole-step : held (record { stage = stage.Open; kept = k; extent = p.extent }) rest out
           ≡ read_over input there entries before
       whole-step = rw (ap (λ (x : Kept). x.count) here, ap (λ (x : Kept). x.contents) here)
-          (sym (read_as_lem (built.Whole used n after) out e))
+          (sym (read_as_lem (Ok p) out e))
 
       -- a record cut short at most
       pub few-wait : k < 18

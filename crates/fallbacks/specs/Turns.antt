@@ -1,9 +1,9 @@
 -- What a turn of a build does with what was read: the library's step over a part of the log (02, T-10). Definitions
 -- only. Assumes nothing.
-use Rattle.std.specs.Prelude.{ℕ, ◌-◌, ◌≤◌, ◌≡◌, List, length, take}
+use Rattle.std.specs.Prelude.{ℕ, ◌-◌, ◌≤◌, ◌≡◌, List, length, take, Result, Ok, Err}
 use Rattle.kept.specs.Kept.{shifted}
+use Rattle.admission.specs.Refusals.{refusal_of}
 use Rattle.index_building.specs.declared.PartBuilt.{PartBuilt}
-use Rattle.index_building.specs.declared.PartBuilt.TheVariants as built
 use Rattle.index_building.specs.Indexes.{Standing}
 use Rattle.index_building.specs.Builds.{part_over}
 use Rattle.fallbacks.specs.declared.Stage.{Stage}
@@ -24,12 +24,12 @@ abbrev pub staged : Stage → Reading → Reading
 staged s before = record { stage = s; kept = before.kept; extent = before.extent }
 
 -- behind whole records it goes on, and what is left of the bytes waits at the input's start; a refusal ends it
-abbrev pub went_on : List ℕ → ℕ → Reading → List ℕ → PartBuilt → Held
-went_on input there before entries (built.Refused r) = held (staged (stage.Refused r) before) input entries
-went_on input there before entries (built.Whole used n after) =
-    held (record { stage = stage.Open; kept = there - used; extent = after }) (shifted used (there - used) input) entries
+abbrev pub went_on : List ℕ → ℕ → Reading → List ℕ → Result PartBuilt ℕ → Held
+went_on input there before entries (Err r) = held (staged (stage.Refused (refusal_of r)) before) input entries
+went_on input there before entries (Ok p) =
+    held (record { stage = stage.Open; kept = there - p.used; extent = p.extent }) (shifted p.used (there - p.used) input) entries
 
-abbrev pub read_as : List ℕ → ℕ → Reading → Standing PartBuilt → Held
+abbrev pub read_as : List ℕ → ℕ → Reading → Standing (Result PartBuilt ℕ) → Held
 read_as input there before s = went_on input there before s.contents s.told
 
 -- the step over the input's first bytes, behind how far the log was read

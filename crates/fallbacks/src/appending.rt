@@ -1,11 +1,11 @@
 // An append to log and index on disk: what it rests on is read and judged; a new index is made beside the old one;
 // the record goes to the log; then the new index takes the old one's place. Between these two a question is refused
 // with 12.
-ghost use Rattle.std.specs.Prelude.{◌≤◌, length};
+ghost use Rattle.std.specs.Prelude.{◌≤◌, length, IfSome};
 
-use crate::{Brought, Pair, files, questions};
-use fallback_index::Update;
-use index_building::IndexWritten;
+use crate::{Pair, files, questions};
+use fallback_index::Side;
+use index_building::{ENTRY_BYTES, Extent, HEAD_BYTES};
 use std::fs;
 use std::fs::{File, OpenOptions};
 use std::io::Read;
@@ -20,10 +20,8 @@ pub(crate) fn append<R: Env + Input + Files<File = File> + Print + Eprint>(
 ) {
     let mut name = [0u8; 4096];
     let mut record = [0u8; 4096];
-    let brought = read_record(rt, &mut name, &mut record);
-    let n = brought.count;
-    if brought.good {
-        append_bytes(rt, log, index, &record[0..n]);
+    if let Some(n) = read_record(rt, &mut name, &mut record) {
+        append_bytes(rt, log, index, &record[..n]);
     }
 }
 
@@ -42,36 +40,21 @@ fn read_record<R: Env + Input + Files<File = File> + Eprint>(
     rt: &R,
     name: &mut [u8],
     record: &mut [u8],
-) -> Brought
-    ensures { result.count ≤ length «record».new }
+) -> Option<usize>
+    ensures { IfSome result (λ n. n ≤ length «record».new) }
 {
     let n = rt.arg(4, name).unwrap_or(0);
-    if is_dash(&name[0..n]) {
+    let name = troubles::told(
+        rt,
+        "fallbacks: the name of the record",
+        troubles::text(&name[..n]),
+    )?;
+    if name == "-" {
         let mut reader = rt.reader();
         return files::fill(rt, &mut reader, record, "standard input");
     }
-    let none = Brought {
-        good: false,
-        count: 0,
-    };
-    let text = match troubles::text(&name[0..n]) {
-        Ok(text) => text,
-        Err(error) => {
-            troubles::tell(rt, "fallbacks: the name of the record", error);
-            return none;
-        }
-    };
-    let Some(mut file) = files::open(rt, text) else {
-        return none;
-    };
-    files::fill(rt, &mut file, record, text)
-}
-
-fn is_dash(name: &[u8]) -> bool {
-    if name.len() == 1 {
-        return name[0] == b'-';
-    }
-    false
+    let mut file = files::open(rt, name)?;
+    files::fill(rt, &mut file, record, name)
 }
 
 fn append_to<R: Env + Files<File = File> + Print + Eprint>(
@@ -112,24 +95,23 @@ fn judge<R: Env + Files<File = File> + Print + Eprint>(
 )
     requires { 1134 ≤ length stretch.old }
 {
-    let some = files::there(pair.size, 0, IndexWritten::HEAD_BYTES);
+    let some = files::there(pair.size, 0, HEAD_BYTES);
     let start = files::read_at(rt, &pair.index, 0, some, head, index);
-    let more = files::there(pair.size, 13, IndexWritten::ENTRY_BYTES);
+    let more = files::there(pair.size, 13, ENTRY_BYTES);
     let next = files::read_at(rt, &pair.index, 13, more, first, index);
-    let n = start.count;
-    let count = words::word_at(&head[0..n], 9) as usize;
+    let count = words::word_at(&head[..files::brought(start)], 9) as usize;
     let end = questions::read_side(rt, pair, count, last, stretch, log, index);
-    let of_first = next.count;
-    let of_last = end.entry;
-    let to = end.stretch;
-    if start.good && next.good && end.good {
+    if let (Ok(n), Ok(of_first), Some(end)) = (start, next, end) {
+        let last = Side {
+            entry: &last[..end.entry],
+            stretch: &stretch[..end.stretch],
+        };
         update(
             rt,
             pair,
-            &head[0..n],
-            &first[0..of_first],
-            &last[0..of_last],
-            &stretch[0..to],
+            &head[..n],
+            &first[..of_first],
+            last,
             log,
             index,
             record,
@@ -142,21 +124,16 @@ fn update<R: Env + Files<File = File> + Print + Eprint>(
     pair: &Pair,
     head: &[u8],
     first: &[u8],
-    last: &[u8],
-    stretch: &[u8],
+    last: Side,
     log: &str,
     index: &str,
     record: &[u8],
 ) {
-    let update = fallback_index::update_by_parts(
-        pair.total, pair.size, head, first, last, stretch, record,
-    );
+    let update = fallback_index::update_by_parts(pair.head(head), first, last, record);
     let named = words::word_at(head, 5);
     match update {
-        Update::Refused(number) => crate::tell_refused(rt, number, named as u64),
-        Update::Numbers(total, raised, before) => {
-            store(rt, pair, named, total, raised, before, log, index, record)
-        }
+        Ok(extent) => store(rt, pair, named, extent, log, index, record),
+        Err(refusal) => crate::tell_refused(rt, refusal, named as u64),
     }
 }
 
@@ -165,9 +142,7 @@ fn store<R: Env + Files<File = File> + Print + Eprint>(
     rt: &R,
     pair: &Pair,
     named: u32,
-    total: u64,
-    count: u64,
-    before: u64,
+    extent: Extent,
     log: &str,
     index: &str,
     record: &[u8],
@@ -179,11 +154,11 @@ fn store<R: Env + Files<File = File> + Print + Eprint>(
         return;
     };
     let mut ends = [0u8; 21];
-    if renew(rt, pair, &new, total, count, before, &mut ends, index, name) {
-        if settle(rt, named, log, index, record, name) {
-            crate::tell_written(rt, count as usize);
-            return;
-        }
+    if renew(rt, pair, &new, extent, &mut ends, index, name)
+        && settle(rt, named, log, index, record, name)
+    {
+        crate::tell_written(rt, extent.records as usize);
+        return;
     }
     let _ = fs::remove_file(rt, name);
 }
@@ -193,15 +168,12 @@ fn renew(
     rt: &impl Eprint,
     pair: &Pair,
     new: &File,
-    total: u64,
-    count: u64,
-    before: u64,
+    extent: Extent,
     ends: &mut [u8],
     index: &str,
     name: &str,
 ) -> bool {
-    let written = index_building::put_ends(ends, total, count, before);
-    let IndexWritten::Length(length) = written else {
+    let Ok(length) = index_building::put_ends(ends, extent) else {
         return false;
     };
     if ends.len() < 21 {
@@ -238,13 +210,13 @@ fn copy(
     index: &str,
     name: &str,
 ) -> bool {
-    let mut left = size;
-    if left < 13 {
+    if size < HEAD_BYTES {
         return false;
     }
-    left -= 13;
+    let mut left = size - HEAD_BYTES;
+    // kept: no plainer: each read brings as many bytes as it likes
     while left > 0 {
-        let more = copy_some(rt, from, to, block, index, name);
+        let more = copy_some(rt, from, to, block, index, name).unwrap_or(0);
         if more == 0 {
             return false;
         }
@@ -256,7 +228,7 @@ fn copy(
     true
 }
 
-// One read, which is written: how many bytes, or 0.
+// One read, which is written: how many bytes.
 fn copy_some(
     rt: &impl Eprint,
     from: &File,
@@ -264,19 +236,13 @@ fn copy_some(
     block: &mut [u8],
     index: &str,
     name: &str,
-) -> usize {
+) -> Option<usize> {
     let mut file = from;
-    let n = match file.read(block) {
-        Ok(n) => n,
-        Err(error) => {
-            files::fail(rt, index, error);
-            return 0;
-        }
-    };
-    if files::write(rt, to, &block[0..n], name) {
-        return n;
+    let n = files::told(rt, index, file.read(block))?;
+    if files::write(rt, to, &block[..n], name) {
+        return Some(n);
     }
-    0
+    None
 }
 
 // The record to the log, then the new index to its place; where one of them fails, the log is cut to its old length.
@@ -288,12 +254,9 @@ fn settle<R: Files<File = File> + Eprint>(
     record: &[u8],
     name: &str,
 ) -> bool {
-    let file = match OpenOptions::new().append(true).open(rt, log) {
-        Ok(file) => file,
-        Err(error) => {
-            files::fail(rt, log, error);
-            return false;
-        }
+    let opened = OpenOptions::new().append(true).open(rt, log);
+    let Some(file) = files::told(rt, log, opened) else {
+        return false;
     };
     if files::write(rt, &file, record, log)
         && files::sync(rt, &file, log)
@@ -301,8 +264,6 @@ fn settle<R: Files<File = File> + Eprint>(
     {
         return true;
     }
-    if let Err(error) = file.set_len(old as u64) {
-        files::fail(rt, log, error);
-    }
+    let _ = files::told(rt, log, file.set_len(old as u64));
     false
 }

@@ -4,7 +4,7 @@ ghost use Rattle.std.specs.Prelude.{◌≡◌, ◌≤◌, ◌<◌, length};
 ghost use Rattle.fallbacks.specs.Turns.{Steps, Follows};
 
 use crate::{Reading, Stage, files};
-use index_building::{Extent, IndexWritten, PartBuilt};
+use index_building::Extent;
 use std::fs;
 use std::fs::File;
 use std::io::Read;
@@ -59,7 +59,7 @@ fn build_into<R: Files + Print + Eprint>(
     let kept = reading.kept;
     match stage {
         Stage::AtEnd => return end(rt, new, &input[0..kept], reading.extent, index, name),
-        Stage::Refused(number) => crate::tell_refused(rt, number, 0),
+        Stage::Refused(refusal) => crate::tell_refused(rt, refusal, 0),
         // What failed is told where it was tried.
         Stage::Unwritten | Stage::Unread => {}
         Stage::Open => files::fail(rt, log, files::no_error()),
@@ -83,20 +83,13 @@ fn turns(
     let mut reading = Reading {
         stage: Stage::Open,
         kept: 0,
-        extent: Extent {
-            bytes: 0,
-            records: 0,
-            fallbacks: 0,
-        },
+        extent: Extent::NONE,
     };
-    let mut left = u64::MAX;
-    while left > 0 {
+    for _ in 0..u64::MAX {
         reading = turn(rt, file, new, input, entries, reading, log, name);
-        let stage = reading.stage;
-        let Stage::Open = stage else {
+        let Stage::Open = reading.stage else {
             return reading;
         };
-        left -= 1;
     }
     reading
 }
@@ -154,26 +147,25 @@ fn step(
         entries.new }
     ensures kept_bound { result.kept < 18 }
 {
-    let extent = before.extent;
-    let built = index_building::build_part(&input[0..there], extent, entries);
-    match built {
-        PartBuilt::Refused(number) => Reading {
-            stage: Stage::Refused(number),
-            ..before
-        },
-        PartBuilt::Whole(used, written, after) => {
-            if !files::write(rt, new, &entries[0..written], name) {
-                return Reading {
-                    stage: Stage::Unwritten,
-                    ..before
-                };
-            }
-            Reading {
-                stage: Stage::Open,
-                kept: kept::keep(input, used, there),
-                extent: after,
-            }
+    let part = match index_building::build_part(&input[0..there], before.extent, entries) {
+        Ok(part) => part,
+        Err(refusal) => {
+            return Reading {
+                stage: Stage::Refused(refusal),
+                ..before
+            };
         }
+    };
+    if !files::write(rt, new, &entries[0..part.written], name) {
+        return Reading {
+            stage: Stage::Unwritten,
+            ..before
+        };
+    }
+    Reading {
+        stage: Stage::Open,
+        kept: kept::keep(input, part.used, there),
+        extent: part.extent,
     }
 }
 
@@ -199,9 +191,8 @@ fn end_with<R: Files + Print + Eprint>(
     index: &str,
     name: &str,
 ) -> bool {
-    let written = index_building::build_end(rest, extent, start);
-    if let IndexWritten::Refused(number) = written {
-        crate::tell_refused(rt, number, 0);
+    if let Err(refusal) = index_building::build_end(rest, extent, start) {
+        crate::tell_refused(rt, refusal, 0);
         return false;
     }
     if !files::go_to(rt, new, 0, name) {

@@ -1,11 +1,11 @@
 // Files on disk: what cannot be done with one is told on standard error, by its name.
-ghost use Rattle.std.specs.Prelude.{◌≡◌, ◌≤◌, length};
+ghost use Rattle.std.specs.Prelude.{◌≡◌, ◌≤◌, length, IfSome, MatchResult};
+ghost use Rattle.std.specs.Result.{result_ok};
 
-use crate::Brought;
-use std::fs;
 use std::fs::{File, OpenOptions};
 use std::io::{Error, Read, Seek, SeekFrom, Write};
 use std::rt::{Env, Files};
+use std::{fs, io};
 
 // What failed, of the file by its name.
 pub(crate) fn fail(rt: &impl Eprint, name: &str, error: Error) {
@@ -13,10 +13,12 @@ pub(crate) fn fail(rt: &impl Eprint, name: &str, error: Error) {
     troubles::tell(rt, name, error);
 }
 
-// A file to read from.
-pub(crate) fn open<R: Files<File = File> + Eprint>(rt: &R, name: &str) -> Option<File> {
-    match File::open(rt, name) {
-        Ok(file) => Some(file),
+// What was tried with the file by its name: its value, or none where it failed, which is told.
+pub(crate) fn told<T>(rt: &impl Eprint, name: &str, tried: io::Result<T>) -> Option<T>
+    ensures { result ≡ result_ok tried }
+{
+    match tried {
+        Ok(value) => Some(value),
         Err(error) => {
             fail(rt, name, error);
             None
@@ -24,7 +26,13 @@ pub(crate) fn open<R: Files<File = File> + Eprint>(rt: &R, name: &str) -> Option
     }
 }
 
+// A file to read from.
+pub(crate) fn open<R: Files<File = File> + Eprint>(rt: &R, name: &str) -> Option<File> {
+    told(rt, name, File::open(rt, name))
+}
+
 // How many bytes reads put into a buffer, and why the last of them failed.
+// kept: no plainer: an end before its time is told as the system tells a call that has not failed.
 #[derive(Clone, Copy)]
 struct Filled {
     count: usize,
@@ -41,6 +49,7 @@ fn read_full(file: &mut impl Read, buffer: &mut [u8]) -> Filled
     ensures { result.count ≤ length buffer.new }
 {
     let mut done = 0;
+    // kept: no plainer: each read brings as many bytes as it likes
     while done < buffer.len() {
         let n = match file.read(&mut buffer[done..]) {
             Ok(n) => n,
@@ -60,36 +69,56 @@ fn read_full(file: &mut impl Read, buffer: &mut [u8]) -> Filled
     }
 }
 
-// So many bytes were brought. One read more shows whether the file can be read.
-fn see_more(rt: &impl Eprint, file: &mut impl Read, count: usize, name: &str) -> Brought
-    ensures { result.count ≡ count }
-{
-    let mut next = [0u8; 1];
-    if let Err(error) = file.read(&mut next) {
-        fail(rt, name, error);
-        return Brought { good: false, count };
-    }
-    Brought { good: true, count }
+// A read that failed, which is told, and how many bytes were brought all the same.
+#[derive(Clone, Copy)]
+pub(crate) struct Unread {
+    pub(crate) brought: usize,
 }
 
-// Reads until the buffer is full or the file ends. It stops likewise at a read that fails, which the next one does too.
-pub(crate) fn fill(rt: &impl Eprint, file: &mut impl Read, buffer: &mut [u8], name: &str) -> Brought
-    ensures { result.count ≤ length buffer.new }
+// How many bytes were brought, whether a read failed or not.
+pub(crate) fn brought(read: Result<usize, Unread>) -> usize
+    ensures { MatchResult read (λ n. result ≡ n) (λ u. result ≡ u.brought) }
+{
+    match read {
+        Ok(count) => count,
+        Err(unread) => unread.brought,
+    }
+}
+
+// How many bytes were brought, where one read more shows that the file can be read.
+fn see_more(
+    rt: &impl Eprint,
+    file: &mut impl Read,
+    count: usize,
+    name: &str,
+) -> Result<usize, Unread>
+    ensures { MatchResult result (λ n. n ≡ count) (λ u. u.brought ≡ count) }
+{
+    let mut next = [0u8; 1];
+    match told(rt, name, file.read(&mut next)) {
+        Some(_) => Ok(count),
+        None => Err(Unread { brought: count }),
+    }
+}
+
+// Reads until the buffer is full or the file ends: how many bytes, or none where a read fails, which is told. It stops
+// likewise at a read that fails, which the next one does too.
+pub(crate) fn fill(
+    rt: &impl Eprint,
+    file: &mut impl Read,
+    buffer: &mut [u8],
+    name: &str,
+) -> Option<usize>
+    ensures { IfSome result (λ n. n ≤ length buffer.new) }
 {
     let filled = read_full(file, buffer);
-    see_more(rt, file, filled.count, name)
+    see_more(rt, file, filled.count, name).ok()
 }
 
 // Whether the next read or write of a file is at a place.
 pub(crate) fn go_to(rt: &impl Eprint, file: &File, place: u64, name: &str) -> bool {
     let mut of = file;
-    match of.seek(SeekFrom::Start(place)) {
-        Ok(_) => true,
-        Err(error) => {
-            fail(rt, name, error);
-            false
-        }
-    }
+    told(rt, name, of.seek(SeekFrom::Start(place))).is_some()
 }
 
 // Reads likewise from an offset on, where so many bytes must be there: fewer are a read that has failed.
@@ -100,58 +129,34 @@ pub(crate) fn read_at(
     want: usize,
     buffer: &mut [u8],
     name: &str,
-) -> Brought
-    ensures { result.count ≤ length buffer.new }
+) -> Result<usize, Unread>
+    ensures { MatchResult result (λ n. n ≤ length buffer.new) (λ u. u.brought ≤ length buffer.new) }
 {
     if !go_to(rt, file, offset, name) {
-        return Brought {
-            good: false,
-            count: 0,
-        };
+        return Err(Unread { brought: 0 });
     }
     let mut from = file;
     let filled = read_full(&mut from, buffer);
-    let brought = see_more(rt, &mut from, filled.count, name);
-    if brought.count >= want {
-        return brought;
+    let seen = see_more(rt, &mut from, filled.count, name);
+    if filled.count >= want {
+        return seen;
     }
-    if brought.good {
+    if seen.is_ok() {
         fail(rt, name, filled.error);
     }
-    Brought {
-        good: false,
-        count: 0,
-    }
+    Err(Unread { brought: 0 })
 }
 
 // How many of so many bytes from a place on a file of that size has.
 pub(crate) fn there(size: usize, at: usize, most: usize) -> usize {
-    if size <= at {
-        return 0;
-    }
-    let left = size - at;
-    if left < most {
-        return left;
-    }
-    most
+    size.saturating_sub(at).min(most)
 }
 
 // The length of a file.
-pub(crate) fn length(rt: &impl Eprint, file: &File, name: &str) -> Brought {
+pub(crate) fn length(rt: &impl Eprint, file: &File, name: &str) -> Option<usize> {
     let mut of = file;
-    match of.seek(SeekFrom::End(0)) {
-        Ok(end) => Brought {
-            good: true,
-            count: end as usize,
-        },
-        Err(error) => {
-            fail(rt, name, error);
-            Brought {
-                good: false,
-                count: 0,
-            }
-        }
-    }
+    let end = told(rt, name, of.seek(SeekFrom::End(0)))?;
+    Some(end as usize)
 }
 
 // The name of the new file beside the index, into a buffer: the index's and `.new`; and its length, or 0 where it is
@@ -166,10 +171,7 @@ pub(crate) fn new_name(rt: &impl Env, name: &mut [u8]) -> usize
     if n > name.len() - 4 {
         return 0;
     }
-    name[n] = b'.';
-    name[n + 1] = b'n';
-    name[n + 2] = b'e';
-    name[n + 3] = b'w';
+    name[n..n + 4].copy_from_slice(b".new");
     n + 4
 }
 
@@ -180,49 +182,25 @@ pub(crate) fn as_text(name: &[u8]) -> &str {
 
 // Makes the new file, for writing. Where there is one, another run writes it or was stopped.
 pub(crate) fn create<R: Files<File = File> + Eprint>(rt: &R, name: &str) -> Option<File> {
-    match OpenOptions::new()
+    let made = OpenOptions::new()
         .write(true)
         .create_new(true)
-        .open(rt, name)
-    {
-        Ok(file) => Some(file),
-        Err(error) => {
-            fail(rt, name, error);
-            None
-        }
-    }
+        .open(rt, name);
+    told(rt, name, made)
 }
 
 // Whether all bytes were written.
 pub(crate) fn write(rt: &impl Eprint, file: &File, bytes: &[u8], name: &str) -> bool {
     let mut to = file;
-    match to.write_all(bytes) {
-        Ok(()) => true,
-        Err(error) => {
-            fail(rt, name, error);
-            false
-        }
-    }
+    told(rt, name, to.write_all(bytes)).is_some()
 }
 
 // Whether what was written has reached the device.
 pub(crate) fn sync(rt: &impl Eprint, file: &File, name: &str) -> bool {
-    match file.sync_all() {
-        Ok(()) => true,
-        Err(error) => {
-            fail(rt, name, error);
-            false
-        }
-    }
+    told(rt, name, file.sync_all()).is_some()
 }
 
 // Whether the new file has taken the index's place.
 pub(crate) fn replace<R: Files + Eprint>(rt: &R, index: &str, new: &str) -> bool {
-    match fs::rename(rt, new, index) {
-        Ok(()) => true,
-        Err(error) => {
-            fail(rt, index, error);
-            false
-        }
-    }
+    told(rt, index, fs::rename(rt, new, index)).is_some()
 }

@@ -4,8 +4,9 @@
 // name.
 #![tactic(auto)]
 
-use fallback_index::Fallbacks;
-use index_building::{Extent, IndexWritten};
+use admission::Refusal;
+use fallback_index::Head;
+use index_building::{ENTRY_BYTES, Extent};
 use std::fs::File;
 use std::io;
 use std::rt::{Env, Files};
@@ -14,13 +15,6 @@ mod appending;
 mod building;
 mod files;
 mod questions;
-
-// What was read: whether no read has failed, which is told, and how many bytes.
-#[derive(Clone, Copy)]
-pub(crate) struct Brought {
-    good: bool,
-    count: usize,
-}
 
 // Log and index, open, and their lengths.
 #[derive(Drop)]
@@ -31,21 +25,32 @@ pub(crate) struct Pair {
     size: usize,
 }
 
-// An entry, and the log from where it points: whether no read has failed, and how many bytes of each were read.
+impl Pair {
+    // What a question or an append rests on, with the index's first bytes.
+    pub(crate) fn head<'a>(&self, bytes: &'a [u8]) -> Head<'a> {
+        Head {
+            log_length: self.total,
+            index_length: self.size,
+            bytes,
+        }
+    }
+}
+
+// How many bytes were read of an entry, and of the log from where it points.
 #[derive(Clone, Copy)]
 pub(crate) struct Side {
-    good: bool,
     entry: usize,
     stretch: usize,
 }
 
 // Whether there may be more of a log to read; or how it ended: at the log's end, with a refusal, or with a read or a
 // write that failed.
+// kept: no plainer: each way is told otherwise, and `Reading` carries on what it has.
 #[derive(Clone, Copy)]
 pub(crate) enum Stage {
     Open,
     AtEnd,
-    Refused(u8),
+    Refused(Refusal),
     Unread,
     Unwritten,
 }
@@ -59,21 +64,19 @@ pub(crate) struct Reading {
 }
 
 fn tell<R: Print + Eprint>(rt: &R, meaning: &str, number: u64, end: &str) {
-    let told = print!(rt; "{meaning}{number}{end}");
-    if let Err(error) = told {
-        troubles::tell(rt, "fallbacks: standard output", error);
-    }
+    let tried = print!(rt; "{meaning}{number}{end}");
+    let _ = troubles::told(rt, "fallbacks: standard output", tried);
 }
 
 // A refusal, and what it means; `named` is the log's length that the index names.
-pub(crate) fn tell_refused<R: Print + Eprint>(rt: &R, number: u8, named: u64) {
-    tell(rt, "refused ", number as u64, "\n");
+pub(crate) fn tell_refused<R: Print + Eprint>(rt: &R, refusal: Refusal, named: u64) {
+    tell(rt, "refused ", refusal.number() as u64, "\n");
     let _ = rt.eprint("means: ");
-    let _ = match number {
-        1 => rt.eprint("the version of the index, or of a record, is not 1\n"),
-        4 => rt.eprint("a number of the index would be over 4,294,967,295\n"),
-        12 => tell_other_log(rt, named),
-        13 => rt.eprint("A is over B, or B is over the record count\n"),
+    let _ = match refusal {
+        Refusal::OtherVersion => rt.eprint("the version of the index, or of a record, is not 1\n"),
+        Refusal::TooMany => rt.eprint("a number of the index would be over 4,294,967,295\n"),
+        Refusal::AnotherLog => tell_other_log(rt, named),
+        Refusal::NoSuchRecords => rt.eprint("A is over B, or B is over the record count\n"),
         _ => rt.eprint("the index, or a record, is cut short, too long or not one\n"),
     };
 }
@@ -89,14 +92,14 @@ fn tell_other_log(rt: &impl Eprint, named: u64) -> io::Result<()> {
 
 // The length of the index of so many records.
 pub(crate) fn tell_written<R: Print + Eprint>(rt: &R, count: usize) {
-    let length = index_building::entry_at(count) + IndexWritten::ENTRY_BYTES;
+    let length = index_building::entry_at(count) + ENTRY_BYTES;
     tell(rt, "index of ", length as u64, " bytes\n");
 }
 
-pub(crate) fn tell_count<R: Print + Eprint>(rt: &R, answer: Fallbacks, named: u64) {
-    match answer {
-        Fallbacks::Count(count) => tell(rt, "", count, "\n"),
-        Fallbacks::Refused(number) => tell_refused(rt, number, named),
+pub(crate) fn tell_count<R: Print + Eprint>(rt: &R, counted: Result<u64, Refusal>, named: u64) {
+    match counted {
+        Ok(count) => tell(rt, "", count, "\n"),
+        Err(refusal) => tell_refused(rt, refusal, named),
     }
 }
 
@@ -107,13 +110,11 @@ fn serve<R: Env + Input + Files<File = File> + Print + Eprint>(
     log: &str,
     index: &str,
 ) {
-    if word.len() == 0 {
-        return;
-    }
-    match word[0] {
-        b'b' => building::build(rt, log, index),
-        b'c' => questions::count(rt, log, index),
-        _ => appending::append(rt, log, index),
+    match word.first() {
+        None => {}
+        Some(b'b') => building::build(rt, log, index),
+        Some(b'c') => questions::count(rt, log, index),
+        Some(_) => appending::append(rt, log, index),
     }
 }
 
@@ -121,20 +122,14 @@ fn main(rt: HostRuntime) {
     let mut word = [0u8; 4096];
     let asked = rt.arg(1, &mut word).unwrap_or(0);
     let mut log = [0u8; 4096];
-    let first = match troubles::argument(&rt, 2, &mut log) {
-        Ok(name) => name,
-        Err(error) => {
-            troubles::tell(&rt, "fallbacks: the name of the log", error);
-            return;
-        }
+    let tried = troubles::argument(&rt, 2, &mut log);
+    let Some(first) = troubles::told(&rt, "fallbacks: the name of the log", tried) else {
+        return;
     };
     let mut index = [0u8; 4096];
-    let second = match troubles::argument(&rt, 3, &mut index) {
-        Ok(name) => name,
-        Err(error) => {
-            troubles::tell(&rt, "fallbacks: the name of the index", error);
-            return;
-        }
+    let tried = troubles::argument(&rt, 3, &mut index);
+    let Some(second) = troubles::told(&rt, "fallbacks: the name of the index", tried) else {
+        return;
     };
     serve(&rt, &word[0..asked], first, second);
 }

@@ -1,8 +1,9 @@
 // A question to log and index on disk: it reads the index's first 13 bytes, two entries, and two stretches of the log.
-ghost use Rattle.std.specs.Prelude.{◌≤◌, length};
+ghost use Rattle.std.specs.Prelude.{◌≤◌, length, IfSome, MatchResult};
 
-use crate::{Brought, Pair, Side, files};
-use index_building::IndexWritten;
+use crate::files::Unread;
+use crate::{Pair, Side, files};
+use index_building::{ENTRY_BYTES, HEAD_BYTES};
 use std::fs::File;
 use std::rt::{Env, Files};
 
@@ -15,15 +16,12 @@ pub(crate) fn open_pair<R: Files<File = File> + Eprint>(
     let second = files::open(rt, index)?;
     let total = files::length(rt, &first, log);
     let size = files::length(rt, &second, index);
-    if total.good && size.good {
-        return Some(Pair {
-            log: first,
-            index: second,
-            total: total.count,
-            size: size.count,
-        });
-    }
-    None
+    Some(Pair {
+        log: first,
+        index: second,
+        total: total?,
+        size: size?,
+    })
 }
 
 // Reads the last entry at or before a record, and the log from where it points.
@@ -35,27 +33,32 @@ pub(crate) fn read_side(
     stretch: &mut [u8],
     log: &str,
     index: &str,
-) -> Side
+) -> Option<Side>
     requires { 1134 ≤ length stretch.old }
-    ensures result_in_bounds { result.entry ≤ length entry.new }
-    ensures stretch_in_bounds { result.stretch ≤ length stretch.new }
+    ensures result_in_bounds { IfSome result (λ s. s.entry ≤ length entry.new) }
+    ensures stretch_in_bounds { IfSome result (λ s. s.stretch ≤ length stretch.new) }
 {
     let of = read_entry(rt, pair, a, entry, index);
-    let n = of.count;
-    let offset = words::word_at(&entry[0..n], 0);
+    let offset = words::word_at(&entry[..files::brought(of)], 0);
     let to = read_stretch(rt, pair, a, offset, stretch, log);
-    Side {
-        good: of.good && to.good,
-        entry: n,
-        stretch: to.count,
-    }
+    Some(Side {
+        entry: of.ok()?,
+        stretch: to?,
+    })
 }
 
-fn read_entry(rt: &impl Eprint, pair: &Pair, a: usize, entry: &mut [u8], index: &str) -> Brought
-    ensures { result.count ≤ length entry.new }
+fn read_entry(
+    rt: &impl Eprint,
+    pair: &Pair,
+    a: usize,
+    entry: &mut [u8],
+    index: &str,
+) -> Result<usize, Unread>
+    ensures { MatchResult result (λ n. n ≤ length entry.new) (λ u. u.brought ≤ length entry.new) }
 {
-    let place = within(index_building::entry_at(a), pair.size);
-    let some = files::there(pair.size, place, IndexWritten::ENTRY_BYTES);
+    // A system may refuse to go further than a file's end.
+    let place = index_building::entry_at(a).min(pair.size);
+    let some = files::there(pair.size, place, ENTRY_BYTES);
     files::read_at(rt, &pair.index, place as u64, some, entry, index)
 }
 
@@ -67,9 +70,9 @@ fn read_stretch(
     offset: u32,
     stretch: &mut [u8],
     log: &str,
-) -> Brought
+) -> Option<usize>
     requires { 1134 ≤ length stretch.old }
-    ensures { result.count ≤ length stretch.new }
+    ensures { IfSome result (λ n. n ≤ length stretch.new) }
 {
     let most = fallback_index::most_bytes(a);
     let some = files::there(pair.total, offset as usize, most);
@@ -81,16 +84,7 @@ fn read_stretch(
         &mut stretch[0..most],
         log,
     )
-}
-
-// A place, or the end of a file of so many bytes where it lies past that: a system may refuse to go further.
-fn within(at: usize, size: usize) -> usize
-    ensures { result ≤ at }
-{
-    if at <= size {
-        return at;
-    }
-    size
+    .ok()
 }
 
 // `count LOG INDEX A B`.
@@ -136,45 +130,27 @@ fn ask<R: Print + Eprint>(
     requires in_bounds { 1134 ≤ length stretch_a.old }
     requires in_bounds_2 { 1134 ≤ length stretch_b.old }
 {
-    let some = files::there(pair.size, 0, IndexWritten::HEAD_BYTES);
-    let first = files::read_at(rt, &pair.index, 0, some, head, index);
+    let some = files::there(pair.size, 0, HEAD_BYTES);
+    let first = files::read_at(rt, &pair.index, 0, some, head, index).ok();
     let from = read_side(rt, pair, a, entry_a, stretch_a, log, index);
     let up_to = read_side(rt, pair, b, entry_b, stretch_b, log, index);
-    let n = first.count;
-    let of_a = from.entry;
-    let of_b = up_to.entry;
-    let to_a = from.stretch;
-    let to_b = up_to.stretch;
-    if first.good && from.good && up_to.good {
-        tell(
-            rt,
-            pair,
+    if let (Some(n), Some(from), Some(up_to)) = (first, from, up_to) {
+        let head = &head[..n];
+        let counted = fallback_index::count_by_parts(
+            pair.head(head),
+            fallback_index::Side {
+                entry: &entry_a[..from.entry],
+                stretch: &stretch_a[..from.stretch],
+            },
+            fallback_index::Side {
+                entry: &entry_b[..up_to.entry],
+                stretch: &stretch_b[..up_to.stretch],
+            },
             a,
             b,
-            &head[0..n],
-            &entry_a[0..of_a],
-            &entry_b[0..of_b],
-            &stretch_a[0..to_a],
-            &stretch_b[0..to_b],
         );
+        crate::tell_count(rt, counted, words::word_at(head, 5) as u64);
     }
-}
-
-fn tell<R: Print + Eprint>(
-    rt: &R,
-    pair: &Pair,
-    a: usize,
-    b: usize,
-    head: &[u8],
-    entry_a: &[u8],
-    entry_b: &[u8],
-    stretch_a: &[u8],
-    stretch_b: &[u8],
-) {
-    let answer = fallback_index::count_by_parts(
-        pair.total, pair.size, head, entry_a, entry_b, stretch_a, stretch_b, a, b,
-    );
-    crate::tell_count(rt, answer, words::word_at(head, 5) as u64);
 }
 
 // The number that an argument writes out in digits, which the command's script has looked at.
@@ -188,10 +164,8 @@ fn number(rt: &impl Env, argument: usize) -> usize {
 // are left out.
 fn value(digits: &[u8]) -> usize {
     let mut sum = 0;
-    let mut i = 0;
-    while i < digits.len() {
-        sum = with_digit(sum, digits[i]);
-        i += 1;
+    for digit in digits {
+        sum = with_digit(sum, *digit);
     }
     sum
 }

@@ -13,25 +13,13 @@ use std::io::Read;
 fn read<R: Input + Eprint>(rt: &R, input: &mut [u8]) -> usize
     ensures { result ≤ length input.new }
 {
-    let mut reader = rt.reader();
-    match reader.read(input) {
-        Ok(got) => got,
-        Err(error) => {
-            troubles::tell(rt, "feed: standard input", error);
-            0
-        }
-    }
+    let got = rt.reader().read(input);
+    troubles::told(rt, "feed: standard input", got).unwrap_or(0)
 }
 
 // Whether all answers could be written.
 fn write<R: Print + Eprint>(rt: &R, answers: &[u8]) -> bool {
-    match rt.write_all(answers) {
-        Ok(()) => true,
-        Err(error) => {
-            troubles::tell(rt, "feed: standard output", error);
-            false
-        }
-    }
+    troubles::told(rt, "feed: standard output", rt.write_all(answers)).is_some()
 }
 
 // One read, behind what is kept, a turn of the stream, and one write. An output that fails ends it, and so does an input that
@@ -46,11 +34,9 @@ fn turn<R: Input + Print + Eprint>(
     ensures follows { Follows before input.old result input.new output.new }
     ensures ready { Ready (length input.new) (length output.new) result.kept }
 {
-    let kept = before.kept;
-    let brought = read(rt, &mut input[kept..]);
+    let brought = read(rt, &mut input[before.kept..]);
     let next = records::turn(input, output, before, brought);
-    let put = next.put;
-    if write(rt, &output[0..put]) {
+    if write(rt, &output[0..next.put]) {
         return next;
     }
     Stream {
@@ -64,13 +50,11 @@ fn turns<R: Input + Print + Eprint>(rt: &R, input: &mut [u8], output: &mut [u8])
     requires { Ready (length input.old) (length output.old) 0 }
 {
     let mut stream = Stream::START;
-    let mut left = u64::MAX;
-    while left > 0 {
+    for _ in 0..u64::MAX {
         stream = turn(rt, input, output, stream);
         if !stream.more {
             return;
         }
-        left -= 1;
     }
 }
 

@@ -1,19 +1,19 @@
 -- A session in four arrays of a caller's: which session they say, and how one is laid out in them. Definitions only.
 -- Assumes nothing.
-use Rattle.std.specs.Prelude.{ℕ, ◌%◌, ◌^◌, List, [], ◌∷◌, get_or, Float}
+use Rattle.std.specs.Prelude.{ℕ, Option, ◌%◌, ◌^◌, List, [], ◌∷◌, get_or, Float}
 use Rattle.std.specs.Float.{nan}
 use Rattle.arithmetic.specs.Binary32.{0ᶠ}
-use Rattle.admission.specs.Faults.{Fault, fine, fault, fault_of}
+use Rattle.admission.specs.Faults.{Fault, fine, fault}
 use Rattle.common.specs.declared.Vec2.{Vec2}
 use Rattle.common.specs.Vectors.{vec}
 use Rattle.lines.specs.Lines.{lines_of, numbers_of}
 use Rattle.lines.specs.Origins.{origins_of}
 use Rattle.linear_programming.specs.declared.Phase.{Phase}
 use Rattle.linear_programming.specs.declared.Phase.TheVariants as phase
-use Rattle.linear_programming.specs.declared.FailedLine.{FailedLine}
+use Rattle.pass_2d.specs.declared.Failure.{Failure}
 use Rattle.plain_numbers.specs.Kinds.{phase_kind, phase_index, phase_in, failed_kind, failed_index, failed_cause, failed_in}
 use Rattle.session.specs.declared.Session.{Session}
-use Rattle.session.specs.declared.Fed.{Fed}
+use Rattle.session.specs.Calls.{Fed}
 use Rattle.session.specs.Withdrawals.{threes_of}
 
 -- ---- the four arrays
@@ -46,11 +46,11 @@ session_in b = record {
 }
 
 abbrev pub numbers_in : Vec2 → Float → Phase → List Float
-numbers_in w l (phase.Solving x y) = w.x ∷ w.y ∷ l ∷ x ∷ y ∷ 0ᶠ ∷ []
-numbers_in w l (phase.Relaxing x y depth) = w.x ∷ w.y ∷ l ∷ x ∷ y ∷ depth ∷ []
-numbers_in w l (phase.RigidFailure k x y) = w.x ∷ w.y ∷ l ∷ x ∷ y ∷ 0ᶠ ∷ []
+numbers_in w l (phase.Solving p) = w.x ∷ w.y ∷ l ∷ p.x ∷ p.y ∷ 0ᶠ ∷ []
+numbers_in w l (phase.Relaxing p depth) = w.x ∷ w.y ∷ l ∷ p.x ∷ p.y ∷ depth ∷ []
+numbers_in w l (phase.RigidFailure k p) = w.x ∷ w.y ∷ l ∷ p.x ∷ p.y ∷ 0ᶠ ∷ []
 
-abbrev pub words_in : ℕ → ℕ → Phase → FailedLine → ℕ → List ℕ
+abbrev pub words_in : ℕ → ℕ → Phase → Option Failure → ℕ → List ℕ
 words_in count rigid p f n = count ∷ rigid ∷ phase_kind p ∷ phase_index p ∷ failed_kind f ∷ failed_index f ∷ failed_cause f ∷ n ∷ []
 
 -- a session laid out
@@ -80,4 +80,4 @@ held_by fine s b = block_of s
 held_by (fault n) s b = b
 
 unfoldable pub left_by : Fed → Block → Left
-left_by r b = left (told_by (fault_of r.judged)) (held_by (fault_of r.judged) r.session b)
+left_by r b = left (told_by r.judged) (held_by r.judged r.session b)

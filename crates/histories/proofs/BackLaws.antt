@@ -2,7 +2,7 @@
 -- session that is solving, taken back in any order, leave it as it was but for the rigid count (`met-withdrawn`), which does not
 -- depend on the order (`rigid-below`, `rigid-within`, `rigid-beyond`). Assumes nothing.
 use Prim.Native.Nat.{ℕ, suc, ◌+◌, ◌-◌, ◌≤◌, ◌<◌}
-use mathlib.Core.Path.{◌≡◌, refl, sym, ◌∙◌, ap}
+use mathlib.Core.Path.{◌≡◌, refl, ◌∙◌, ap}
 use mathlib.Core.Bool.{Bool, true, false}
 use mathlib.Core.List.{List, [], ◌∷◌, ◌++◌, append-nil}
 use native.Mathlib.Omega.{arith}

@@ -1,7 +1,7 @@
 -- A change of a session that was handed out (docs/changes/change.md): it is taken where its indices ascend and its
 -- batch fits what is left, and then is, as a value, the withdrawals from the highest index down and the batch behind
 -- them; refused, it is as if it had never been offered. Assumes nothing.
-use Prim.Native.Nat.{ℕ, suc, ◌+◌, ◌-◌, ◌≤◌, ◌<◌}
+use Prim.Native.Nat.{ℕ, ◌+◌, ◌-◌, ◌≤◌, ◌<◌}
 use mathlib.Core.Path.{◌≡◌, refl, sym, ◌∙◌, ap}
 use mathlib.Core.Bool.{Bool, true, false}
 use mathlib.Core.List.{List, [], ◌∷◌, ◌++◌}
@@ -16,14 +16,14 @@ use Rattle.lines.specs.declared.Line.{Line}
 use Rattle.lines.specs.declared.Origin.{Origin}
 use Rattle.lines.specs.Lines.{most_lines, lines_of}
 use Rattle.lines.specs.LineFaults.{lines_fault}
-use Rattle.admission.specs.Faults.{Fault, fine, fault, must, ◌⊳◌, unless_fault, fault_of}
+use Rattle.admission.specs.Faults.{Fault, fine, fault, must, ◌⊳◌, unless_fault}
 use Rattle.admission.proofs.FaultLaws.{no-fault, ⊳-fine, must-fine}
 use Rattle.session.specs.declared.Session.{Session}
-use Rattle.session.specs.declared.Fed.{Fed}
+use Rattle.session.specs.Calls.{Fed}
 use Rattle.session.specs.Sessions.{lines_in, origins_in}
 use Rattle.session.specs.Batches.{batch_fault, fed_with}
 use Rattle.session.specs.Handed.{Handed}
-use Rattle.session.specs.Withdrawals.{refused_by, or_given, then_fed, fresh_as, without, without_all, lowered}
+use Rattle.session.specs.Withdrawals.{refused_by, or_given, then_fed, fresh_as, without_all, lowered}
 use Rattle.session.specs.Changes.{ascending_fault, change_fault, below_in, lowered_by, changed_as, is_of, index_if, indices_from, indices_of}
 use Rattle.session.proofs.WithdrawalWork.{without_fewer}
 use Rattle.session.proofs.HandedLaws.{count-is, continues}
@@ -160,7 +160,7 @@ done-append s (o ∷ os) ps = done-append (done_by s o).session os ps
 -- no call is refused
 pub data AllTaken : Session → List Operation → Type 0 where
   all-taken : {s : Session} → AllTaken s []
-  one-taken : {s : Session} {o : Operation} {os : List Operation} → fault_of (done_by s o).judged ≡ fine →
+  one-taken : {s : Session} {o : Operation} {os : List Operation} → (done_by s o).judged ≡ fine →
       AllTaken (done_by s o).session os → AllTaken s (o ∷ os)
 
 taken-append : {s : Session} {os ps : List Operation} → AllTaken s os → AllTaken (done_all s os) ps → AllTaken s (os ++ ps)
@@ -208,13 +208,13 @@ module _ {s : Session} {rigid : ℕ} {wish : Vec2} {limit : Float} {lines : List
     -- ---- and whose batch fits what is left
     module _ (b : Batch) (admitted : Admitted b) (room : length (without_all is lines) + length (lines_of b.numbers)
         ≤ most_lines) where
-      fed-taken : fault_of (fed_by fresh b).judged ≡ fine
+      fed-taken : (fed_by fresh b).judged ≡ fine
       fed-taken = batch-taken left-right.over b admitted room
 
       changed-whole : changed_by s is b ≡ fed_by fresh b
       changed-whole = changed-fed b ∙ rw fed-taken
 
-      pub change-taken : fault_of (changed_by s is b).judged ≡ fine
+      pub change-taken : (changed_by s is b).judged ≡ fine
       change-taken = rw changed-whole fed-taken
 
       pub change-over : StandsOver (changed_by s is b).session (lowered_by is rigid) wish limit
@@ -232,28 +232,28 @@ module _ {s : Session} {rigid : ℕ} {wish : Vec2} {limit : Float} {lines : List
 
     -- all lines for as many others as a session holds
     pub change-of-all : length is ≡ length lines → (b : Batch) → Admitted b →
-        length (lines_of b.numbers) ≤ most_lines → fault_of (changed_by s is b).judged ≡ fine
+        length (lines_of b.numbers) ≤ most_lines → (changed_by s is b).judged ≡ fine
     change-of-all all b admitted few = change-taken b admitted (omega (arith, without-all-long up lines refl))
 
 -- ---- any change
 
 -- "a refused change is as if never offered": of any session, whatever is asked
-given_back : (s : Session) (f : Fault) (r : Fed) (n : ℕ) → fault_of (unless_fault (refused_by s) f r).judged ≡ fault n →
-    (f ≡ fine → fault_of r.judged ≡ fine) →
+given_back : (s : Session) (f : Fault) (r : Fed) (n : ℕ) → (unless_fault (refused_by s) f r).judged ≡ fault n →
+    (f ≡ fine → r.judged ≡ fine) →
     (unless_fault (refused_by s) f r).session ≡ s
 given_back s (fault m) r n e h = refl
 given_back s fine r n e h = absurd (no-fault n (sym (h refl) ∙ e))
 
-or-given-back : (s : Session) (r : Fed) (n : ℕ) → fault_of (or_given s r).judged ≡ fault n → (or_given s r).session ≡ s
-or-given-back s r n e = given_back s (fault_of r.judged) r n e (λ h. h)
+or-given-back : (s : Session) (r : Fed) (n : ℕ) → (or_given s r).judged ≡ fault n → (or_given s r).session ≡ s
+or-given-back s r n e = given_back s r.judged r n e (λ h. h)
 
 refused-by : (s : Session) (f : Fault) (r : Fed) (n : ℕ) →
-    fault_of (unless_fault (refused_by s) f (or_given s r)).judged ≡ fault n →
+    (unless_fault (refused_by s) f (or_given s r)).judged ≡ fault n →
     (unless_fault (refused_by s) f (or_given s r)).session ≡ s
 refused-by s (fault m) r n e = refl
 refused-by s fine r n e = or-given-back s r n e
 
-pub refused-change : (s : Session) (is : List ℕ) (b : Batch) (n : ℕ) → fault_of (changed_by s is b).judged ≡ fault n →
+pub refused-change : (s : Session) (is : List ℕ) (b : Batch) (n : ℕ) → (changed_by s is b).judged ≡ fault n →
     (changed_by s is b).session ≡ s
 unfolding changed_as
 refused-change s is b n e =
@@ -262,20 +262,20 @@ refused-change s is b n e =
 
 -- what a batch tells that is fed to a session that was handed out: its own faults, and no other
 module _ (s : Session) (h : Handed s) (b : Batch) where
-  told-by : (f : Fault) → batch_fault s.count b.numbers b.brought ≡ f → fault_of (fed_by s b).judged ≡ f
+  told-by : (f : Fault) → batch_fault s.count b.numbers b.brought ≡ f → (fed_by s b).judged ≡ f
   unfolding fed_with
   told-by (fault r) e = rw e refl
   told-by fine e =
       let passes = batch-passes s.count b e in
       batch-taken (over-own h) b passes.admitted (rw (count-is s h) passes.room)
 
-  pub batch-told : fault_of (fed_by s b).judged ≡ batch_fault s.count b.numbers b.brought
+  pub batch-told : (fed_by s b).judged ≡ batch_fault s.count b.numbers b.brought
   batch-told = told-by (batch_fault s.count b.numbers b.brought) refl
 
-or-given-told : (s : Session) (r : Fed) → fault_of (or_given s r).judged ≡ fault_of r.judged
-or-given-told s r = go (fault_of r.judged) refl
+or-given-told : (s : Session) (r : Fed) → (or_given s r).judged ≡ r.judged
+or-given-told s r = go r.judged refl
   where
-    go : (f : Fault) → fault_of r.judged ≡ f → fault_of (unless_fault (refused_by s) f r).judged ≡ fault_of r.judged
+    go : (f : Fault) → r.judged ≡ f → (unless_fault (refused_by s) f r).judged ≡ r.judged
     go fine e = refl
     go (fault n) e = sym e
 
@@ -291,7 +291,7 @@ module _ (s : Session) (h : Handed s) (is : List ℕ) where
   up_from e = rw (count-is s h) (fine-ascending s.count 0 is (⊳-fine (must (leb s.count most_lines) 4) e).1)
 
   change-told-by : (b : Batch) (f : Fault) → change_fault s.count is ≡ f →
-      fault_of (changed_by s is b).judged ≡ (f ⊳ batch_fault (length (without_all is (lines_in s))) b.numbers b.brought)
+      (changed_by s is b).judged ≡ (f ⊳ batch_fault (length (without_all is (lines_in s))) b.numbers b.brought)
   change-told-by b (fault r) e = rw (change-behind s is b r e) refl
   change-told-by b fine e =
       let up = up_from e in
@@ -303,7 +303,7 @@ module _ (s : Session) (h : Handed s) (is : List ℕ) where
 
   -- 15 of its indices; then what a batch of the lines that are left tells: never 8 or 9
   pub change-told : (b : Batch) →
-      fault_of (changed_by s is b).judged ≡ (change_fault s.count is ⊳ batch_fault (length (without_all is (lines_in s)))
+      (changed_by s is b).judged ≡ (change_fault s.count is ⊳ batch_fault (length (without_all is (lines_in s)))
       b.numbers b.brought)
   change-told b = change-told-by b (change_fault s.count is) refl
 
@@ -319,7 +319,7 @@ module _ (s : Session) (h : Handed s) (is : List ℕ) where
       let t = fresh (over-own h) is up in
       rw (changed-fed (over-own h) is up b)
       (handed-by (fed_by t b) (continues t right.over.handed b.numbers b.brought).handed
-      (fault_of (fed_by t b).judged))
+      ((fed_by t b).judged))
 
   pub change-handed : (b : Batch) → Handed (changed_by s is b).session
   change-handed b = change-handed-by b (change_fault s.count is) refl

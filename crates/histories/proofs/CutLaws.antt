@@ -2,16 +2,14 @@
 -- that the single call does not refuse (`cut-anywhere`). Such batches fit, and what stands after them is the list.
 -- Assumes nothing.
 use Prim.Native.Nat.{ℕ, ◌+◌, ◌%◌, ◌≤◌}
-use mathlib.Core.Path.{◌≡◌, refl, sym, ◌∙◌, ap}
-use mathlib.Core.List.{List, [], ◌∷◌, ◌++◌, append_assoc, append-nil}
+use mathlib.Core.Path.{◌≡◌, refl, sym, ◌∙◌}
+use mathlib.Core.List.{List, [], ◌++◌, append_assoc, append-nil}
 use native.Mathlib.Omega.{arith}
 use lib.Dec.{leb}
 use lib.ListN.{length, length-append}
 use lib.Ieee.{Float}
 use borrow.Author.Tests.{leb-true}
 use Rattle.common.specs.declared.Vec2.{Vec2}
-use Rattle.lines.specs.declared.Line.{Line}
-use Rattle.lines.specs.declared.Origin.{Origin}
 use Rattle.lines.specs.Lines.{most_lines, lines_of}
 use Rattle.lines.specs.LineFaults.{lines_fault}
 use Rattle.linear_programming.specs.Whole.{Phase, Failed, stands}

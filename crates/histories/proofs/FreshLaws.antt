@@ -1,13 +1,14 @@
 -- Sessions that were handed out over the same lines are the same value but for origins, and the same value where these
 -- are the same too; a fresh session fed admitted lines stands over them; and a line taken back leaves that very
 -- session. Assumes nothing.
-use Prim.Native.Nat.{ℕ, zero, suc, ◌+◌, ◌-◌, ◌*◌, ◌%◌, ◌≤◌, ◌<◌}
+use Prim.Native.Nat.{ℕ, zero, suc, ◌+◌, ◌*◌, ◌≤◌, ◌<◌}
 use mathlib.Core.Path.{◌≡◌, refl, sym, ◌∙◌, ap}
 use mathlib.Core.Bool.{Bool, true, false, ◌||◌}
 use mathlib.Core.List.{List, [], ◌∷◌, ◌++◌}
 use native.Mathlib.Omega.{arith}
+use Rattle.std.specs.Prelude.{Option}
 use lib.Dec.{ltb, eqb}
-use lib.ListN.{length, take, drop, take-append-drop}
+use lib.ListN.{length, drop, take-append-drop}
 use lib.Seq.{length-take-le}
 use lib.Ieee.{Float}
 use borrow.Author.Tests.{lt-ltb, le-leb, ltb-true, eq-eqb}
@@ -16,17 +17,16 @@ use Rattle.lines.specs.declared.Line.{Line}
 use Rattle.lines.specs.declared.Origin.{Origin}
 use Rattle.lines.specs.Lines.{most_lines, lines_of, numbers_of}
 use Rattle.lines.specs.LineFaults.{line_fault, lines_fault}
-use Rattle.lines.specs.Origins.{origins_of}
 use Rattle.lines.proofs.Numbers.{lines-back, numbers-long}
-use Rattle.admission.specs.Faults.{fine, must, fault_of}
+use Rattle.admission.specs.Faults.{fine, must}
 use Rattle.admission.proofs.FaultLaws.{⊳-fine}
+use Rattle.pass_2d.specs.declared.Failure.{Failure as FailureCode}
 use Rattle.linear_programming.specs.declared.Phase.{Phase as PhaseCode}
-use Rattle.linear_programming.specs.declared.FailedLine.{FailedLine}
 use Rattle.linear_programming.specs.Admit.{wish_fault}
 use Rattle.linear_programming.specs.Read.{phase_of, phase_as, failed_of, failed_as}
 use Rattle.linear_programming.proofs.Agreement.{phase-back, failed-back}
 use Rattle.session.specs.declared.Session.{Session}
-use Rattle.session.specs.Sessions.{lines_in, origins_in, outcome_in, blank_lines, blank_origins, started_as}
+use Rattle.session.specs.Sessions.{outcome_in, blank_lines, blank_origins, started_as}
 use Rattle.session.specs.Batches.{origins_for, fitting}
 use Rattle.session.specs.Handed.{Handed}
 use Rattle.session.specs.Withdrawals.{refused_by, started_with, fresh_as, threes_of, without, lowered, withdrawal_fault, withdrawn_as}
@@ -63,11 +63,11 @@ module _ {s : Session} {rigid : ℕ} {wish : Vec2} {limit : Float} {lines : List
 pub phase-same : (p q : PhaseCode) → phase_of p ≡ phase_of q → p ≡ q
 phase-same p q e = sym (phase-back p) ∙ ap phase_as e ∙ phase-back q
 
-pub failed-same : (f g : FailedLine) → failed_of f ≡ failed_of g → f ≡ g
+pub failed-same : (f g : Option FailureCode) → failed_of f ≡ failed_of g → f ≡ g
 failed-same f g e = sym (failed-back f) ∙ ap failed_as e ∙ failed-back g
 
 -- a session by its fields
-abbrev made : List Line → List Origin → ℕ → ℕ → Vec2 → Float → PhaseCode → FailedLine → ℕ → Session
+abbrev made : List Line → List Origin → ℕ → ℕ → Vec2 → Float → PhaseCode → Option FailureCode → ℕ → Session
 made lines origins count rigid wish limit phase failed probes =
     record {
       lines = lines;
@@ -105,7 +105,7 @@ same-session o p = same-but-origins o p (origins-array o ∙ sym (origins-array 
 
 -- taken, and over its lines and origins
 pub record FreshRight (wish : Vec2) (limit : Float) (rigid : ℕ) (lines : List Line) (origins : List Origin) : Type 0 where
-  pub taken : fault_of (fresh_as wish limit rigid lines origins).judged ≡ fine
+  pub taken : (fresh_as wish limit rigid lines origins).judged ≡ fine
   pub over : StandsOver (fresh_as wish limit rigid lines origins).session rigid wish limit lines origins
 
 -- numbers of origins are these origins again
@@ -193,7 +193,7 @@ module _ {s : Session} {rigid : ℕ} {wish : Vec2} {limit : Float} {lines : List
   unfolding withdrawn_as
   withdrawn-fresh = rw (no-fault-yet, o.wish-is, o.limit_is, o.rigid-is, o.lines_are, o.origins-are, left-right.taken)
 
-  pub withdrawn-taken : fault_of (withdrawn_as s i).judged ≡ fine
+  pub withdrawn-taken : (withdrawn_as s i).judged ≡ fine
   withdrawn-taken = rw withdrawn-fresh left-right.taken
 
   pub withdrawn-over : StandsOver (withdrawn_as s i).session (lowered i rigid) wish limit (without i lines) (without i origins)
@@ -205,10 +205,10 @@ unfolding withdrawn_as withdrawal_fault
 withdrawn-behind s h i e = rw (le-leb s.count most_lines h.fits, e)
 
 -- a session that was handed out refuses only an index that is not below its count, and hands one out again
-pub withdrawn-told : (s : Session) → Handed s → (i : ℕ) → fault_of (withdrawn_as s i).judged ≡ must (ltb i s.count) 15
+pub withdrawn-told : (s : Session) → Handed s → (i : ℕ) → (withdrawn_as s i).judged ≡ must (ltb i s.count) 15
 withdrawn-told s h i = go (ltb i s.count) refl
   where
-    go : (b : Bool) → ltb i s.count ≡ b → fault_of (withdrawn_as s i).judged ≡ must (ltb i s.count) 15
+    go : (b : Bool) → ltb i s.count ≡ b → (withdrawn_as s i).judged ≡ must (ltb i s.count) 15
     go true e = rw e (withdrawn-taken (over-own h) i (omega (arith, count-is s h, ltb-true i s.count e)))
     go false e = rw (withdrawn-behind s h i e, e)
 

@@ -2,17 +2,16 @@
 -- fresh session fed the lines that now stand, so that it stands as the whole-list rules and as the single call over
 -- them do. Assumes nothing.
 use Prim.Native.Nat.{ℕ}
-use mathlib.Core.Path.{◌≡◌, sym, ◌∙◌, ap}
-use mathlib.Core.List.{List, [], ◌∷◌}
+use mathlib.Core.Path.{◌≡◌, sym, ◌∙◌}
+use mathlib.Core.List.{List}
 use native.Mathlib.Omega.{arith}
 use lib.Ieee.{Float}
 use Rattle.common.specs.declared.Vec2.{Vec2}
 use Rattle.lines.specs.Lines.{numbers_of}
 use Rattle.lines.proofs.Numbers.{lines-back, numbers-long}
-use Rattle.admission.specs.Faults.{fine, fault_of}
-use Rattle.linear_programming.specs.Admit.{wish_fault, judged_list}
+use Rattle.admission.specs.Faults.{fine}
+use Rattle.linear_programming.specs.Admit.{wish_fault}
 use Rattle.session.specs.declared.Session.{Session}
-use Rattle.session.specs.Sessions.{started_as}
 use Rattle.histories.specs.Histories.{Operation, done_by, done_all, Standing, nothing_yet, standing_after, standing_after_all, Fits, batch-fits, index_below, change-fits, AllFit, no_more, and_then}
 use Rattle.histories.specs.Demand3.{StandsFresh, KeepsFailed, still-failed, until-then, until-changed, CallStands, EachStands, all_done, done_on, Demand3}
 use Rattle.histories.proofs.StandLaws.{StandsOver, stands-whole, stands-judged, batch-taken, batch-over, failed-stays, called, start-taken, start-over}
@@ -41,7 +40,7 @@ module _ (wish : Vec2) (limit : Float) where
   -- ---- one call
 
   one-taken : {s : Session} {g : Standing} {p : Operation} → Over wish limit g s → Fits g p →
-      fault_of (done_by s p).judged ≡ fine
+      (done_by s p).judged ≡ fine
   one-taken o (batch-fits {b = b} admitted room) = batch-taken o b admitted room
   one-taken o (index_below {i = i} below) = withdrawn-taken o i below
   one-taken o (change-fits {is = is} {b} up admitted room) = change-taken o is up b admitted room

@@ -16,8 +16,7 @@ use Rattle.linear_programming.specs.Read.{failed_of}
 use Rattle.linear_programming.specs.Resume.{resumed}
 use Rattle.linear_programming.proofs.Computed.{computed as solved, +, −}
 use Rattle.session.specs.declared.Session.{Session}
-use Rattle.session.specs.declared.Unmet.{Unmet}
-use Rattle.session.specs.declared.Unmet.TheVariants as unmet
+use Rattle.session.specs.Calls.{Unmet, At, Nothing}
 use Rattle.session.specs.Sessions.{outcome_in, blank_lines, blank_origins, blank_session, started_as}
 use Rattle.session.specs.Batches.{origins_for, fitting, batch_fault, worked, fed_with, fed_as}
 use Rattle.session.specs.Meeting.{is_met, first_unmet, point_now, named, unmet_as}
@@ -48,10 +47,10 @@ stays n = stands (solving (vec (+ 0) (+ 1))) no_line n
 
 pub table : List Case
 table =
-    case [] unmet.Nothing (stays 1)
-    ∷ case (z ∷ z ∷ []) unmet.Nothing (stays 3)
-    ∷ case (z ∷ A ∷ []) (unmet.At 2) (stays 5)
-    ∷ case (A ∷ []) (unmet.At 1) (stays 3)
+    case [] Nothing (stays 1)
+    ∷ case (z ∷ z ∷ []) Nothing (stays 3)
+    ∷ case (z ∷ A ∷ []) (At 2) (stays 5)
+    ∷ case (A ∷ []) (At 1) (stays 3)
     ∷ []
 
 -- each row's batch, asked about and fed by the definitions, has the row's answers
@@ -75,7 +74,7 @@ abbrev later : Line
 later = line (vec (+ 2) (+ 0)) (vec (+ 0) (− 1))
 
 -- W is not named and changes nothing; but the line behind it fails by it, and is solved without it
-pub dropped-cases : (unmet_as (wider []) (numbers_of (W ∷ [])) ≡ unmet.Nothing)
+pub dropped-cases : (unmet_as (wider []) (numbers_of (W ∷ [])) ≡ Nothing)
     × (outcome_in (wider (W ∷ [])) ≡ stays 2)
     × (failed_of (wider (W ∷ later ∷ [])).failed ≡ failed_line (record { index = 2; cause = parallel 1 }))
     × (outcome_in (wider (later ∷ [])) ≡ stands (solving (vec (+ 2) (+ 1))) no_line 3)

@@ -11,14 +11,13 @@ use lib.Dec.{leb, eqb, ltb}
 use lib.ListN.{length, take, get_or}
 use lib.Seq.{take-length}
 use lib.Ieee.{Float}
-use borrow.Author.Tests.{lt-ltb, le-leb, eq-eqb, ltb-true, ltb-false, leb-true, eqb-true}
+use borrow.Author.Tests.{lt-ltb, ltb-true, ltb-false, leb-true, eqb-true}
 use Rattle.arithmetic.specs.Binary32.{when◌then◌else◌}
 use Rattle.arithmetic.proofs.Lists.{All, none, more}
 use Rattle.common.specs.declared.Vec2.{Vec2}
 use Rattle.lines.specs.declared.Line.{Line}
 use Rattle.lines.specs.Lines.{most_lines, lines_of, off_line}
-use Rattle.lines.specs.LineFaults.{lines_fault}
-use Rattle.admission.specs.Faults.{Fault, fine, fault, must, unless_fault, fault_of}
+use Rattle.admission.specs.Faults.{Fault, fine, fault, must, unless_fault}
 use Rattle.admission.proofs.FaultLaws.{⊳-fine, must-fine}
 use Rattle.pass_2d.specs.Pass.{pass_line}
 use Rattle.linear_programming.specs.Whole.{Phase, solving, Failed, no_line, stands, whole_list}
@@ -27,7 +26,7 @@ use Rattle.linear_programming.specs.Read.{phase_of, failed_of}
 use Rattle.linear_programming.proofs.Steps.{entered, advance, feed, batch-whole}
 use Rattle.linear_programming.proofs.WholeLaws.{Agrees, agree-solving, agree-relaxing, agree-rigid, whole-agrees}
 use Rattle.session.specs.declared.Session.{Session}
-use Rattle.session.specs.declared.Unmet.TheVariants as unmet
+use Rattle.session.specs.Calls.{At, Nothing, Refused}
 use Rattle.session.specs.Sessions.{lines_in, outcome_in}
 use Rattle.session.specs.Batches.{origins_fault, fitting, batch_fault, fed_with}
 use Rattle.session.specs.Handed.{Handed}
@@ -151,10 +150,10 @@ batch-passes count b e =
       alone = rw (few.0, whole.0, room.0) room.1;
     }
 
-named-nothing : (count n k : ℕ) (b : Bool) → ltb k n ≡ b → named count n k ≡ unmet.Nothing → n ≤ k
+named-nothing : (count n k : ℕ) (b : Bool) → ltb k n ≡ b → named count n k ≡ Nothing → n ≤ k
 unfolding named when◌then◌else◌
 named-nothing count n k true e h =
-    let z : unmet.At (count + k) ≡ unmet.Nothing = rw e at h in
+    let z : At (count + k) ≡ Nothing = rw e at h in
     let y : ◌≡◌ {A = ℕ} 0 1 = cc in
     absurd (omega arith)
 named-nothing count n k false e h = ltb-false k n e
@@ -166,7 +165,7 @@ module _ {s : Session} (h : Handed s) {p : Vec2} (solves : phase_of s.phase ≡ 
   L = lines_of b.numbers
 
   unmet-named : batch_fault s.count b.numbers [] ≡ fine → first_unmet p L < length L →
-      unmet_as s b.numbers ≡ unmet.At (s.count + first_unmet p L)
+      unmet_as s b.numbers ≡ At (s.count + first_unmet p L)
   unfolding unmet_as point_now named when◌then◌else◌
   unmet-named e k = rw (e, solves, lt-ltb (first_unmet p L) (length L) k)
 
@@ -199,7 +198,7 @@ module _ {s : Session} (h : Handed s) {p : Vec2} (solves : phase_of s.phase ≡ 
   plain = record { numbers = xs; brought = [] }
 
   nothing-by : (f : Fault) → batch_fault s.count xs [] ≡ f →
-      unless_fault unmet.Refused f (named s.count (length (lines_of xs)) (first_unmet p (lines_of xs))) ≡ unmet.Nothing →
+      unless_fault Refused f (named s.count (length (lines_of xs)) (first_unmet p (lines_of xs))) ≡ Nothing →
       Unchanged s plain
   nothing-by fine e u =
       let passes = batch-passes s.count plain e in
@@ -208,6 +207,6 @@ module _ {s : Session} (h : Handed s) {p : Vec2} (solves : phase_of s.phase ≡ 
       (ltb (first_unmet p (lines_of xs)) (length (lines_of xs))) refl u))
   nothing-by (fault r) e u = let y : ◌≡◌ {A = ℕ} 0 1 = cc in absurd (omega arith)
 
-  pub nothing-unmet : unmet_as s xs ≡ unmet.Nothing → Unchanged s plain
+  pub nothing-unmet : unmet_as s xs ≡ Nothing → Unchanged s plain
   unfolding unmet_as point_now
   nothing-unmet u = nothing-by (batch_fault s.count xs []) refl (rw solves at u)

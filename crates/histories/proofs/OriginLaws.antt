@@ -1,18 +1,17 @@
 -- 02, T-06: sessions that differ only in origins end alike in all else, after a batch, a withdrawal, a change and any
 -- history (`origins-alike`, `withdrawal-alike`, `change-alike`, `all_alike`), and at each index the origin kept is the
 -- one that the line arrived with (`origins-kept`). Assumes nothing.
-use Prim.Native.Nat.{ℕ, ◌+◌, ◌≤◌, ◌<◌}
+use Prim.Native.Nat.{ℕ, ◌+◌, ◌<◌}
 use mathlib.Core.Path.{◌≡◌, refl, sym, ◌∙◌, ap}
 use mathlib.Core.Bool.{Bool, true, false}
-use mathlib.Core.List.{List, [], ◌∷◌, ◌++◌}
+use mathlib.Core.List.{List, ◌++◌}
 use native.Mathlib.Omega.{arith}
 use lib.Dec.{ltb}
 use lib.ListN.{length, get_or, get_or-append}
 use lib.Seq.{get_or-append-add, length-take-le}
 use lib.Ieee.{Float}
 use borrow.Author.Tests.{ltb-true}
-use Rattle.admission.specs.Faults.{Fault, fine, fault, fault_of}
-use Rattle.admission.proofs.FaultLaws.{judgements-agree}
+use Rattle.admission.specs.Faults.{Fault, fine, fault}
 use Rattle.common.specs.declared.Vec2.{Vec2}
 use Rattle.lines.specs.declared.Line.{Line}
 use Rattle.lines.specs.declared.Origin.{Origin}
@@ -21,7 +20,7 @@ use Rattle.lines.specs.Origins.{unknown, origins_of}
 use Rattle.linear_programming.specs.Whole.{Outcome, stands, refusal}
 use Rattle.linear_programming.specs.Admit.{◌⟫◌}
 use Rattle.session.specs.declared.Session.{Session}
-use Rattle.session.specs.declared.Fed.{Fed}
+use Rattle.session.specs.Calls.{Fed}
 use Rattle.session.specs.Sessions.{origins_in}
 use Rattle.session.specs.Batches.{origins_for, origins_fault, batch_fault, settled, worked, fed_with}
 use Rattle.session.specs.Handed.{Handed}
@@ -91,7 +90,7 @@ withdrawal-alike h k (alike {s} qs) i = go (ltb i s.count) refl
         let p = over-own k in
         let n = count-over o in
         record {
-          judged-same = judgements-agree (withdrawn-taken o i (omega arith)) (withdrawn-taken p i (omega arith));
+          judged-same = withdrawn-taken o i (omega arith) ∙ sym (withdrawn-taken p i (omega arith));
           sessions = over-alike (withdrawn-over o i (omega arith)) (withdrawn-over p i (omega arith));
         }
     go false e = rw (withdrawn-behind s h i e, withdrawn-behind (labelled qs s) k i e) (record {
@@ -102,11 +101,11 @@ withdrawal-alike h k (alike {s} qs) i = go (ltb i s.count) refl
 -- ---- a change
 
 given-alike : {s t : Session} {r q : Fed} → AlikeFed r q → Alike s t → AlikeFed (or_given s r) (or_given t q)
-given-alike {s} {t} {r} {q} a p = go (fault_of r.judged) refl
+given-alike {s} {t} {r} {q} a p = go r.judged refl
   where
-    go : (f : Fault) → fault_of r.judged ≡ f → AlikeFed (or_given s r) (or_given t q)
-    go fine e = rw (e, sym (ap fault_of a.judged-same) ∙ e) a
-    go (fault n) e = rw (e, sym (ap fault_of a.judged-same) ∙ e) (record { judged-same = refl; sessions = p })
+    go : (f : Fault) → r.judged ≡ f → AlikeFed (or_given s r) (or_given t q)
+    go fine e = rw (e, sym a.judged-same ∙ e) (record { judged-same = refl; sessions = a.sessions })
+    go (fault n) e = rw (e, sym a.judged-same ∙ e) (record { judged-same = refl; sessions = p })
 
 pub change-alike : {s t : Session} → Handed s → Handed t → Alike s t → (is : List ℕ) (b c : Batch) →
     b.numbers ≡ c.numbers → Theirs b → Theirs c →
@@ -145,7 +144,7 @@ all_alike {s = s} {t = t} h k a (change-each {is} {b} {c} e theirs others same) 
 
 -- "At each index the origin kept is the one the line arrived with": a batch that is taken leaves those of the lines
 -- before it, and behind them stand those that its own lines arrived with
-module _ (s : Session) (h : Handed s) (b : Batch) (taken : fault_of (fed_by s b).judged ≡ fine) where
+module _ (s : Session) (h : Handed s) (b : Batch) (taken : (fed_by s b).judged ≡ fine) where
   kept-all : origins_in (fed_by s b).session ≡ origins_in s ++ arriving b
   kept-all = (continues s h b.numbers b.brought).remembers taken
 

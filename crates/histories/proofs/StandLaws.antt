@@ -13,7 +13,7 @@ use Rattle.lines.specs.Lines.{most_lines, lines_of}
 use Rattle.lines.specs.LineFaults.{lines_fault}
 use Rattle.pass_2d.specs.Pass.{Failure}
 use Rattle.linear_programming.specs.Whole.{Failed, failed_line, Outcome, stands, whole_list}
-use Rattle.admission.specs.Faults.{Fault, fine, fault_of}
+use Rattle.admission.specs.Faults.{Fault, fine}
 use Rattle.linear_programming.specs.Admit.{◌⟫◌, wish_fault, judged_list, list_call}
 use Rattle.linear_programming.specs.Read.{phase_of, failed_of}
 use Rattle.lines.proofs.JudgeLaws.{faults-append}
@@ -82,16 +82,16 @@ module _ (s : Session) (h : Handed s) (b : Batch) (admitted : Admitted b)
   never = never-refused s.rigid s.wish s.limit (lines_in s ++ L) (fault-free s h).wished
       (rw (faults-append, (fault-free s h).lined) admitted.lines)
 
-  taken-one : fault_of (fed_by s b).judged ≡ fine
+  taken-one : (fed_by s b).judged ≡ fine
   taken-one =
-      told-fine (fault_of (fed_by s b).judged) (fed_by s b).session never
+      told-fine ((fed_by s b).judged) (fed_by s b).session never
       ((continues s h b.numbers b.brought).tells
       ∙ rw (eq-eqb (length b.numbers % 4) 0 admitted.four, admitted.theirs) whole)
 
 module _ {s : Session} {rigid : ℕ} {wish : Vec2} {limit : Float} {lines : List Line} {origins : List Origin}
     (o : StandsOver s rigid wish limit lines origins)
     (b : Batch) (admitted : Admitted b) (room : length lines + length (lines_of b.numbers) ≤ most_lines) where
-  pub batch-taken : fault_of (fed_by s b).judged ≡ fine
+  pub batch-taken : (fed_by s b).judged ≡ fine
   batch-taken = taken-one s o.handed b admitted (rw o.lines_are room)
 
   pub batch-over : StandsOver (fed_by s b).session rigid wish limit (lines ++ lines_of b.numbers) (origins ++ arriving b)
@@ -129,7 +129,7 @@ module _ (rigid : ℕ) (wish : Vec2) (limit : Float) where
   unfolding lines_fault
   never-none w = never-refused rigid wish limit [] w refl
 
-  pub start-taken : wish_fault wish limit ≡ fine → fault_of (started_as wish limit rigid).judged ≡ fine
+  pub start-taken : wish_fault wish limit ≡ fine → (started_as wish limit rigid).judged ≡ fine
   start-taken w =
       told-fine _ (started_as wish limit rigid).session (never-none w) ((begins wish limit rigid).tells ∙ start-whole w)
 

@@ -9,7 +9,7 @@ use lib.Seq.{append_snoc}
 use Rattle.arithmetic.specs.Binary32.{when◌then◌else◌}
 use Rattle.arithmetic.proofs.Lists.{All, none, more}
 use Rattle.lines.specs.declared.Origin.{Origin}
-use Rattle.admission.specs.Faults.{fine, fault_of}
+use Rattle.admission.specs.Faults.{fine}
 use Rattle.admission.proofs.FaultLaws.{⊳-fine}
 use Rattle.session.specs.declared.Session.{Session}
 use Rattle.session.specs.Sessions.{lines_in, origins_in}
@@ -70,7 +70,7 @@ all-other kind place (o ∷ os) = other-more kind place o (is_of kind place o) r
 -- ---- the call
 
 module _ (s : Session) (h : Handed s) (kind place : ℕ) (b : Batch)
-    (taken : fault_of (origin_changed_by s kind place b).fed.judged ≡ fine) where
+    (taken : (origin_changed_by s kind place b).fed.judged ≡ fine) where
   abbrev found : List ℕ
   found = indices_of s kind place
 

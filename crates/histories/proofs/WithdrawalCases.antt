@@ -10,14 +10,13 @@ use Rattle.lines.specs.declared.Origin.{Origin}
 use Rattle.lines.specs.Lines.{line, lines_of, numbers_of}
 use Rattle.lines.specs.Origins.{origin, unknown, origins_of}
 use Rattle.lines.specs.LineFaults.{line_fault, lines_fault}
-use Rattle.admission.specs.Faults.{Fault, fine, fault, within, inside, fault_of}
+use Rattle.admission.specs.Faults.{Fault, fine, fault, within, inside}
 use Rattle.one_line.specs.OneLine.{circle}
-use Rattle.linear_programming.specs.Whole.{Outcome, stands, solving, rigid_failure, Failed, no_line, failed_line}
+use Rattle.linear_programming.specs.Whole.{Outcome, stands, solving, rigid_failure, no_line, failed_line}
 use Rattle.linear_programming.specs.Admit.{wish_fault, judged_list, list_call}
 use Rattle.linear_programming.specs.Resume.{resumed}
 use Rattle.linear_programming.proofs.Computed.{computed as solved, +, −}
-use Rattle.session.specs.declared.Session.{Session}
-use Rattle.session.specs.declared.Fed.{Fed}
+use Rattle.session.specs.Calls.{Fed}
 use Rattle.session.specs.Sessions.{origins_in, outcome_in, blank_lines, blank_origins, blank_session, started_as}
 use Rattle.session.specs.Batches.{origins_for, fitting, batch_fault, worked, fed_with}
 use Rattle.session.specs.Withdrawals.{started_with, threes_of, without, lowered, withdrawal_fault, withdrawn_as}
@@ -31,7 +30,7 @@ pub record Read : Type 0 where
 
 abbrev read_off : Fed → Read
 read_off r = record {
-  told = fault_of r.judged;
+  told = r.judged;
   outcome = outcome_in r.session;
   origins = origins_in r.session;
   rigid = r.session.rigid;

@@ -5,7 +5,7 @@ use Rattle.lines.specs.declared.Origin.{Origin}
 use Rattle.lines.specs.Lines.{lines_of}
 use Rattle.lines.specs.LineFaults.{lines_fault}
 use Rattle.session.specs.declared.Session.{Session}
-use Rattle.session.specs.declared.Fed.{Fed}
+use Rattle.session.specs.Calls.{Fed}
 use Rattle.session.specs.Batches.{origins_for, origins_fault, fed_with}
 
 -- the numbers of a batch's lines, and the origins that it brings

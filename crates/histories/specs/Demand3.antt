@@ -1,7 +1,7 @@
 -- Demand 3 as one statement (01; 02, T-12): lines come to a session in batches, empty ones too, and are taken back, one
 -- at a time or several in one step with a batch. Definitions only. Assumes nothing.
 use Rattle.std.specs.Prelude.{ℕ, ◌≡◌, List, [], ◌∷◌, Float}
-use Rattle.admission.specs.Faults.{fine, fault_of}
+use Rattle.admission.specs.Faults.{fine}
 use Rattle.common.specs.declared.Vec2.{Vec2}
 use Rattle.lines.specs.Lines.{numbers_of}
 use Rattle.pass_2d.specs.Pass.{Failure}
@@ -18,7 +18,7 @@ use Rattle.histories.specs.Histories.{Operation, batch, withdrawal, change, done
 pub record StandsFresh (wish : Vec2) (limit : Float) (g : Standing) (s : Session) : Type 0 where
   -- is, as a value, the fresh one with the same wish and limit, fed the lines that stand, which is not refused;
   pub fresh : s ≡ (fresh_as wish limit g.rigid g.lines g.origins).session
-  pub fresh-taken : fault_of (fresh_as wish limit g.rigid g.lines g.origins).judged ≡ fine
+  pub fresh-taken : (fresh_as wish limit g.rigid g.lines g.origins).judged ≡ fine
   -- it has these lines, each with its origin, and the rigid count as lowered;
   pub lines_are : lines_in s ≡ g.lines
   pub origins-are : origins_in s ≡ g.origins
@@ -40,7 +40,7 @@ pub data KeepsFailed (s : Session) : Operation → Type 0 where
 -- a call of a session over what stands
 pub record CallStands (wish : Vec2) (limit : Float) (g : Standing) (s : Session) (o : Operation) : Type 0 where
   -- is not refused;
-  pub taken : fault_of (done_by s o).judged ≡ fine
+  pub taken : (done_by s o).judged ≡ fine
   -- after it the session is the fresh one over what stands then;
   pub stands : StandsFresh wish limit (standing_after g o) (done_by s o).session
   -- and where it is a batch, a line that had failed is still the session's failed line
@@ -55,7 +55,7 @@ pub data EachStands (wish : Vec2) (limit : Float) : Standing → Session → Lis
 -- DEMAND 3 of the calls os
 pub record Demand3 (rigid : ℕ) (wish : Vec2) (limit : Float) (os : List Operation) : Type 0 where
   -- the session starts,
-  pub started : fault_of (started_as wish limit rigid).judged ≡ fine
+  pub started : (started_as wish limit rigid).judged ≡ fine
   -- and is the fresh one over no lines;
   pub none_yet : StandsFresh wish limit (nothing_yet rigid) (started_as wish limit rigid).session
   -- no call is refused, after each the session is the fresh one over the lines then standing, and between withdrawals a

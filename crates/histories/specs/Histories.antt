@@ -5,7 +5,7 @@ use Rattle.lines.specs.declared.Line.{Line}
 use Rattle.lines.specs.declared.Origin.{Origin}
 use Rattle.lines.specs.Lines.{most_lines, lines_of}
 use Rattle.session.specs.declared.Session.{Session}
-use Rattle.session.specs.declared.Fed.{Fed}
+use Rattle.session.specs.Calls.{Fed}
 use Rattle.session.specs.Withdrawals.{without, without_all, lowered, withdrawn_as}
 use Rattle.session.specs.Changes.{lowered_by, changed_as}
 use Rattle.histories.specs.Cuts.{Batch, fed_by, Admitted, arriving}

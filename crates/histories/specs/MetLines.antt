@@ -5,13 +5,13 @@ use Rattle.arithmetic.proofs.Lists.{All}
 use Rattle.common.specs.declared.Vec2.{Vec2}
 use Rattle.lines.specs.declared.Line.{Line}
 use Rattle.lines.specs.Lines.{lines_of, off_line}
-use Rattle.admission.specs.Faults.{fine, fault_of}
+use Rattle.admission.specs.Faults.{fine}
 use Rattle.session.specs.declared.Session.{Session}
-use Rattle.session.specs.declared.Unmet.TheVariants as unmet
+use Rattle.session.specs.Calls.{At}
 use Rattle.session.specs.Sessions.{lines_in, origins_in}
 use Rattle.session.specs.Meeting.{is_met, unmet_as}
 use Rattle.session.specs.Withdrawals.{lowered}
-use Rattle.histories.specs.Cuts.{Batch, fed_by, arriving}
+use Rattle.histories.specs.Cuts.{Batch, fed_by}
 use Rattle.histories.specs.Histories.{Operation, batch, withdrawal, done_all, Standing, standing_after}
 use Rattle.histories.specs.Demand3.{EachStands}
 
@@ -22,7 +22,7 @@ Met p l = is_met p l ≡ true
 -- "leaves phase and point bit for bit the same and adds exactly one probe a line": a phase has its point; the batch is
 -- taken, and the failed line stays, too
 pub record Unchanged (s : Session) (b : Batch) : Type 0 where
-  pub taken : fault_of (fed_by s b).judged ≡ fine
+  pub taken : (fed_by s b).judged ≡ fine
   pub phase-stays : (fed_by s b).session.phase ≡ s.phase
   pub failed-stays : (fed_by s b).session.failed ≡ s.failed
   pub one_each : (fed_by s b).session.probes ≡ s.probes + length (lines_of b.numbers)
@@ -31,7 +31,7 @@ pub record Unchanged (s : Session) (b : Batch) : Type 0 where
 pub record NamesFirst (s : Session) (p : Vec2) (b : Batch) : Type 0 where
   pub place : ℕ
   pub inside : place < length (lines_of b.numbers)
-  pub told : unmet_as s b.numbers ≡ unmet.At (s.count + place)
+  pub told : unmet_as s b.numbers ≡ At (s.count + place)
   pub before-met : All (Met p) (take place (lines_of b.numbers))
   pub not-met : is_met p (get_or (lines_of b.numbers) place off_line) ≡ false
 

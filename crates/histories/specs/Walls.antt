@@ -5,7 +5,7 @@ use Rattle.arithmetic.proofs.Lists.{All}
 use Rattle.lines.specs.declared.Origin.{Origin}
 use Rattle.lines.specs.Lines.{lines_of}
 use Rattle.session.specs.declared.Session.{Session}
-use Rattle.session.specs.declared.Changed.{Changed}
+use Rattle.session.specs.Calls.{Changed}
 use Rattle.session.specs.Sessions.{lines_in, origins_in}
 use Rattle.session.specs.Changes.{is_of, origin_changed_as}
 use Rattle.histories.specs.Cuts.{Batch, arriving}

@@ -11,26 +11,28 @@ use lib.Dec.{leb}
 use lib.ListN.{length, drop, length-append}
 use lib.Seq.{sets, length-sets}
 use borrow.Author.Tests.{leb-true, le-leb, lt-leb, eq-eqb, ne_eqb}
+use Rattle.std.specs.Prelude.{Option, Some, None, Result, Ok, Err}
+use Rattle.std.specs.Result.{result_unwrap_or}
 use Rattle.arithmetic.specs.Binary32.{when◌then◌else◌}
 use Rattle.fields.proofs.StoreLaws.{sets-append}
+use Rattle.admission.specs.declared.refusal.Refusal.{Refusal}
+use Rattle.admission.specs.Refusals.{number_of}
 use Rattle.admission.specs.Faults.{Fault, fine, fault, must, unless_fault}
 use Rattle.admission.proofs.FaultLaws.{⊳-fine, must-fine}
 use Rattle.answer_records.specs.Answers.{longest_answer}
+use Rattle.answer_records.specs.Numbers.{numbered}
 use Rattle.answer_logs.specs.Logs.{Entry}
 use Rattle.answer_logs.specs.Parts.{whole_at, Wholes, reached, stopped, ahead_whole}
-use Rattle.log_walks.specs.declared.Passed.TheVariants as passed
 use Rattle.log_walks.specs.Figures.{fallback, fallbacks, size_of, sizes}
-use Rattle.log_walks.specs.Walks.{passed_by}
+use Rattle.log_walks.specs.Walks.{Passed, passed_by}
 use Rattle.log_walks.specs.Parts.{is_whole, wholes_of}
 use Rattle.log_walks.proofs.FoundLaws.{size-within}
 use Rattle.log_walks.proofs.WalkLaws.{one-fallback}
 use Rattle.log_walks.proofs.PartLaws.{Passes, part-passed, part-bad, part-ended, few-behind}
 use Rattle.index_building.specs.declared.Extent.{Extent}
-use Rattle.index_building.specs.declared.Progress.TheVariants as progress
 use Rattle.index_building.specs.declared.PartBuilt.{PartBuilt}
-use Rattle.index_building.specs.declared.PartBuilt.TheVariants as built
 use Rattle.index_building.specs.Indexes.{new_entry, Standing, standing, laid_over, put_over}
-use Rattle.index_building.specs.Builds.{extent, with_record, entry_here, completed, most64, extent_fault, completed_by, progress_by, part_by, part_over}
+use Rattle.index_building.specs.Builds.{extent, with_record, entry_here, completed, most64, extent_fault, completed_by, Progress, progress_by, part_built, part_by, part_over}
 use Rattle.index_building.proofs.LengthLaws.{entry_length}
 use Rattle.index_building.proofs.LaidLaws.{nothing-laid, laid-length}
 
@@ -49,7 +51,8 @@ room-test b n h = go (dec_le (b + n) most64)
 progress-ahead : (at : ℕ) (x : Extent) (e : Entry) (size : ℕ) (w : Wholes) → progress_by at x (ahead_whole e size w)
     ≡ progress_by (at + size) (with_record x e) w
 progress-ahead at x e size (reached l used) =
-    ap (λ (n : ℕ). progress.Whole n (foldl with_record (with_record x e) l)) (sym (add_assoc at size used))
+    let there : ℕ → Progress = λ n. Ok (n, foldl with_record (with_record x e) l) in
+    ap there (sym (add_assoc at size used))
 progress-ahead at x e size (stopped n place) = refl
 
 whole-ahead : (e : Entry) (size : ℕ) (w : Wholes) → is_whole (ahead_whole e size w) ≡ true → is_whole w ≡ true
@@ -85,7 +88,7 @@ module _ (part : List ℕ) (before : Extent) (fits : extent_fault (length part) 
         leb-true _ _ (must-fine _ 4 b.1),
       )
 
-  module _ {x : Extent} {at : ℕ} (g : Grown before x at) (behind m : ℕ) (e : passed.Record behind m
+  module _ {x : Extent} {at : ℕ} (g : Grown before x at) (behind m : ℕ) (e : Ok (Some (behind, m))
       ≡ passed_by (whole_at part at)) where
     pub step : Passes part at behind m
     step = part-passed part at behind m e
@@ -142,15 +145,26 @@ module _ (part : List ℕ) (before : Extent) (fits : extent_fault (length part) 
             (wholes_of (drop behind part)) still-whole
             ∙ ap (λ (z : Extent). entry_here z ++ completed_by z (wholes_of (drop behind part))) (sym step-extent)
 
-pub walked-bad : (part : List ℕ) (at : ℕ) (x : Extent) (r : ℕ) → passed.Fault r ≡ passed_by (whole_at part at) →
-    progress.Fault r ≡ progress_by at x (wholes_of (drop at part))
+pub walked-bad : (part : List ℕ) (at : ℕ) (x : Extent) (r : ℕ) → Err r ≡ passed_by (whole_at part at) →
+    Err r ≡ progress_by at x (wholes_of (drop at part))
 walked-bad part at x r e = rw (part-bad part at r e)
 
-pub walked_through : (part : List ℕ) (at : ℕ) (x : Extent) → passed.End ≡ passed_by (whole_at part at) →
-    progress.Whole at x ≡ progress_by at x (wholes_of (drop at part))
+pub walked_through : (part : List ℕ) (at : ℕ) (x : Extent) → Ok None ≡ passed_by (whole_at part at) →
+    Ok (at, x) ≡ progress_by at x (wholes_of (drop at part))
 walked_through part at x e = rw (part-ended part at e, add-zero at)
 
 -- ---- storing the entries
+
+-- a step that passes over a bad record passes a record or the end as they are
+pub passed-there : (r : Result (Option (ℕ × ℕ)) Refusal) {u : Option (ℕ × ℕ)} {n : ℕ × ℕ} {q : Passed} → numbered r ≡ q →
+    u ≡ result_unwrap_or r None → u ≡ Some n → Ok (Some n) ≡ q
+passed-there (Ok v) p e f = ap Ok (sym (sym e ∙ f)) ∙ p
+passed-there (Err v) p e f = absurd (let g = sym e ∙ f in let z : ◌≡◌ {A = ℕ} 0 1 = cc in omega arith)
+
+pub none-there : (r : Result (Option (ℕ × ℕ)) Refusal) {u : Option (ℕ × ℕ)} {q : Passed} → numbered r ≡ q →
+    u ≡ result_unwrap_or r None → u ≡ None → ((n : ℕ) → Err n ≡ q → ⊥) → Ok None ≡ q
+none-there (Ok v) p e f bad = ap Ok (sym (sym e ∙ f)) ∙ p
+none-there (Err v) p e f bad = absurd (bad (number_of v) p)
 
 -- `to` is the next entry's place, and what was stored and what is left make up the whole
 pub record Filling (part : List ℕ) (before : Extent) (l : List ℕ) (start : ℕ) (buffer : List ℕ) (at to : ℕ)
@@ -164,7 +178,7 @@ pub record Filling (part : List ℕ) (before : Extent) (l : List ℕ) (start : �
 module _ {part : List ℕ} {before : Extent} {l : List ℕ} {start : ℕ} (fits : extent_fault (length part) before
     ≡ fine) {buffer : List ℕ} {at to : ℕ} {x : Extent}
     (g : Filling part before l start buffer at to x) where
-  module _ (behind m : ℕ) (e : passed.Record behind m ≡ passed_by (whole_at part at)) {y : Extent} (p : y
+  module _ (behind m : ℕ) (e : Ok (Some (behind, m)) ≡ passed_by (whole_at part at)) {y : Extent} (p : y
       ≡ extent (x.bytes + (behind - at)) (x.records + 1) (x.fallbacks + m)) where
     left : completed_by x (wholes_of (drop at part)) ≡ entry_here y ++ completed_by y (wholes_of (drop behind part))
     left = stores-on part before fits g.grown behind m e p g.whole
@@ -189,14 +203,14 @@ module _ {part : List ℕ} {before : Extent} {l : List ℕ} {start : ℕ} (fits 
               ∙ sets-append buffer to (entry_here y) (completed_by y (wholes_of (drop behind part))) ∙ rw (put, on);
         }
 
-  pub fills-through : passed.End ≡ passed_by (whole_at part at) → buffer ≡ sets l start (completed_by before (wholes_of part))
+  pub fills-through : Ok None ≡ passed_by (whole_at part at) → buffer ≡ sets l start (completed_by before (wholes_of part))
   unfolding completed
   fills-through e = sym (g.stands ∙ ap (λ (w : Wholes). sets buffer to (completed_by x w)) (part-ended part at e))
 
-  pub fills-length : passed.End ≡ passed_by (whole_at part at) → length buffer ≡ length l
+  pub fills-length : Ok None ≡ passed_by (whole_at part at) → length buffer ≡ length l
   fills-length e = ap length (fills-through e) ∙ length-sets l start (completed_by before (wholes_of part))
 
-  pub fills-no-bad : (r : ℕ) → passed.Fault r ≡ passed_by (whole_at part at) → ⊥
+  pub fills-no-bad : (r : ℕ) → Err r ≡ passed_by (whole_at part at) → ⊥
   fills-no-bad r e = false≢true (ap is_whole (sym (part-bad part at r e)) ∙ g.whole)
 
 -- ---- how many bytes the entries have
@@ -239,32 +253,33 @@ extent-fold x (e ∷ l) =
 -- ---- what a part tells
 
 module _ (x : Extent) (buffer : List ℕ) where
-  part-bad-by : (w : Wholes) (r : ℕ) → progress.Fault r ≡ progress_by 0 x w → standing (built.Refused r) buffer ≡ part_by x buffer w
+  part-bad-by : (w : Wholes) (r : ℕ) → Err r ≡ progress_by 0 x w → standing (Err r) buffer ≡ part_by x buffer w
   part-bad-by (reached l used) r e = absurd (let z : ◌≡◌ {A = ℕ} 0 1 = cc in omega arith)
   part-bad-by (stopped n place) r e = let f : r ≡ n = cc in rw f
 
   -- the entries' bytes by the two counts
-  told-by : {C : Type 0} (w : Wholes) (used : ℕ) (after : Extent) → progress.Whole used after ≡ progress_by 0 x w →
+  told-by : {C : Type 0} (w : Wholes) (used : ℕ) (after : Extent) → Ok (used, after) ≡ progress_by 0 x w →
       ((l : List Entry) → w ≡ reached l used → after ≡ foldl with_record x l → length (completed x l)
       ≡ 8 * (after.records / 64 - x.records / 64) → C) → C
   told-by (stopped n place) used after e go = absurd (let z : ◌≡◌ {A = ℕ} 0 1 = cc in omega arith)
   told-by (reached l u) used after e go =
-      let f : used ≡ 0 + u = cc in
-      let k : after ≡ foldl with_record x l = cc in
+      let same : ◌≡◌ {A = ℕ × Extent} (used, after) (0 + u, foldl with_record x l) = cc in
+      let f : used ≡ 0 + u = ap (λ p. p.0) same in
+      let k : after ≡ foldl with_record x l = ap (λ p. p.1) same in
       let n : after.records ≡ x.records + length l = ap (λ (z : Extent). z.records) (k ∙ extent-fold x l) in
       go l (ap (reached l) (sym (f ∙ zero-add u))) k (completed-length x l
       ∙ ap (λ (m : ℕ). 8 * (m / 64 - x.records / 64)) (sym n))
 
-  part-short-by : (w : Wholes) (used : ℕ) (after : Extent) → progress.Whole used after ≡ progress_by 0 x w →
+  part-short-by : (w : Wholes) (used : ℕ) (after : Extent) → Ok (used, after) ≡ progress_by 0 x w →
       length buffer < 8 * (after.records / 64 - x.records / 64) →
-      standing (built.Refused 10) buffer ≡ part_by x buffer w
+      standing (Err 10) buffer ≡ part_by x buffer w
   unfolding put_over
   part-short-by w used after e h =
       told-by w used after e λ l p k n. rw (p, lt-leb (length (completed x l)) (length buffer) (omega arith))
 
-  part-done-by : (w : Wholes) (used : ℕ) (after : Extent) → progress.Whole used after ≡ progress_by 0 x w → (needed : ℕ)
+  part-done-by : (w : Wholes) (used : ℕ) (after : Extent) → Ok (used, after) ≡ progress_by 0 x w → (needed : ℕ)
       → needed ≡ 8 * (after.records / 64 - x.records / 64) → needed ≤ length buffer →
-      (out : List ℕ) → out ≡ sets buffer 0 (completed_by x w) → standing (built.Whole used needed after) out ≡ part_by x buffer w
+      (out : List ℕ) → out ≡ sets buffer 0 (completed_by x w) → standing (Ok (part_built used needed after)) out ≡ part_by x buffer w
   unfolding put_over
   part-done-by w used after e needed f h out p =
       told-by w used after e λ l q k n.
@@ -275,31 +290,31 @@ module _ (x : Extent) (buffer : List ℕ) where
       rw (q, le-leb (length (completed x l)) (length buffer) fits, laid, size, k)
 
 -- none is bad, and the entries fit
-pub part-whole : (x : Extent) (w : Wholes) (used : ℕ) (after : Extent) → progress.Whole used after ≡ progress_by 0 x w →
+pub part-whole : (x : Extent) (w : Wholes) (used : ℕ) (after : Extent) → Ok (used, after) ≡ progress_by 0 x w →
     (is_whole w ≡ true) × (length (completed_by x w) ≡ 8 * (after.records / 64 - x.records / 64))
 part-whole x w used after e =
     told-by x [] w used after e λ l p k n. (ap is_whole p, ap (λ (v : Wholes). length (completed_by x v)) p ∙ n)
 
 module _ (part : List ℕ) (x : Extent) (buffer : List ℕ) where
-  pub part-over : (r : ℕ) → fault r ≡ extent_fault (length part) x → standing (built.Refused r) buffer ≡ part_over part x buffer
+  pub part-over : (r : ℕ) → fault r ≡ extent_fault (length part) x → standing (Err r) buffer ≡ part_over part x buffer
   unfolding part_over
   part-over r e = rw (← e)
 
   module _ (fits : fine ≡ extent_fault (length part) x) where
-    pub part-refused : (r : ℕ) → progress.Fault r ≡ progress_by 0 x (wholes_of part) → standing (built.Refused r) buffer
+    pub part-refused : (r : ℕ) → Err r ≡ progress_by 0 x (wholes_of part) → standing (Err r) buffer
         ≡ part_over part x buffer
     unfolding part_over
     part-refused r e = rw (← fits) (part-bad-by x buffer (wholes_of part) r e)
 
-    module _ (used : ℕ) (after : Extent) (e : progress.Whole used after ≡ progress_by 0 x (wholes_of part)) where
-      pub part-short : length buffer < 8 * (after.records / 64 - x.records / 64) → standing (built.Refused 10) buffer
+    module _ (used : ℕ) (after : Extent) (e : Ok (used, after) ≡ progress_by 0 x (wholes_of part)) where
+      pub part-short : length buffer < 8 * (after.records / 64 - x.records / 64) → standing (Err 10) buffer
           ≡ part_over part x buffer
       unfolding part_over
       part-short h = rw (← fits) (part-short-by x buffer (wholes_of part) used after e h)
 
       pub part-done : (needed : ℕ) → needed ≡ 8 * (after.records / 64 - x.records / 64) → needed ≤ length buffer →
           (out : List ℕ) → out ≡ sets buffer 0 (completed_by x (wholes_of part)) →
-          standing (built.Whole used needed after) out ≡ part_over part x buffer
+          standing (Ok (part_built used needed after)) out ≡ part_over part x buffer
       unfolding part_over
       part-done needed f h out p = rw (← fits) (part-done-by x buffer (wholes_of part) used after e needed f h out p)
 
@@ -311,18 +326,19 @@ pub record Within (part out : List ℕ) (used n : ℕ) : Type 0 where
 
 module _ (part : List ℕ) (x : Extent) (buffer : List ℕ) (used n : ℕ) (after : Extent) (out : List ℕ) where
   by-room : (l : List Entry) (u : ℕ) → wholes_of part ≡ reached l u → Dec (length (completed x l) ≤ length buffer) →
-      standing (built.Whole used n after) out ≡ part_by x buffer (reached l u) → Within part out used n
+      standing (Ok (part_built used n after)) out ≡ part_by x buffer (reached l u) → Within part out used n
   unfolding put_over
   by-room l u p (no h) e =
-      let f = ap (λ (s : Standing PartBuilt). s.told)
+      let f = ap (λ (s : Standing (Result PartBuilt ℕ)). s.told)
       (rw (lt-leb (length (completed x l)) (length buffer) (omega arith)) at e) in
       absurd (let z : ◌≡◌ {A = ℕ} 0 1 = cc in omega arith)
   by-room l u p (yes h) e =
       let q = rw (le-leb (length (completed x l)) (length buffer) h) at e in
-      let f = ap (λ (s : Standing PartBuilt). s.told) q in
-      let g = ap (λ (s : Standing PartBuilt). length s.contents) q in
-      let a : used ≡ u = cc in
-      let b : n ≡ length (completed x l) = cc in
+      let f = ap (λ (s : Standing (Result PartBuilt ℕ)). s.told) q in
+      let g = ap (λ (s : Standing (Result PartBuilt ℕ)). length s.contents) q in
+      let same : part_built used n after ≡ part_built u (length (completed x l)) (foldl with_record x l) = cc in
+      let a : used ≡ u = ap (λ (p : PartBuilt). p.used) same in
+      let b : n ≡ length (completed x l) = ap (λ (p : PartBuilt). p.written) same in
       let few = few-behind part p in
       record {
         within-part = omega (arith, few.0);
@@ -331,16 +347,16 @@ module _ (part : List ℕ) (x : Extent) (buffer : List ℕ) (used n : ℕ) (afte
       }
 
   by-fault : (f : Fault) (w : Wholes) → wholes_of part ≡ w →
-      standing (built.Whole used n after) out
-      ≡ unless_fault (λ r. standing (built.Refused r) buffer) f (part_by x buffer w) → Within part out used n
+      standing (Ok (part_built used n after)) out
+      ≡ unless_fault (λ r. standing (Err r) buffer) f (part_by x buffer w) → Within part out used n
   by-fault (fault r) w p e =
-      let f = ap (λ (s : Standing PartBuilt). s.told) e in
+      let f = ap (λ (s : Standing (Result PartBuilt ℕ)). s.told) e in
       absurd (let z : ◌≡◌ {A = ℕ} 0 1 = cc in omega arith)
   by-fault fine (stopped r place) p e =
-      let f = ap (λ (s : Standing PartBuilt). s.told) e in
+      let f = ap (λ (s : Standing (Result PartBuilt ℕ)). s.told) e in
       absurd (let z : ◌≡◌ {A = ℕ} 0 1 = cc in omega arith)
   by-fault fine (reached l u) p e = by-room l u p (dec_le (length (completed x l)) (length buffer)) e
 
-  pub part-within : standing (built.Whole used n after) out ≡ part_over part x buffer → Within part out used n
+  pub part-within : standing (Ok (part_built used n after)) out ≡ part_over part x buffer → Within part out used n
   unfolding part_over
   part-within e = by-fault (extent_fault (length part) x) (wholes_of part) refl e

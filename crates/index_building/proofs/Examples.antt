@@ -10,10 +10,9 @@ use Rattle.answer_logs.proofs.Worked.{computed as splitting, refused_scene}
 use Rattle.answer_logs.specs.Parts.{waits, found_whole, wholes_from}
 use Rattle.log_walks.specs.Figures.{sizes, is_fallback, fallbacks}
 use Rattle.log_walks.specs.Parts.{records_of, wholes_of}
-use Rattle.index_building.specs.declared.IndexWritten.TheVariants as index
-use Rattle.index_building.specs.declared.PartBuilt.TheVariants as built
+use Rattle.std.specs.Prelude.{Ok, Err}
 use Rattle.index_building.specs.Indexes.{new_entry, entry_with, entry_of, entries, head, start_of, index_of, standing, laid_over, put_over}
-use Rattle.index_building.specs.Builds.{built_up_to, built_over, extent, at_start, with_record, completed, extent_fault, part_over, end_fault, end_up_to, end_over}
+use Rattle.index_building.specs.Builds.{built_up_to, built_over, extent, at_start, with_record, completed, extent_fault, part_built, part_over, end_fault, end_up_to, end_over}
 use Rattle.index_building.specs.Stores.{store_fault, stored_over}
 
 -- an outcome 5, and a scene refused with 6
@@ -45,85 +44,85 @@ computed = tt
 -- ---- builds
 
 -- what lies behind the index stays
-empty-built : built_over [] (replicate 22 9) ≡ standing (index.Length 21) (empty_index ++ (9 ∷ []))
+empty-built : built_over [] (replicate 22 9) ≡ standing (Ok 21) (empty_index ++ (9 ∷ []))
 unfolding computed
 empty-built = refl
 
-short-built : built_over short (replicate 21 9) ≡ standing (index.Length 21) short_index
+short-built : built_over short (replicate 21 9) ≡ standing (Ok 21) short_index
 unfolding computed
 short-built = refl
 
-long-built : built_over long (replicate 29 9) ≡ standing (index.Length 29) long_index
+long-built : built_over long (replicate 29 9) ≡ standing (Ok 29) long_index
 unfolding computed
 long-built = refl
 
-no_room : built_over short (replicate 20 9) ≡ standing (index.Refused 10) (replicate 20 9)
+no_room : built_over short (replicate 20 9) ≡ standing (Err 10) (replicate 20 9)
 unfolding computed
 no_room = refl
 
 -- a bad record comes before the buffer
-bad-record : built_over (refused_scene ++ (255 ∷ [])) [] ≡ standing (index.Refused 2) []
+bad-record : built_over (refused_scene ++ (255 ∷ [])) [] ≡ standing (Err 2) []
 unfolding computed
 bad-record = refl
 
 -- a bad record comes before the limit, and the limit before the buffer
-bad-version : built_up_to 1 (0 ∷ 2 ∷ 2 ∷ 134 ∷ []) [] ≡ standing (index.Refused 1) []
+bad-version : built_up_to 1 (0 ∷ 2 ∷ 2 ∷ 134 ∷ []) [] ≡ standing (Err 1) []
 unfolding computed
 bad-version = refl
 
-over-limit : built_up_to 21 short [] ≡ standing (index.Refused 4) []
+over-limit : built_up_to 21 short [] ≡ standing (Err 4) []
 unfolding computed
 over-limit = refl
 
 -- ---- builds in parts
 
 -- the short log in two parts, cut in its second record; then its end
-first_part : part_over (take 20 short) at_start [] ≡ standing (built.Whole 18 0 (extent 18 1 1)) []
+first_part : part_over (take 20 short) at_start [] ≡ standing (Ok (part_built 18 0 (extent 18 1 1))) []
 unfolding computed
 first_part = refl
 
-second-part : part_over (0 ∷ 2 ∷ 1 ∷ 134 ∷ []) (extent 18 1 1) [] ≡ standing (built.Whole 4 0 (extent 22 2 1)) []
+second-part : part_over (0 ∷ 2 ∷ 1 ∷ 134 ∷ []) (extent 18 1 1) [] ≡ standing (Ok (part_built 4 0 (extent 22 2 1))) []
 unfolding computed
 second-part = refl
 
-the_end : end_over [] (extent 22 2 1) (replicate 22 9) ≡ standing (index.Length 21) (short_index ++ (9 ∷ []))
+the_end : end_over [] (extent 22 2 1) (replicate 22 9) ≡ standing (Ok 21) (short_index ++ (9 ∷ []))
 unfolding computed
 the_end = refl
 
 -- the 64th record completes an entry, which has its room or is refused
 entry-completed : part_over refused_scene (extent 252 63 0) (replicate 9 9)
-    ≡ standing (built.Whole 4 8 (extent 256 64 0)) (0 ∷ 0 ∷ 1 ∷ 0 ∷ 0 ∷ 0 ∷ 0 ∷ 0 ∷ 9 ∷ [])
+    ≡ standing (Ok (part_built 4 8 (extent 256 64 0))) (0 ∷ 0 ∷ 1 ∷ 0 ∷ 0 ∷ 0 ∷ 0 ∷ 0 ∷ 9 ∷ [])
 unfolding computed
 entry-completed = refl
 
-no-room-for-entry : part_over refused_scene (extent 252 63 0) (replicate 7 9) ≡ standing (built.Refused 10) (replicate 7 9)
+no-room-for-entry : part_over refused_scene (extent 252 63 0) (replicate 7 9) ≡ standing (Err 10) (replicate 7 9)
 unfolding computed
 no-room-for-entry = refl
 
-bad-in-part : part_over (0 ∷ 2 ∷ 2 ∷ 134 ∷ []) at_start [] ≡ standing (built.Refused 1) []
+bad-in-part : part_over (0 ∷ 2 ∷ 2 ∷ 134 ∷ []) at_start [] ≡ standing (Err 1) []
 unfolding computed
 bad-in-part = refl
 
 -- bytes that are left come before the limit, and the limit before the buffer
-cut-at-end : end_up_to 21 1 (extent 22 2 1) [] ≡ standing (index.Refused 2) []
+cut-at-end : end_up_to 21 1 (extent 22 2 1) [] ≡ standing (Err 2) []
 unfolding computed
 cut-at-end = refl
 
-end-over-limit : end_up_to 21 0 (extent 22 2 1) [] ≡ standing (index.Refused 4) []
+end-over-limit : end_up_to 21 0 (extent 22 2 1) [] ≡ standing (Err 4) []
 unfolding computed
 end-over-limit = refl
 
 -- ---- new numbers stored
 
 -- the limit is told before the buffer, which holds nothing
-log-too-long : stored_over [] 4294967296 1 0 ≡ standing (index.Refused 4) []
+log-too-long : stored_over [] 4294967296 1 0 ≡ standing (Err 4) []
 unfolding computed
 log-too-long = refl
 
-too_many : stored_over [] 4294967295 4294967296 0 ≡ standing (index.Refused 4) []
+too_many : stored_over [] 4294967295 4294967296 0 ≡ standing (Err 4) []
 unfolding computed
 too_many = refl
 
-numbers-stored : stored_over (empty_index ++ (9 ∷ [])) 22 2 1 ≡ standing (index.Length 21) (short_index ++ (9 ∷ []))
+numbers-stored : stored_over (empty_index ++ (9 ∷ [])) 22 2 1 ≡ standing (Ok 21) (short_index ++ (9 ∷ []))
 unfolding computed
 numbers-stored = refl

@@ -7,8 +7,8 @@ use mathlib.Core.List.{List, ◌++◌}
 use lib.ListN.{length, length-append}
 use lib.Seq.{sets}
 use borrow.Author.Tests.{le-leb, lt-leb, eq-eqb, ne_eqb}
+use Rattle.std.specs.Prelude.{Ok, Err}
 use Rattle.arithmetic.specs.Binary32.{when◌then◌else◌}
-use Rattle.index_building.specs.declared.IndexWritten.TheVariants as index
 use Rattle.index_building.specs.Indexes.{greatest, index_length, entry_place, new_entry, head, standing, laid_over}
 use Rattle.index_building.specs.Stores.{store_fault, stored_over, ends_of, ends_fault, ends_over}
 use Rattle.index_building.proofs.LengthLaws.{entry_length, head-length}
@@ -25,23 +25,23 @@ new-length count total fell = go (ℕ_discrete (count % 64) 0)
     go (no p) = rw (ne_eqb (count % 64) 0 p) (omega arith)
 
 module _ (l : List ℕ) (total count fell : ℕ) where
-  pub stored-long : greatest < total → standing (index.Refused 4) l ≡ stored_over l total count fell
+  pub stored-long : greatest < total → standing (Err 4) l ≡ stored_over l total count fell
   unfolding stored_over store_fault
   stored-long h = rw (lt-leb total greatest h)
 
   module _ (log : total ≤ greatest) where
-    pub stored-many : greatest < count → standing (index.Refused 4) l ≡ stored_over l total count fell
+    pub stored-many : greatest < count → standing (Err 4) l ≡ stored_over l total count fell
     unfolding stored_over store_fault
     stored-many h = rw (le-leb total greatest log, lt-leb count greatest h)
 
     module _ (records : count ≤ greatest) where
-      pub stored_short : length l < index_length count → standing (index.Refused 10) l ≡ stored_over l total count fell
+      pub stored_short : length l < index_length count → standing (Err 10) l ≡ stored_over l total count fell
       unfolding stored_over store_fault
       stored_short h = rw (le-leb total greatest log, le-leb count greatest records, lt-leb (index_length count) (length l) h)
 
       pub stored-done : (m out : List ℕ) (needed : ℕ) → needed ≡ index_length count → index_length count ≤ length l →
           m ≡ sets l 0 (head total count) → out ≡ sets m (entry_place (count + 63)) (new_entry count total fell) →
-          standing (index.Length needed) out ≡ stored_over l total count fell
+          standing (Ok needed) out ≡ stored_over l total count fell
       unfolding stored_over store_fault
       stored-done m out needed e h p q =
           rw (le-leb total greatest log, le-leb count greatest records, le-leb (index_length count) (length l) h, q, p, e)
@@ -53,7 +53,7 @@ unfolding new_entry when◌then◌else◌
 new-short count total fell = omega (arith, new-length count total fell)
 
 module _ (l : List ℕ) (total count fell : ℕ) where
-  pub ends-long : greatest < total → standing (index.Refused 4) l ≡ ends_over l total count fell
+  pub ends-long : greatest < total → standing (Err 4) l ≡ ends_over l total count fell
   unfolding ends_over ends_fault
   ends-long h = rw (lt-leb total greatest h)
 
@@ -63,12 +63,12 @@ module _ (l : List ℕ) (total count fell : ℕ) where
       ∙ ap (λ (n : ℕ). n + length (new_entry count total fell)) (head-length total count)
 
   module _ (log : total ≤ greatest) where
-    pub ends-many : greatest < count → standing (index.Refused 4) l ≡ ends_over l total count fell
+    pub ends-many : greatest < count → standing (Err 4) l ≡ ends_over l total count fell
     unfolding ends_over ends_fault
     ends-many h = rw (le-leb total greatest log, lt-leb count greatest h)
 
     module _ (records : count ≤ greatest) where
-      pub ends-short : length l < 21 → standing (index.Refused 10) l ≡ ends_over l total count fell
+      pub ends-short : length l < 21 → standing (Err 10) l ≡ ends_over l total count fell
       unfolding ends_over ends_fault
       ends-short h = rw (le-leb total greatest log, le-leb count greatest records, lt-leb 21 (length l) h)
 
@@ -84,7 +84,7 @@ module _ (l : List ℕ) (total count fell : ℕ) where
 
         pub ends-done : (m out : List ℕ) (end : ℕ) → m ≡ sets l 0 (head total count) →
             out ≡ sets m 13 (new_entry count total fell) →
-            end ≡ 13 + length (new_entry count total fell) → standing (index.Length end) out ≡ ends_over l total count fell
+            end ≡ 13 + length (new_entry count total fell) → standing (Ok end) out ≡ ends_over l total count fell
         unfolding ends_over ends_fault
         ends-done m out end p q e =
             rw (

@@ -10,6 +10,7 @@ use lib.Dec.{ltb, eqb, leb}
 use lib.ListN.{length, take, drop, length-append, length-drop}
 use lib.Seq.{take_at}
 use borrow.Author.Tests.{le-leb, lt-leb, lt-ltb, ne_eqb}
+use Rattle.std.specs.Prelude.{Result, Ok, Err}
 use Rattle.arithmetic.specs.Binary32.{when◌then◌else◌}
 use Rattle.arithmetic.proofs.Lists.{All, none, more}
 use Rattle.admission.specs.Faults.{Fault, fine, fault, must, ◌⊳◌, unless_fault}
@@ -21,11 +22,8 @@ use Rattle.log_walks.specs.Parts.{records_of, unplaced, wholes_of}
 use Rattle.log_walks.proofs.SplitLaws.{splits, all-bytes, few, fallbacks-few}
 use Rattle.log_walks.proofs.PartLaws.{measures, few-behind, none_found, none-there, tells, tells_part, tells-same, tells-wholes, cut-tells, cut-bad}
 use Rattle.index_building.specs.declared.Extent.{Extent}
-use Rattle.index_building.specs.declared.IndexWritten.{IndexWritten}
-use Rattle.index_building.specs.declared.IndexWritten.TheVariants as index
 use Rattle.index_building.specs.declared.PartBuilt.{PartBuilt}
-use Rattle.index_building.specs.declared.PartBuilt.TheVariants as built
-use Rattle.index_building.specs.Indexes.{greatest, start_of, index_of, Standing, laid_over, put_over, put_index, refused_over}
+use Rattle.index_building.specs.Indexes.{greatest, start_of, index_of, IndexWritten, Standing, laid_over, put_over, put_index, refused_over}
 use Rattle.index_building.specs.Builds.{built_by, built_up_to, built_over, extent, at_start, with_record, entry_here, completed, most64, extent_fault, part_by, part_over, end_fault, end_up_to, end_over}
 use Rattle.index_building.proofs.LengthLaws.{start-length}
 use Rattle.index_building.proofs.BuildLaws.{completed-length, extent-fold}
@@ -44,13 +42,13 @@ put_of buffer (unwritten r) = refused_over buffer r
 -- ---- reads, each behind what the last part left; `room` is lent at each of them
 
 -- the entries that a part wrote, and the way on
-abbrev on_part : (ℕ → List ℕ → Extent → Index) → PartBuilt → List ℕ → Index
-on_part go (built.Refused r) c = unwritten r
-on_part go (built.Whole used n x) c = go used (take n c) x
+abbrev on_part : (ℕ → List ℕ → Extent → Index) → Result PartBuilt ℕ → List ℕ → Index
+on_part go (Err r) c = unwritten r
+on_part go (Ok p) c = go p.used (take p.written c) p.extent
 
 abbrev on_end : List ℕ → IndexWritten → List ℕ → Index
-on_end out (index.Refused r) c = unwritten r
-on_end out (index.Length n) c = written (take n c ++ out)
+on_end out (Err r) c = unwritten r
+on_end out (Ok n) c = written (take n c ++ out)
 
 abbrev pub streamed : List ℕ → List ℕ → Extent → List ℕ → List (List ℕ) → Index
 streamed room left x out [] = on_end out (end_over left x room).told (end_over left x room).contents

@@ -9,6 +9,7 @@ use lib.Dec.{eqb, leb}
 use lib.ListN.{length, length-append}
 use lib.Seq.{sets}
 use borrow.Author.Tests.{lt-ltb, le-ltb, le-leb, lt-leb, leb-true}
+use Rattle.std.specs.Prelude.{Ok, Err}
 use Rattle.arithmetic.specs.Binary32.{when◌then◌else◌}
 use Rattle.admission.specs.Faults.{fine, fault, must, unless_fault}
 use Rattle.admission.proofs.FaultLaws.{⊳-fine, must-fine}
@@ -19,11 +20,8 @@ use Rattle.log_walks.specs.Parts.{records_of, is_whole, wholes_of}
 use Rattle.log_walks.proofs.SplitLaws.{few, sizes-append, fallbacks-append}
 use Rattle.log_walks.proofs.PartLaws.{measures, few-behind, tells, tells_part, tells-wholes}
 use Rattle.index_building.specs.declared.Extent.{Extent}
-use Rattle.index_building.specs.declared.Progress.TheVariants as progress
-use Rattle.index_building.specs.declared.IndexWritten.{IndexWritten}
-use Rattle.index_building.specs.declared.IndexWritten.TheVariants as index
-use Rattle.index_building.specs.Indexes.{index_length, entries_for, entry_with, entry_of, entries, head, start_of, new_entry, index_of, Standing, standing, refused_over, laid_over, put_over, put_index}
-use Rattle.index_building.specs.Builds.{built_by, built_up_to, extent, at_start, with_record, entry_here, completed, most64, extent_fault, completed_by, progress_by, end_fault, end_up_to}
+use Rattle.index_building.specs.Indexes.{index_length, entries_for, entry_with, entry_of, entries, head, start_of, new_entry, index_of, IndexWritten, Standing, standing, refused_over, laid_over, put_over, put_index}
+use Rattle.index_building.specs.Builds.{built_by, built_up_to, extent, at_start, with_record, entry_here, completed, most64, extent_fault, completed_by, Progress, progress_by, end_fault, end_up_to}
 use Rattle.index_building.proofs.LengthLaws.{start-length, index-length}
 use Rattle.index_building.proofs.EntryLaws.{one_more, entries-more}
 use Rattle.index_building.proofs.LaidLaws.{laid-sets, nothing-laid}
@@ -71,6 +69,10 @@ index-completed log_length l =
 
 -- ---- what a build tells, by the records as far as whole ones reach
 
+whole-used : (x : Extent) (l : List Entry) (used u : ℕ) → Ok (used, x) ≡ progress_by 0 at_start (reached l u) → used ≡ 0 + u
+whole-used x l used u e =
+    let same : ◌≡◌ {A = ℕ × Extent} (used, x) (0 + u, foldl with_record at_start l) = cc in ap (λ p. p.0) same
+
 module _ (most : ℕ) (log buffer : List ℕ) where
   abbrev from_records : List Entry → Standing IndexWritten
   from_records l = unless_fault (refused_over buffer) (must (leb (length log) most) 4) (put_index (index_of (length log) l) buffer)
@@ -83,23 +85,23 @@ module _ (most : ℕ) (log buffer : List ℕ) where
   unfolding built_up_to
   built-wholes = by-records (records_of log) ∙ tells-wholes (refused_over buffer) from_records log
 
-  bad-by : (w : Wholes) (r : ℕ) → progress.Fault r ≡ progress_by 0 at_start w → refused_over buffer r
+  bad-by : (w : Wholes) (r : ℕ) → Err r ≡ progress_by 0 at_start w → refused_over buffer r
       ≡ tells_part from_records (refused_over buffer) (length log) w
   bad-by (reached l used) r e = absurd (let z : ◌≡◌ {A = ℕ} 0 1 = cc in omega arith)
   bad-by (stopped n place) r e = let f : r ≡ n = cc in rw f
 
-  pub build-bad : (r : ℕ) → progress.Fault r ≡ progress_by 0 at_start (wholes_of log) → standing (index.Refused r) buffer
+  pub build-bad : (r : ℕ) → Err r ≡ progress_by 0 at_start (wholes_of log) → standing (Err r) buffer
       ≡ built_up_to most log buffer
   build-bad r e = bad-by (wholes_of log) r e ∙ sym built-wholes
 
-  left_by : (w : Wholes) (used : ℕ) (x : Extent) → progress.Whole used x ≡ progress_by 0 at_start w → used < length log →
+  left_by : (w : Wholes) (used : ℕ) (x : Extent) → Ok (used, x) ≡ progress_by 0 at_start w → used < length log →
       refused_over buffer 2 ≡ tells_part from_records (refused_over buffer) (length log) w
   unfolding when◌then◌else◌
   left_by (stopped n place) used x e h = absurd (let z : ◌≡◌ {A = ℕ} 0 1 = cc in omega arith)
-  left_by (reached l u) used x e h = let f : used ≡ 0 + u = cc in rw (lt-ltb u (length log) (omega arith))
+  left_by (reached l u) used x e h = let f = whole-used x l used u e in rw (lt-ltb u (length log) (omega arith))
 
-  pub build-left : (used : ℕ) (x : Extent) → progress.Whole used x ≡ progress_by 0 at_start (wholes_of log) →
-      used < length log → standing (index.Refused 2) buffer ≡ built_up_to most log buffer
+  pub build-left : (used : ℕ) (x : Extent) → Ok (used, x) ≡ progress_by 0 at_start (wholes_of log) →
+      used < length log → standing (Err 2) buffer ≡ built_up_to most log buffer
   build-left used x e h = left_by (wholes_of log) used x e h ∙ sym built-wholes
 
 -- what nothing has, a log of a machine fits behind
@@ -107,17 +109,18 @@ pub start_fits : (n : ℕ) → n ≤ most64 → extent_fault n at_start ≡ fine
 unfolding extent_fault
 start_fits n h = rw (zero-add n, le-leb n most64 h)
 
-ends_by : (log : List ℕ) (used : ℕ) (x : Extent) (w : Wholes) → wholes_of log ≡ w → progress.Whole used x
-    ≡ progress_by 0 at_start w → length log ≤ used → progress_by 0 at_start w ≡ progress.Whole (length log) x
+ends_by : (log : List ℕ) (used : ℕ) (x : Extent) (w : Wholes) → wholes_of log ≡ w → Ok (used, x)
+    ≡ progress_by 0 at_start w → length log ≤ used → progress_by 0 at_start w ≡ Ok (length log, x)
 ends_by log used x (stopped n place) p e h = absurd (let z : ◌≡◌ {A = ℕ} 0 1 = cc in omega arith)
 ends_by log used x (reached l u) p e h =
-    let f : used ≡ 0 + u = cc in
+    let f = whole-used x l used u e in
     let same : used ≡ length log = omega (arith, (few-behind log p).0) in
-    sym e ∙ ap (λ (n : ℕ). progress.Whole n x) same
+    let there : ℕ → Progress = λ n. Ok (n, x) in
+    sym e ∙ ap there same
 
 -- records that leave no byte reach the log's end
-pub ends_there : (log : List ℕ) (used : ℕ) (x : Extent) → progress.Whole used x ≡ progress_by 0 at_start (wholes_of log) →
-    length log ≤ used → progress_by 0 at_start (wholes_of log) ≡ progress.Whole (length log) x
+pub ends_there : (log : List ℕ) (used : ℕ) (x : Extent) → Ok (used, x) ≡ progress_by 0 at_start (wholes_of log) →
+    length log ≤ used → progress_by 0 at_start (wholes_of log) ≡ Ok (length log, x)
 ends_there log used x e h = ends_by log used x (wholes_of log) refl e h
 
 -- a log whose records reach its end
@@ -127,12 +130,12 @@ pub record Reached (log : List ℕ) (x : Extent) : Type 0 where
   pub extends : x ≡ extent (length log) (length list) (fallbacks list)
 
 reached-by : (log : List ℕ) (x : Extent) (w : Wholes) → wholes_of log ≡ w → progress_by 0 at_start w
-    ≡ progress.Whole (length log) x → Reached log x
+    ≡ Ok (length log, x) → Reached log x
 reached-by log x (stopped n place) p e = absurd (let z : ◌≡◌ {A = ℕ} 0 1 = cc in omega arith)
 reached-by log x (reached l u) p e =
-    let f : 0 + u ≡ length log = cc in
-    let g : u ≡ length log = sym (zero-add u) ∙ f in
-    let k : foldl with_record at_start l ≡ x = cc in
+    let same : ◌≡◌ {A = ℕ × Extent} (0 + u, foldl with_record at_start l) (length log, x) = cc in
+    let g : u ≡ length log = sym (zero-add u) ∙ ap (λ p. p.0) same in
+    let k : foldl with_record at_start l ≡ x = ap (λ p. p.1) same in
     let m = measures log p in
     let bytes : 0 + sizes l ≡ length log = omega (arith, m.bytes) in
     record {
@@ -141,7 +144,7 @@ reached-by log x (reached l u) p e =
       extends = sym k ∙ extent-fold at_start l ∙ rw (bytes, zero-add (length l), zero-add (fallbacks l));
     }
 
-pub reached-end : (log : List ℕ) (x : Extent) → progress_by 0 at_start (wholes_of log) ≡ progress.Whole (length log) x →
+pub reached-end : (log : List ℕ) (x : Extent) → progress_by 0 at_start (wholes_of log) ≡ Ok (length log, x) →
     Reached log x
 reached-end log x e = reached-by log x (wholes_of log) refl e
 
@@ -159,14 +162,14 @@ module _ (most : ℕ) (log buffer : List ℕ) (x : Extent) (w : Reached log x) w
   unfolding when◌then◌else◌
   told = built-wholes most log buffer ∙ rw (w.there, le-ltb (length log) (length log) (omega arith))
 
-  pub build-over : most < x.bytes → standing (index.Refused 4) buffer ≡ built_up_to most log buffer
+  pub build-over : most < x.bytes → standing (Err 4) buffer ≡ built_up_to most log buffer
   build-over h = sym (told ∙ rw (lt-leb (length log) most (omega (arith, bytes-told))))
 
   needed : length (index_of (length log) w.list) ≡ index_length x.records
   needed = index-length w.list (length log) ∙ ap index_length (sym records-told)
 
   module _ (fits : x.bytes ≤ most) where
-    pub build-short : length buffer < index_length x.records → standing (index.Refused 10) buffer ≡ built_up_to most log buffer
+    pub build-short : length buffer < index_length x.records → standing (Err 10) buffer ≡ built_up_to most log buffer
     unfolding put_over
     build-short h = sym (told ∙ rw (
       le-leb (length log) most (omega (arith, bytes-told)),
@@ -191,7 +194,7 @@ module _ (most : ℕ) (log buffer : List ℕ) (x : Extent) (w : Reached log x) w
 
     pub build-done : index_length x.records ≤ length buffer → (n : ℕ) → n ≡ index_length x.records →
         (m out : List ℕ) → m ≡ sets buffer 0 (start_of x.bytes x.records) → out ≡ sets m 21 rest →
-        standing (index.Length n) out ≡ built_up_to most log buffer
+        standing (Ok n) out ≡ built_up_to most log buffer
     unfolding put_over
     build-done room n size m out e f =
         let first = start_of x.bytes x.records in
@@ -216,7 +219,7 @@ module _ (most : ℕ) (log buffer : List ℕ) (x : Extent) (w : Reached log x) w
 -- ---- the end of a log that came in parts
 
 module _ (most left : ℕ) (x : Extent) (buffer : List ℕ) where
-  pub end_refused : (r : ℕ) → fault r ≡ end_fault most left x → standing (index.Refused r) buffer ≡ end_up_to most left x buffer
+  pub end_refused : (r : ℕ) → fault r ≡ end_fault most left x → standing (Err r) buffer ≡ end_up_to most left x buffer
   unfolding end_up_to
   end_refused r e = rw (← e)
 
@@ -228,7 +231,7 @@ module _ (most left : ℕ) (x : Extent) (buffer : List ℕ) where
         let b = ⊳-fine (must (leb x.bytes most) 4) a.1 in
         (leb-true _ _ (must-fine _ 4 b.0), leb-true _ _ (must-fine _ 4 b.1))
 
-    pub end_short : length buffer < 21 → standing (index.Refused 10) buffer ≡ end_up_to most left x buffer
+    pub end_short : length buffer < 21 → standing (Err 10) buffer ≡ end_up_to most left x buffer
     unfolding end_up_to put_over
     end_short h = rw (
       ← e,
@@ -237,7 +240,7 @@ module _ (most left : ℕ) (x : Extent) (buffer : List ℕ) where
     )
 
     pub end-done : 21 ≤ length buffer → (out : List ℕ) → out ≡ sets buffer 0 (start_of x.bytes x.records) →
-        standing (index.Length 21) out ≡ end_up_to most left x buffer
+        standing (Ok 21) out ≡ end_up_to most left x buffer
     unfolding end_up_to put_over
     end-done h out p =
         let first = start_of x.bytes x.records in

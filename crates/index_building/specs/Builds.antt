@@ -1,6 +1,6 @@
 -- A build: of a log that is lent whole; and of one that comes in parts, by a step over each and an end (02, T-10).
 -- Definitions only. Assumes nothing.
-use Rattle.std.specs.Prelude.{ℕ, ◌+◌, eqb, leb, length}
+use Rattle.std.specs.Prelude.{ℕ, ◌+◌, eqb, leb, length, Result, Ok, Err}
 use mathlib.Core.List.{List, [], ◌∷◌, ◌++◌, foldl}
 use Rattle.admission.specs.Faults.{Fault, must, ◌⊳◌, unless_fault}
 use Rattle.answer_logs.specs.Logs.{Entry, Records, whole, refused_at}
@@ -8,12 +8,8 @@ use Rattle.answer_logs.specs.Parts.{Wholes, reached, stopped}
 use Rattle.log_walks.specs.Figures.{fallback, size_of}
 use Rattle.log_walks.specs.Parts.{records_of, wholes_of}
 use Rattle.index_building.specs.declared.Extent.{Extent}
-use Rattle.index_building.specs.declared.IndexWritten.{IndexWritten}
 use Rattle.index_building.specs.declared.PartBuilt.{PartBuilt}
-use Rattle.index_building.specs.declared.PartBuilt.TheVariants as built
-use Rattle.index_building.specs.declared.Progress.{Progress}
-use Rattle.index_building.specs.declared.Progress.TheVariants as progress
-use Rattle.index_building.specs.Indexes.{greatest, start_of, new_entry, index_of, Standing, standing, refused_over, put_over, put_index}
+use Rattle.index_building.specs.Indexes.{greatest, start_of, new_entry, index_of, IndexWritten, Standing, standing, refused_over, put_over, put_index}
 
 -- ---- a log lent whole
 
@@ -66,20 +62,27 @@ abbrev pub completed_by : Extent → Wholes → List ℕ
 completed_by x (reached l used) = completed x l
 completed_by x (stopped r place) = []
 
+-- the bytes that are used, and how far it came; or the first bad record's number
+abbrev pub Progress : Type 0
+Progress = Result (ℕ × Extent) ℕ
+
 -- how far the records from a byte on bring it
 abbrev pub progress_by : ℕ → Extent → Wholes → Progress
-progress_by at x (reached l used) = progress.Whole (at + used) (foldl with_record x l)
-progress_by at x (stopped r place) = progress.Fault r
+progress_by at x (reached l used) = Ok (at + used, foldl with_record x l)
+progress_by at x (stopped r place) = Err r
+
+abbrev pub part_built : ℕ → ℕ → Extent → PartBuilt
+part_built used n x = record { used = used; written = n; extent = x }
 
 -- the bytes of the part that are used, those of the entries, and how far it came; or the first bad record's number
-abbrev pub part_by : Extent → List ℕ → Wholes → Standing PartBuilt
-part_by x buffer (stopped r place) = standing (built.Refused r) buffer
+abbrev pub part_by : Extent → List ℕ → Wholes → Standing (Result PartBuilt ℕ)
+part_by x buffer (stopped r place) = standing (Err r) buffer
 part_by x buffer (reached l used) =
-    put_over built.Refused (built.Whole used (length (completed x l)) (foldl with_record x l)) (completed x l) buffer
+    put_over Err (Ok (part_built used (length (completed x l)) (foldl with_record x l))) (completed x l) buffer
 
-unfoldable pub part_over : List ℕ → Extent → List ℕ → Standing PartBuilt
+unfoldable pub part_over : List ℕ → Extent → List ℕ → Standing (Result PartBuilt ℕ)
 part_over part x buffer =
-    unless_fault (λ r. standing (built.Refused r) buffer) (extent_fault (length part) x) (part_by x buffer (wholes_of part))
+    unless_fault (λ r. standing (Err r) buffer) (extent_fault (length part) x) (part_by x buffer (wholes_of part))
 
 -- ---- the log's end
 

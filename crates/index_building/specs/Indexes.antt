@@ -1,12 +1,10 @@
 -- The index's bytes (02, T-10: "a four-byte length of the rest, version byte 1, the log's byte length, the record count, then
 -- the entries"), and how bytes are put into a lent buffer. Definitions only. Assumes nothing.
-use Rattle.std.specs.Prelude.{ℕ, zero, suc, ◌+◌, ◌*◌, ◌/◌, ◌%◌, List, [], ◌∷◌, ◌++◌, eqb, leb, length, take, drop}
+use Rattle.std.specs.Prelude.{ℕ, zero, suc, ◌+◌, ◌*◌, ◌/◌, ◌%◌, List, [], ◌∷◌, ◌++◌, eqb, leb, length, take, drop, Result, Ok, Err}
 use Rattle.arithmetic.specs.Binary32.{when◌then◌else◌}
 use Rattle.words.specs.Words.{word_bytes}
 use Rattle.admission.specs.Faults.{must, unless_fault}
 use Rattle.answer_logs.specs.Logs.{Entry}
-use Rattle.index_building.specs.declared.IndexWritten.{IndexWritten}
-use Rattle.index_building.specs.declared.IndexWritten.TheVariants as index
 use Rattle.log_walks.specs.Figures.{sizes, fallbacks}
 
 -- an entry for every so many records
@@ -79,8 +77,12 @@ pub record Standing (A : Type 0) : Type 0 where
 abbrev pub standing : {A : Type 0} → A → List ℕ → Standing A
 standing t l = record { told = t; contents = l }
 
+-- the bytes of an index that was written, or the number of a refusal
+abbrev pub IndexWritten : Type 0
+IndexWritten = Result ℕ ℕ
+
 abbrev pub refused_over : List ℕ → ℕ → Standing IndexWritten
-refused_over buffer r = standing (index.Refused r) buffer
+refused_over buffer r = standing (Err r) buffer
 
 -- bytes at a buffer's start, and behind them what stood there
 unfoldable pub laid_over : List ℕ → List ℕ → List ℕ
@@ -93,4 +95,4 @@ put_over refused told bytes buffer =
     (standing told (laid_over bytes buffer))
 
 abbrev pub put_index : List ℕ → List ℕ → Standing IndexWritten
-put_index bytes buffer = put_over index.Refused (index.Length (length bytes)) bytes buffer
+put_index bytes buffer = put_over Err (Ok (length bytes)) bytes buffer

@@ -5,11 +5,10 @@ use mathlib.Core.Path.{◌≡◌, refl}
 use mathlib.Core.List.{List, [], ◌∷◌}
 use lib.Ieee.{Float, nan}
 use Rattle.arithmetic.specs.Binary32.{bits, 0ᶠ}
-use Rattle.admission.specs.Faults.{Fault, fine, fault}
+use Rattle.admission.specs.Faults.{fine, fault}
 use Rattle.lines.proofs.Computed.{computed}
 use Rattle.obstacles.proofs.Computed.{faults_computed}
-use Rattle.layouts.specs.declared.Layout.TheVariants as layout
-use Rattle.layouts.specs.Layouts.{kind_fault, count_fault, own_fault, lent_fault, layout_fault, vertex_total, layout_in, left_fault}
+use Rattle.layouts.specs.Layouts.{vertices, at_fault, kind_fault, count_fault, own_fault, lent_fault, layout_fault, vertex_total, layout_in, left_fault}
 
 abbrev pub 1ᶠ : Float
 1ᶠ = bits 0x3F80_0000
@@ -30,19 +29,19 @@ layouts_computed = tt
 pub fewer :
     (layout_in 1 (2 ∷ []) (2 ∷ []) (nan ∷ 0ᶠ ∷ 0ᶠ ∷ []) ∷ layout_in 1 (2 ∷ []) (2 ∷ []) (0ᶠ ∷ 0ᶠ ∷ 0ᶠ ∷ [])
     ∷ layout_in 1 [] [] [] ∷ layout_in 1 (3 ∷ []) [] [] ∷ layout_in 1 (1 ∷ []) [] [] ∷ layout_in 17 [] [] [] ∷ [])
-    ≡ (layout.Fault 6 ∷ layout.Fault 2 ∷ layout.Fault 2 ∷ layout.Fault 3 ∷ layout.Fault 2 ∷ layout.Fault 4 ∷ [])
+    ≡ (at_fault 6 ∷ at_fault 2 ∷ at_fault 2 ∷ at_fault 3 ∷ at_fault 2 ∷ at_fault 4 ∷ [])
 unfolding layouts_computed
 fewer = refl
 
 pub counted :
     (layout_in 1 (2 ∷ []) (0 ∷ []) [] ∷ layout_in 1 (1 ∷ []) (0 ∷ []) [] ∷ layout_in 1 (2 ∷ []) (2 ∷ [])
     (0ᶠ ∷ 0ᶠ ∷ 1ᶠ ∷ 0ᶠ ∷ bits 0x4110_0000 ∷ []) ∷ layout_in 1 (1 ∷ []) (65 ∷ []) [] ∷ [])
-    ≡ (layout.Fault 5 ∷ layout.Vertices 0 ∷ layout.Vertices 2 ∷ layout.Fault 4 ∷ [])
+    ≡ (at_fault 5 ∷ vertices 0 ∷ vertices 2 ∷ at_fault 4 ∷ [])
 unfolding layouts_computed
 counted = refl
 
 -- the running total is met before vertices are missed
-pub running : layout_in 4 (1 ∷ 1 ∷ 1 ∷ 1 ∷ []) (64 ∷ 64 ∷ 64 ∷ 1 ∷ []) (alternating 96) ≡ layout.Fault 4
+pub running : layout_in 4 (1 ∷ 1 ∷ 1 ∷ 1 ∷ []) (64 ∷ 64 ∷ 64 ∷ 1 ∷ []) (alternating 96) ≡ at_fault 4
 unfolding layouts_computed
 running = refl
 
@@ -58,7 +57,7 @@ beyond = refl
 pub doubled :
     (layout_in 1 (2 ∷ []) (2 ∷ []) (0ᶠ ∷ 0ᶠ ∷ -0ᶠ ∷ 0ᶠ ∷ []) ∷ layout_in 1 (2 ∷ []) (3 ∷ []) (0ᶠ ∷ 0ᶠ ∷ 0ᶠ ∷ 0ᶠ ∷ nan
     ∷ []) ∷ layout_in 1 (2 ∷ []) (2 ∷ []) (0ᶠ ∷ 0ᶠ ∷ 0ᶠ ∷ nan ∷ []) ∷ [])
-    ≡ (layout.Fault 14 ∷ layout.Fault 14 ∷ layout.Fault 6 ∷ [])
+    ≡ (at_fault 14 ∷ at_fault 14 ∷ at_fault 6 ∷ [])
 unfolding layouts_computed
 doubled = refl
 
@@ -66,7 +65,7 @@ doubled = refl
 pub apart :
     (layout_in 1 (2 ∷ []) (3 ∷ []) (0ᶠ ∷ 0ᶠ ∷ 0ᶠ ∷ 1ᶠ ∷ 1ᶠ ∷ 1ᶠ ∷ []) ∷ layout_in 1 (2 ∷ []) (3 ∷ [])
     (0ᶠ ∷ 0ᶠ ∷ 1ᶠ ∷ 0ᶠ ∷ 0ᶠ ∷ 0ᶠ ∷ []) ∷ layout_in 2 (2 ∷ 2 ∷ []) (1 ∷ 1 ∷ []) (0ᶠ ∷ 0ᶠ ∷ 0ᶠ ∷ 0ᶠ ∷ []) ∷ [])
-    ≡ (layout.Vertices 3 ∷ layout.Vertices 3 ∷ layout.Vertices 2 ∷ [])
+    ≡ (vertices 3 ∷ vertices 3 ∷ vertices 2 ∷ [])
 unfolding layouts_computed
 apart = refl
 
@@ -74,6 +73,6 @@ apart = refl
 pub closing :
     (layout_in 2 (1 ∷ 3 ∷ []) (3 ∷ []) (0ᶠ ∷ 0ᶠ ∷ 1ᶠ ∷ 0ᶠ ∷ 0ᶠ ∷ -0ᶠ ∷ []) ∷ layout_in 1 (1 ∷ []) (1 ∷ []) (0ᶠ ∷ 0ᶠ ∷ [])
     ∷ layout_in 1 (2 ∷ []) (1 ∷ []) (0ᶠ ∷ 0ᶠ ∷ []) ∷ layout_in 1 (1 ∷ []) (2 ∷ []) (0ᶠ ∷ 0ᶠ ∷ 1ᶠ ∷ 0ᶠ ∷ []) ∷ [])
-    ≡ (layout.Fault 14 ∷ layout.Fault 14 ∷ layout.Vertices 1 ∷ layout.Vertices 2 ∷ [])
+    ≡ (at_fault 14 ∷ at_fault 14 ∷ vertices 1 ∷ vertices 2 ∷ [])
 unfolding layouts_computed
 closing = refl

@@ -7,7 +7,7 @@ use lib.Dec.{leb}
 use lib.ListN.{length, drop, get_or, length-drop}
 use lib.Ieee.{Float}
 use borrow.Author.Tests.{leb-true}
-use Rattle.admission.specs.Faults.{fine, must, ◌⊳◌}
+use Rattle.admission.specs.Faults.{fine, must}
 use Rattle.admission.proofs.FaultLaws.{no-fault, ⊳-fine, must-fine}
 use Rattle.admission.specs.Heads.{head_of}
 use Rattle.obstacles.proofs.ObstacleFaults.{outline-lent}

@@ -16,9 +16,7 @@ use Rattle.admission.proofs.FaultLaws.{no-fault, ⊳-fine, must-fine}
 use Rattle.admission.proofs.HeadLaws.{room_within}
 use Rattle.obstacles.proofs.ObstacleFaults.{outline-lent}
 use Rattle.dodgy_2d.specs.Scenes.{most_obstacles}
-use Rattle.layouts.specs.declared.Layout.{Layout}
-use Rattle.layouts.specs.declared.Layout.TheVariants as layout
-use Rattle.layouts.specs.Layouts.{kind_fault, count_fault, own_kind, own_count, own_fault, lent_fault, layout_fault, vertex_total, layout_in, fault_in}
+use Rattle.layouts.specs.Layouts.{Layout, vertices, at_fault, kind_fault, count_fault, own_kind, own_count, own_fault, lent_fault, layout_fault, vertex_total, layout_in, fault_in}
 
 -- ---- a field at a place: lent, or missing
 
@@ -120,20 +118,16 @@ own-there total ks cs xs h e =
 -- ---- the whole
 
 module _ (ks cs : List ℕ) (xs : List Float) (n : ℕ) where
-  pub too_many : most_obstacles < n → layout.Fault 4 ≡ layout_in n ks cs xs
-  unfolding layout_in layout_fault
-  too_many h = rw (lt-leb n most_obstacles h)
-
-  pub told-fault : (r : ℕ) → n ≤ most_obstacles → lent_fault 0 n ks cs xs ≡ fault r → layout.Fault r ≡ layout_in n ks cs xs
+  pub told-fault : (r : ℕ) → n ≤ most_obstacles → lent_fault 0 n ks cs xs ≡ fault r → at_fault r ≡ layout_in n ks cs xs
   unfolding layout_in layout_fault
   told-fault r h e = rw (le-leb n most_obstacles h, e)
 
   pub told-total : (t : ℕ) → n ≤ most_obstacles → lent_fault 0 n ks cs xs ≡ fine → vertex_total n cs ≡ t →
-      layout.Vertices t ≡ layout_in n ks cs xs
+      vertices t ≡ layout_in n ks cs xs
   unfolding layout_in layout_fault
   told-total t h e f = rw (le-leb n most_obstacles h, e, f)
 
-  told_of : (f : Fault) (t : ℕ) → fault_in (unless_fault layout.Fault f (layout.Vertices t)) ≡ f
+  told_of : (f : Fault) (t : ℕ) → fault_in (unless_fault at_fault f (vertices t)) ≡ f
   told_of fine t = refl
   told_of (fault r) t = refl
 
@@ -143,10 +137,10 @@ module _ (ks cs : List ℕ) (xs : List Float) (n : ℕ) where
   layout-fault e = ap fault_in e ∙ told_of (layout_fault n ks cs xs) (vertex_total n cs)
 
   unfoldable total_in : Layout → ℕ
-  total_in (layout.Vertices t) = t
-  total_in (layout.Fault r) = 0
+  total_in (vertices t) = t
+  total_in (at_fault r) = 0
 
-  pub layout-total : {t : ℕ} → layout.Vertices t ≡ layout_in n ks cs xs → t ≡ vertex_total n cs
+  pub layout-total : {t : ℕ} → vertices t ≡ layout_in n ks cs xs → t ≡ vertex_total n cs
   unfolding layout_in total_in
   layout-total e =
       let passed : layout_fault n ks cs xs ≡ fine = sym (layout-fault e) in

@@ -1,13 +1,18 @@
 -- Obstacles lent as numbers, and their first fault in the order of a scene's fields (02, T-01 "Refusals: 2 to 7 as in
 -- the reader's field order, 2 meaning fewer or more numbers lent than the counts say", T-08 and T-11). Each list is
 -- what is left of what was lent. Definitions only. Assumes nothing.
-use Rattle.std.specs.Prelude.{ℕ, zero, suc, ◌+◌, ◌*◌, not, List, [], ◌∷◌, leb, length, drop, get_or, Float}
+use Rattle.std.specs.Prelude.{ℕ, zero, suc, ◌+◌, ◌*◌, not, List, [], ◌∷◌, leb, length, drop, get_or, Float, Result, Ok, Err}
+use Rattle.admission.specs.declared.refusal.Refusal.{Refusal}
+use Rattle.admission.specs.Refusals.{number_of}
 use Rattle.admission.specs.Faults.{Fault, fine, fault, must, ◌⊳◌, unless_fault}
 use Rattle.admission.specs.Heads.{head_of, is_kind, room_for, is_empty_open}
 use Rattle.obstacles.specs.ObstacleFaults.{outline_fault}
 use Rattle.dodgy_2d.specs.Scenes.{most_obstacles}
-use Rattle.layouts.specs.declared.Layout.{Layout}
-use Rattle.layouts.specs.declared.Layout.TheVariants as layout
+
+-- how many vertices an admitted layout has; or the number of its first fault
+pub data Layout : Type 0 where
+  vertices : ℕ → Layout
+  at_fault : ℕ → Layout
 
 -- ---- one field: first whether it is lent (2), then its own rule
 
@@ -48,14 +53,24 @@ vertex_total zero cs = 0
 vertex_total (suc n) cs = own_count cs + vertex_total n (drop 1 cs)
 
 unfoldable pub layout_in : ℕ → List ℕ → List ℕ → List Float → Layout
-layout_in n ks cs xs = unless_fault layout.Fault (layout_fault n ks cs xs) (layout.Vertices (vertex_total n cs))
+layout_in n ks cs xs = unless_fault at_fault (layout_fault n ks cs xs) (vertices (vertex_total n cs))
 
 -- the number that is told, or none
 abbrev pub fault_in : Layout → Fault
-fault_in (layout.Vertices t) = fine
-fault_in (layout.Fault r) = fault r
+fault_in (vertices t) = fine
+fault_in (at_fault r) = fault r
 
 -- ---- "more numbers lent than the counts say": 2, told behind everything else
 
 unfoldable pub left_fault : ℕ → ℕ → List ℕ → List ℕ → List Float → Fault
 left_fault n total ks cs xs = must (leb (length ks) n) 2 ⊳ must (leb (length cs) n) 2 ⊳ must (leb (length xs) (2 * total)) 2
+
+-- ---- what the code says: a layout, or a field's fault where there is more to tell
+
+abbrev pub layout_of : Result ℕ Refusal → Layout
+layout_of (Ok t) = vertices t
+layout_of (Err r) = at_fault (number_of r)
+
+abbrev pub fault_told : {A : Type 0} → Result A Refusal → Fault
+fault_told (Ok _) = fine
+fault_told (Err r) = fault (number_of r)

@@ -8,11 +8,11 @@ ghost use Rattle.lines.specs.Lines.{line as line_of, lines_of, off_line, line_st
 ghost use Rattle.lines.specs.LineFaults.{line_fault, lines_fault};
 ghost use Rattle.lines.specs.Origins.{unknown, origins_of, origin_stored};
 
-use admission::{Judged, fault_unless, first_of, is_inside, is_within};
+use admission::{Judged, Refusal, is_inside, is_within};
 use common::Vec2;
 
 // A half-plane to the left of `direction` through `point`.
-#[derive(Clone, Copy)]
+#[derive(Clone, Copy, Debug, PartialEq)]
 pub struct Line {
     pub point: Vec2,
     pub direction: Vec2,
@@ -42,7 +42,7 @@ impl Line {
 
 // Where a line comes from (02, T-06), in three whole numbers: its kind, then places counted from 0, an edge's obstacle
 // and left vertex, or a neighbour's own and 0. Nothing is judged of them: they are kept as they stand.
-#[derive(Clone, Copy)]
+#[derive(Clone, Copy, Debug, PartialEq, Eq)]
 pub struct Origin {
     pub kind: u32,
     pub place: u32,
@@ -144,27 +144,21 @@ pub fn put_origin(numbers: &mut [u32], i: usize, origin: Origin)
 pub fn judge_line(line: Line) -> Judged
     ensures { fault_of result ≡ line_fault line }
 {
-    let point_x = fault_unless(is_within(Line::REACH, line.point.x), 6);
-    let point_y = fault_unless(is_within(Line::REACH, line.point.y), 6);
-    let x = fault_unless(arithmetic::is_finite(line.direction.x), 6);
-    let y = fault_unless(arithmetic::is_finite(line.direction.y), 6);
+    let point_x = Refusal::OutOfRange.unless(is_within(Line::REACH, line.point.x));
+    let point_y = Refusal::OutOfRange.unless(is_within(Line::REACH, line.point.y));
+    let x = Refusal::OutOfRange.unless(arithmetic::is_finite(line.direction.x));
+    let y = Refusal::OutOfRange.unless(arithmetic::is_finite(line.direction.y));
     let squared = line.direction.length_squared();
-    let band = fault_unless(is_inside(Line::BAND_LOW, Line::BAND_HIGH, squared), 7);
-    first_of(point_x, first_of(point_y, first_of(x, first_of(y, band))))
+    let band = Refusal::OutOfBand.unless(is_inside(Line::BAND_LOW, Line::BAND_HIGH, squared));
+    point_x.and(point_y).and(x).and(y).and(band)
 }
 
 // The first fault of a list of lines that is lent as numbers, four a line; numbers that make no whole line are passed over.
 pub fn judge_lines(numbers: &[f32]) -> Judged
     ensures { fault_of result ≡ lines_fault (lines_of numbers.now) }
 {
-    let count = numbers.len() / 4;
-    let mut i = 0usize;
-    while i < count {
-        let judged = judge_line(line_at(numbers, i));
-        let Judged::Fine = judged else {
-            return judged;
-        };
-        i += 1;
+    for i in 0..numbers.len() / 4 {
+        judge_line(line_at(numbers, i))?;
     }
-    Judged::Fine
+    Ok(())
 }

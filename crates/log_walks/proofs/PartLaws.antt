@@ -8,12 +8,12 @@ use mathlib.Core.List.{List, [], ◌∷◌, ◌++◌, append-nil}
 use lib.Dec.{ltb}
 use lib.ListN.{length, drop, length-drop, length-append}
 use lib.Seq.{drop-drop}
+use Rattle.std.specs.Prelude.{Some, None, Ok, Err}
 use Rattle.arithmetic.specs.Binary32.{when◌then◌else◌}
 use Rattle.answer_records.specs.Answers.{longest_answer}
 use Rattle.answer_logs.specs.Logs.{Entry, Found, ended, bad, entry, found_in, Records, whole, refused_at, ahead, records_from, records_in}
 use Rattle.answer_logs.specs.Parts.{waits, found_whole, whole_at, Wholes, reached, stopped, ahead_whole, onward_whole, wholes_from}
 use Rattle.answer_logs.proofs.CutLaws.{ahead_all, joined_to, cut-anywhere, closing, closed, few-left}
-use Rattle.log_walks.specs.declared.Passed.TheVariants as passed
 use Rattle.log_walks.specs.Figures.{fallback, size_of, sizes}
 use Rattle.log_walks.specs.Parts.{records_of, unplaced, wholes_of}
 use Rattle.log_walks.specs.Walks.{passed_by}
@@ -105,7 +105,7 @@ module _ (part : List ℕ) (at : ℕ) where
       ≡ onward_whole 0 (λ size. wholes_of (drop size (drop at part))) f
   by-found e = first-whole (drop at part) ∙ ap (onward_whole 0 (λ size. wholes_of (drop size (drop at part)))) e
 
-  pub part-passed : (behind m : ℕ) → passed.Record behind m ≡ passed_by (whole_at part at) → Passes part at behind m
+  pub part-passed : (behind m : ℕ) → Ok (Some (behind, m)) ≡ passed_by (whole_at part at) → Passes part at behind m
   unfolding whole_at
   part-passed behind m e =
       let r = passed-by at behind m (found_whole (drop at part)) e in
@@ -122,11 +122,11 @@ module _ (part : List ℕ) (at : ℕ) where
         walks = by-found r.there ∙ rw (back, drop-drop r.size at part, ← r.ends);
       }
 
-  pub part-bad : (r : ℕ) → passed.Fault r ≡ passed_by (whole_at part at) → wholes_of (drop at part) ≡ stopped r 0
+  pub part-bad : (r : ℕ) → Err r ≡ passed_by (whole_at part at) → wholes_of (drop at part) ≡ stopped r 0
   unfolding whole_at
   part-bad r e = by-found (bad-by at r (found_whole (drop at part)) e)
 
-  pub part-ended : passed.End ≡ passed_by (whole_at part at) → wholes_of (drop at part) ≡ reached [] 0
+  pub part-ended : Ok None ≡ passed_by (whole_at part at) → wholes_of (drop at part) ≡ reached [] 0
   unfolding whole_at
   part-ended e = by-found (end_by at (found_whole (drop at part)) e)
 

@@ -10,7 +10,7 @@ use Rattle.answer_records.specs.declared.Answer.{Answer}
 use Rattle.answer_records.specs.Replies as said
 use Rattle.answer_records.specs.Replies.{answer_in}
 use Rattle.answer_logs.specs.Logs.{Entry, outcome, refusal, Found, ended, bad, entry, found_in, Records, whole, refused_at, ahead, onward, records_from, records_in}
-use Rattle.log_walks.specs.declared.Met.TheVariants as met
+use Rattle.std.specs.Prelude.{Ok}
 use Rattle.log_walks.specs.Figures.{size_of, sizes, fallbacks}
 use Rattle.log_walks.specs.Parts.{records_of}
 use Rattle.log_walks.specs.Walks.{walked}
@@ -96,7 +96,7 @@ splits-behind (suc n) (next {s} {e} {l} p k t) h =
 
 -- a walk meets the records one by one
 pub walked_whole : (n : ℕ) {s : List ℕ} {l : List Entry} → Splits s l → n ≤ length l →
-    walked n s ≡ met.Count (fallbacks (take n l))
+    walked n s ≡ Ok (fallbacks (take n l))
 unfolding walked fallbacks
 walked_whole zero t h = refl
 walked_whole (suc n) none h = absurd (omega arith)

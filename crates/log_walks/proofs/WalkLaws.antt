@@ -7,14 +7,12 @@ use mathlib.Core.Bool.{Bool, true, false}
 use mathlib.Core.List.{List}
 use lib.ListN.{length, take, drop, length-take, length-drop}
 use lib.Seq.{take-take, drop-drop}
+use Rattle.std.specs.Prelude.{Some, None, Ok, Err}
 use Rattle.arithmetic.specs.Binary32.{when◌then◌else◌}
 use Rattle.answer_records.specs.Answers.{longest_answer}
 use Rattle.answer_logs.specs.Logs.{Entry, outcome, refusal, Found, ended, bad, entry, found_in, logged_as, logged_at}
-use Rattle.log_walks.specs.declared.Met.{Met}
-use Rattle.log_walks.specs.declared.Met.TheVariants as met
-use Rattle.log_walks.specs.declared.Passed.TheVariants as passed
 use Rattle.log_walks.specs.Figures.{is_fallback, fallback}
-use Rattle.log_walks.specs.Walks.{more, onward, walked, own_bytes, reach_by, reach, passed_by, passed_at}
+use Rattle.log_walks.specs.Walks.{Met, more, onward, walked, own_bytes, reach_by, reach, passed_by, passed_at}
 use Rattle.log_walks.proofs.FoundLaws.{Sized, sized-end, sized, entry_found, size-within, own-entry, own-most, Alike, found_alike, end-alike, behind-alike}
 
 -- ---- what a walk rests on
@@ -79,35 +77,34 @@ pub record Met-record (found : Found) (at behind more : ℕ) : Type 0 where
   pub ends : behind ≡ at + size
   pub counts : more ≡ fallback one
 
-pub passed-by : (at behind m : ℕ) (f : Found) → passed.Record behind m ≡ passed_by (logged_as at f) → Met-record f at behind m
+pub passed-by : (at behind m : ℕ) (f : Found) → Ok (Some (behind, m)) ≡ passed_by (logged_as at f) → Met-record f at behind m
 passed-by at behind m ended e = absurd (let z : ◌≡◌ {A = ℕ} 0 1 = cc in omega arith)
 passed-by at behind m (bad r) e = absurd (let z : ◌≡◌ {A = ℕ} 0 1 = cc in omega arith)
-passed-by at behind m (entry (outcome a) size) e = record { one = outcome a; size = size; there = refl; ends = cc; counts = cc }
-passed-by at behind m (entry (refusal n) size) e = record { one = refusal n; size = size; there = refl; ends = cc; counts = cc }
+passed-by at behind m (entry x size) e =
+    let same : ◌≡◌ {A = ℕ × ℕ} (behind, m) (at + size, fallback x) = cc in
+    record { one = x; size = size; there = refl; ends = ap (λ p. p.0) same; counts = ap (λ p. p.1) same }
 
 -- a bad one, and the end
-pub bad-by : (at r : ℕ) (f : Found) → passed.Fault r ≡ passed_by (logged_as at f) → f ≡ bad r
+pub bad-by : (at r : ℕ) (f : Found) → Err r ≡ passed_by (logged_as at f) → f ≡ bad r
 bad-by at r ended e = absurd (let z : ◌≡◌ {A = ℕ} 0 1 = cc in omega arith)
 bad-by at r (bad m) e = let z : r ≡ m = cc in rw z
-bad-by at r (entry (outcome a) size) e = absurd (let z : ◌≡◌ {A = ℕ} 0 1 = cc in omega arith)
-bad-by at r (entry (refusal n) size) e = absurd (let z : ◌≡◌ {A = ℕ} 0 1 = cc in omega arith)
+bad-by at r (entry x size) e = absurd (let z : ◌≡◌ {A = ℕ} 0 1 = cc in omega arith)
 
-pub end_by : (at : ℕ) (f : Found) → passed.End ≡ passed_by (logged_as at f) → f ≡ ended
+pub end_by : (at : ℕ) (f : Found) → Ok None ≡ passed_by (logged_as at f) → f ≡ ended
 end_by at ended e = refl
 end_by at (bad m) e = absurd (let z : ◌≡◌ {A = ℕ} 0 1 = cc in omega arith)
-end_by at (entry (outcome a) size) e = absurd (let z : ◌≡◌ {A = ℕ} 0 1 = cc in omega arith)
-end_by at (entry (refusal n) size) e = absurd (let z : ◌≡◌ {A = ℕ} 0 1 = cc in omega arith)
+end_by at (entry x size) e = absurd (let z : ◌≡◌ {A = ℕ} 0 1 = cc in omega arith)
 
 module _ (log : List ℕ) (at : ℕ) where
-  pub passed-record : (behind m : ℕ) → passed.Record behind m ≡ passed_at log at → Met-record (found_in (drop at log)) at behind m
+  pub passed-record : (behind m : ℕ) → Ok (Some (behind, m)) ≡ passed_at log at → Met-record (found_in (drop at log)) at behind m
   unfolding logged_at
   passed-record behind m e = passed-by at behind m (found_in (drop at log)) e
 
-  passed-bad : (r n : ℕ) → passed.Fault r ≡ passed_at log at → walked (suc n) (drop at log) ≡ met.Fault r
+  passed-bad : (r n : ℕ) → Err r ≡ passed_at log at → walked (suc n) (drop at log) ≡ Err r
   unfolding logged_at walked
   passed-bad r n e = rw (bad-by at r (found_in (drop at log)) e)
 
-  passed-end : (n : ℕ) → passed.End ≡ passed_at log at → walked (suc n) (drop at log) ≡ met.Fault 2
+  passed-end : (n : ℕ) → Ok None ≡ passed_at log at → walked (suc n) (drop at log) ≡ Err 2
   unfolding logged_at walked
   passed-end n e = rw (end_by at (found_in (drop at log)) e)
 
@@ -129,12 +126,12 @@ module _ (log : List ℕ) (at : ℕ) where
 -- ---- the walk's loop
 
 pub none_more : (f : Met) → more 0 f ≡ f
-none_more (met.Count n) = rw zero-add
-none_more (met.Fault r) = refl
+none_more (Ok n) = rw zero-add
+none_more (Err r) = refl
 
 pub more-more : (a b : ℕ) (f : Met) → more a (more b f) ≡ more (a + b) f
-more-more a b (met.Count n) = rw add_assoc
-more-more a b (met.Fault r) = refl
+more-more a b (Ok n) = rw add_assoc
+more-more a b (Err r) = refl
 
 -- i records are passed, `found` fallbacks among them, and the rest of the walk starts at place `at`
 pub record Going (s : List ℕ) (count at found i : ℕ) : Type 0 where
@@ -146,7 +143,7 @@ module _ {s : List ℕ} {count at found i : ℕ} (g : Going s count at found i) 
   left : count - i ≡ suc (count - (i + 1))
   left = omega arith
 
-  pub goes_on : (behind m : ℕ) → passed.Record behind m ≡ passed_at s at → Going s count behind (found + m) (i + 1)
+  pub goes_on : (behind m : ℕ) → Ok (Some (behind, m)) ≡ passed_at s at → Going s count behind (found + m) (i + 1)
   goes_on behind m e =
       let r = passed-record s at behind m e in
       record {
@@ -155,13 +152,13 @@ module _ {s : List ℕ} {count at found i : ℕ} (g : Going s count at found i) 
         same = g.same ∙ rw (left, passed-walk s at behind m r (count - (i + 1)), more-more);
       }
 
-  pub stops : (r : ℕ) → passed.Fault r ≡ passed_at s at → met.Fault r ≡ walked count s
+  pub stops : (r : ℕ) → Err r ≡ passed_at s at → Err r ≡ walked count s
   stops r e = sym (g.same ∙ rw (left, passed-bad s at r (count - (i + 1)) e))
 
-  pub ends : passed.End ≡ passed_at s at → met.Fault 2 ≡ walked count s
+  pub ends : Ok None ≡ passed_at s at → Err 2 ≡ walked count s
   ends e = sym (g.same ∙ rw (left, passed-end s at (count - (i + 1)) e))
 
-pub goes_through : {s : List ℕ} {count at found i : ℕ} → Going s count at found i → count ≤ i → met.Count found ≡ walked count s
+pub goes_through : {s : List ℕ} {count at found i : ℕ} → Going s count at found i → count ≤ i → Ok found ≡ walked count s
 unfolding walked
 goes_through {count = count} {i = i} g h = let none : count - i ≡ 0 = omega arith in sym (g.same ∙ rw (none, add-zero))
 
@@ -172,18 +169,18 @@ begins s count =
 
 -- ---- fallbacks are no more than records
 
-more-found : {C : Type 0} (k m : ℕ) (f : Met) → more k f ≡ met.Count m → ((j : ℕ) → f ≡ met.Count j → k + j ≡ m → C) → C
-more-found k m (met.Count j) e go = go j refl cc
-more-found k m (met.Fault r) e go = absurd (let z : ◌≡◌ {A = ℕ} 0 1 = cc in omega arith)
+more-found : {C : Type 0} (k m : ℕ) (f : Met) → more k f ≡ Ok m → ((j : ℕ) → f ≡ Ok j → k + j ≡ m → C) → C
+more-found k m (Ok j) e go = go j refl cc
+more-found k m (Err r) e go = absurd (let z : ◌≡◌ {A = ℕ} 0 1 = cc in omega arith)
 
-onward-few : (n : ℕ) (next : ℕ → Met) → ((size j : ℕ) → next size ≡ met.Count j → j ≤ n) → (f : Found) (m : ℕ) →
-    onward next f ≡ met.Count m → m ≤ suc n
+onward-few : (n : ℕ) (next : ℕ → Met) → ((size j : ℕ) → next size ≡ Ok j → j ≤ n) → (f : Found) (m : ℕ) →
+    onward next f ≡ Ok m → m ≤ suc n
 onward-few n next few ended m e = absurd (let z : ◌≡◌ {A = ℕ} 0 1 = cc in omega arith)
 onward-few n next few (bad r) m e = absurd (let z : ◌≡◌ {A = ℕ} 0 1 = cc in omega arith)
 onward-few n next few (entry x size) m e =
     more-found (fallback x) m (next size) e λ j p q. omega (arith, few size j p, one-fallback x)
 
-pub walked-few : (n : ℕ) (s : List ℕ) (m : ℕ) → walked n s ≡ met.Count m → m ≤ n
+pub walked-few : (n : ℕ) (s : List ℕ) (m : ℕ) → walked n s ≡ Ok m → m ≤ n
 unfolding walked
 walked-few zero s m e = let z : 0 ≡ m = cc in omega arith
 walked-few (suc n) s m e = onward-few n _ (λ size j p. walked-few n (drop size s) j p) (found_in s) m e

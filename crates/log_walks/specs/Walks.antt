@@ -1,32 +1,30 @@
 -- A walk over some records from the start of the bytes, and how many bytes it rests on (02, T-10). Definitions only.
 -- Assumes nothing.
-use Rattle.std.specs.Prelude.{ℕ, zero, suc, ◌+◌, List, leb, drop}
+use Rattle.std.specs.Prelude.{ℕ, zero, suc, ◌+◌, List, leb, drop, Option, Some, None, Result, Ok, Err}
 use Rattle.arithmetic.specs.Binary32.{when◌then◌else◌}
 use Rattle.answer_records.specs.Answers.{longest_answer}
 use Rattle.answer_logs.specs.Logs.{Found, ended, bad, entry, size_in, found_in}
-use Rattle.answer_logs.specs.declared.Logged.{Logged}
-use Rattle.answer_logs.specs.declared.Logged.TheVariants as logged
-use Rattle.answer_logs.specs.Logs.{outcome, refusal, logged_at}
-use Rattle.log_walks.specs.declared.Met.{Met}
-use Rattle.log_walks.specs.declared.Met.TheVariants as met
-use Rattle.log_walks.specs.declared.Passed.{Passed}
-use Rattle.log_walks.specs.declared.Passed.TheVariants as passed
+use Rattle.answer_logs.specs.Logs.{Logged, nothing, faulty, placed, logged_at}
 use Rattle.log_walks.specs.Figures.{fallback}
+
+-- the fallbacks met on a walk, or the number of the first bad record's fault
+abbrev pub Met : Type 0
+Met = Result ℕ ℕ
 
 -- n fallbacks more
 abbrev pub more : ℕ → Met → Met
-more n (met.Count m) = met.Count (n + m)
-more n (met.Fault r) = met.Fault r
+more n (Ok m) = Ok (n + m)
+more n (Err r) = Err r
 
 -- a bad record is told, and the log's end as 2; behind a record `next` goes on
 abbrev pub onward : (ℕ → Met) → Found → Met
-onward next ended = met.Fault 2
-onward next (bad r) = met.Fault r
+onward next ended = Err 2
+onward next (bad r) = Err r
 onward next (entry e size) = more (fallback e) (next size)
 
 -- the fallbacks among n records
 unfoldable pub walked : ℕ → List ℕ → Met
-walked zero s = met.Count 0
+walked zero s = Ok 0
 walked (suc n) s = onward (λ size. walked n (drop size s)) (found_in s)
 
 -- ---- the bytes that a walk rests on
@@ -48,11 +46,13 @@ reach (suc n) s = reach_by (own_bytes s) (λ size. reach n (drop size s)) (found
 -- ---- a step of a walk
 
 -- a record by the byte behind it and 1 for a fallback; a bad one by its number; or the end
+abbrev pub Passed : Type 0
+Passed = Result (Option (ℕ × ℕ)) ℕ
+
 abbrev pub passed_by : Logged → Passed
-passed_by logged.End = passed.End
-passed_by (logged.Fault r) = passed.Fault r
-passed_by (logged.Outcome a behind) = passed.Record behind (fallback (outcome a))
-passed_by (logged.Refusal n behind) = passed.Record behind (fallback (refusal n))
+passed_by nothing = Ok None
+passed_by (faulty r) = Err r
+passed_by (placed e behind) = Ok (Some (behind, fallback e))
 
 abbrev pub passed_at : List ℕ → ℕ → Passed
 passed_at log at = passed_by (logged_at log at)

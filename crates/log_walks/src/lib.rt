@@ -3,62 +3,49 @@
 
 ghost use Rattle.std.specs.Prelude.{◌≡◌};
 ghost use Rattle.arithmetic.specs.Binary32.{when◌then◌else◌};
-ghost use Rattle.log_walks.specs.Figures.{is_fallback};
+ghost use Rattle.answer_records.specs.Numbers.{numbered};
+ghost use Rattle.answer_logs.specs.Logs.{entry_of, logged_of};
+ghost use Rattle.log_walks.specs.Figures.{is_fallback, fallback};
 ghost use Rattle.log_walks.specs.Walks.{walked, passed_by};
 
+use admission::Refusal;
 use answer_logs::Logged;
+use answer_records::Reply;
 
-// The fallbacks met on a walk, or the number of the first bad record's fault.
-#[derive(Clone, Copy)]
-pub enum Met {
-    Count(u64),
-    Fault(u8),
-}
+// A record, as the byte behind it and 1 for a fallback, else 0; or none at the end of the bytes. A bad record is refused.
+pub type Passed = Result<Option<(usize, u64)>, Refusal>;
 
-// A record: the byte behind it, and 1 for a fallback, else 0; the number of a bad record's fault; or the end of the bytes.
-#[derive(Clone, Copy)]
-pub enum Passed {
-    Record(usize, u64),
-    Fault(u8),
-    End,
-}
-
-// The fallbacks among so many records from the start of the bytes, or the number of the first bad one's fault; the end of
-// the bytes before that many is the fault 2.
-pub fn walk(bytes: &[u8], count: usize) -> Met
-    ensures { result ≡ walked count bytes.now }
+// The fallbacks among so many records from the start of the bytes. The first bad one is refused, and the end of the bytes
+// before that many with 2.
+pub fn walk(bytes: &[u8], count: usize) -> Result<u64, Refusal>
+    ensures { numbered result ≡ walked count bytes.now }
 {
     let mut at = 0;
-    let mut met: u64 = 0;
-    let mut i = 0;
-    while i < count {
-        let passed = pass(answer_logs::record_at(bytes, at));
-        match passed {
-            Passed::Fault(number) => {
-                return Met::Fault(number);
-            }
-            Passed::End => {
-                return Met::Fault(2);
-            }
-            Passed::Record(behind, more) => {
-                at = behind;
-                met += more;
-                i += 1;
-            }
-        }
+    let mut met = 0;
+    for _ in 0..count {
+        let Some((behind, more)) = pass(answer_logs::record_at(bytes, at))? else {
+            return Err(Refusal::MissingOrLeftOver);
+        };
+        at = behind;
+        met += more;
     }
-    Met::Count(met)
+    Ok(met)
 }
 
 // What stands at a byte of a log, as a walk passes it.
 pub fn pass(logged: Logged) -> Passed
-    ensures { result ≡ passed_by logged }
+    ensures { numbered result ≡ passed_by (logged_of logged) }
 {
-    match logged {
-        Logged::Outcome(answer, behind) => Passed::Record(behind, fallback(answer.code)),
-        Logged::Refusal(_, behind) => Passed::Record(behind, 0),
-        Logged::Fault(number) => Passed::Fault(number),
-        Logged::End => Passed::End,
+    Ok(logged?.map(|(reply, behind)| (behind, fallback_in(reply))))
+}
+
+// 1 for a record that is a fallback, else 0.
+pub fn fallback_in(reply: Reply) -> u64
+    ensures { result ≡ fallback (entry_of reply) }
+{
+    match reply {
+        Reply::Outcome(answer) => fallback(answer.code),
+        Reply::Refusal(_) => 0,
     }
 }
 

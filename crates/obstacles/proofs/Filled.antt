@@ -10,9 +10,8 @@ use lib.Ieee.{Float}
 use Rattle.arithmetic.specs.Binary32.{0ᶠ}
 use Rattle.lines.specs.declared.Line.{Line}
 use Rattle.lines.specs.Lines.{lines_of, four_of, numbers_of}
-use Rattle.admission.specs.Faults.{fine, judged_as}
+use Rattle.std.specs.Prelude.{Ok}
 use Rattle.lines.proofs.Rows.{lines_long}
-use Rattle.obstacles.specs.declared.ObstacleLines.{ObstacleLines}
 use Rattle.obstacles.specs.Obstacles.{lines}
 use Rattle.obstacles.specs.Read.{blank_numbers, answer_as}
 use Rattle.lines.proofs.Numbers.{numbers-back, stored-drop}
@@ -50,8 +49,7 @@ filled_next b n l h f = record {
 }
 
 pub filled-answer : (b : List Float) (n : ℕ) → n ≤ 64 → Filled n b →
-    ◌≡◌ {A = ObstacleLines} (record { lines = b; count = n; judged = judged_as fine })
-    (answer_as (lines (lines_of (take (4 * n) b))))
+    Ok (record { lines = b; count = n }) ≡ answer_as (lines (lines_of (take (4 * n) b)))
 unfolding blank_numbers
 filled-answer b n h f =
     let front : length (take (4 * n) b) ≡ 4 * n = length-take-le (4 * n) b (omega (arith, f.size)) in

@@ -5,5 +5,6 @@ pub mod DoubledLaws
 pub mod ObstacleFaults
 pub mod EdgesInOrder
 pub mod Filled
+pub mod AnswerLaws
 pub mod Agreement
 pub mod Computed

@@ -1,6 +1,6 @@
 -- The lines of one obstacle: all its edges in order, alone and behind its faults (01, "Rules of the edges", "Refusal
 -- numbers"). Definitions only. Assumes nothing.
-use Rattle.std.specs.Prelude.{ℕ, zero, suc, ◌-◌, ◌/◌, List, [], ◌∷◌, ◌++◌, eqb, ltb, length, Float}
+use Rattle.std.specs.Prelude.{ℕ, zero, suc, ◌-◌, ◌/◌, List, [], ◌∷◌, ◌++◌, eqb, ltb, length, Option, Some, None, Float}
 use Rattle.arithmetic.specs.Binary32.{when◌then◌else◌}
 use Rattle.common.specs.declared.Vec2.{Vec2}
 use Rattle.lines.specs.declared.Line.{Line}
@@ -9,8 +9,6 @@ use Rattle.admission.specs.Faults.{◌⊳◌, unless_fault}
 use Rattle.admission.specs.Heads.{head_of, open_kind}
 use Rattle.edges.specs.declared.Agent.{Agent}
 use Rattle.edges.specs.Edges.{EdgeLine, nothing, made}
-use Rattle.obstacles.specs.declared.EdgeEnds.{EdgeEnds}
-use Rattle.obstacles.specs.declared.EdgeEnds.TheVariants as ends
 use Rattle.obstacles.specs.ObstacleFaults.{agent_fault, obstacle_fault}
 use Rattle.obstacles.specs.Vertices.{vertices_of, edge_at}
 use Rattle.edges.specs.EdgeLines.{line_for_edge}
@@ -54,12 +52,12 @@ lines_up_to agent kind n vs margin horizon (suc k) =
 unfoldable pub edge_count : ℕ → ℕ → ℕ
 edge_count kind n = when eqb kind open_kind then (n - 1) else n
 
--- the ends of the edge from the vertex i to the next; or there is no such edge
-unfoldable pub ends_of : ℕ → List Float → ℕ → EdgeEnds
+-- the ends of the edge from the vertex i to the next, left and right; or there is no such edge
+unfoldable pub ends_of : ℕ → List Float → ℕ → Option (Vec2 × Vec2)
 ends_of kind xs i =
     let n = length xs / 2 in
     let edge = edge_at kind n (vertices_of xs) i in
-    when ltb i (edge_count kind n) then ends.Between edge.left.point edge.right.point else ends.Absent
+    when ltb i (edge_count kind n) then Some (edge.left.point, edge.right.point) else None
 
 -- n is how many vertices there are
 unfoldable pub obstacle_lines : Agent → ℕ → ℕ → List Vec2 → Float → Float → Answer

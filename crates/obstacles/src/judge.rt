@@ -8,71 +8,58 @@ ghost use Rattle.obstacles.specs.ObstacleFaults.{number_fault, components_fault,
 
 use crate::vertices::vertex_at;
 use crate::{judge_head, judge_outline, may_follow};
-use admission::{Head, Judged, fault_unless, first_of, is_within};
+use admission::{Head, Judged, Refusal, is_within};
 use common::Vec2;
-use edges::Outer;
 
 // A vertex's component: missing (2), not finite or out of range (6).
 fn judge_number(numbers: &[f32], at: usize) -> Judged
     ensures { fault_of result ≡ number_fault (within reach) (drop at numbers.now) }
 {
     if at < numbers.len() {
-        return fault_unless(is_within(Vec2::REACH, numbers[at]), 6);
+        return Refusal::OutOfRange.unless(is_within(Vec2::REACH, numbers[at]));
     }
-    Judged::Fault(2)
+    Err(Refusal::MissingOrLeftOver)
 }
 
 // The components of the vertex at an index, behind as many vertices that are there.
+#[tactic(auto, unfolding(crate::specs::ObstacleFaults::components_fault))]
 fn judge_components(vertices: &[f32], i: usize) -> Judged
     requires { 2 * i ≤ length vertices.now }
     ensures { fault_of result ≡ components_fault (drop (2 * i) vertices.now) }
 {
     let k = 2 * i;
-    let x = judge_number(vertices, k);
-    let y = judge_number(vertices, k + 1);
-    first_of(x, y)
+    judge_number(vertices, k)?;
+    judge_number(vertices, k + 1)
 }
 
 // The vertex at an index: its components, then whether it is the one before it again (14).
-fn judge_vertex(previous: Outer, vertices: &[f32], i: usize) -> Judged
+#[tactic(auto, unfolding(crate::specs::ObstacleFaults::vertex_fault))]
+fn judge_vertex(previous: Option<Vec2>, vertices: &[f32], i: usize) -> Judged
     requires { 2 * i ≤ length vertices.now }
     ensures { fault_of result ≡ vertex_fault (outer_of previous) (drop (2 * i) vertices.now) }
 {
-    let judged = judge_components(vertices, i);
-    let Judged::Fine = judged else {
-        return judged;
-    };
-    fault_unless(may_follow(previous, vertex_at(vertices, i)), 14)
+    judge_components(vertices, i)?;
+    Refusal::DoubledVertex.unless(may_follow(previous, vertex_at(vertices, i)))
 }
 
 // The first `count` vertices, each behind the one before it.
 pub(crate) fn judge_vertices(vertices: &[f32], count: usize) -> Judged
     ensures { fault_of result ≡ vertices_fault none_before count vertices.now }
 {
-    let mut previous = Outer::Absent;
-    let mut i = 0usize;
-    while i < count {
-        let judged = judge_vertex(previous, vertices, i);
-        let Judged::Fine = judged else {
-            return judged;
-        };
-        previous = Outer::At(vertex_at(vertices, i));
-        i += 1;
+    let mut previous = None;
+    for i in 0..count {
+        judge_vertex(previous, vertices, i)?;
+        previous = Some(vertex_at(vertices, i));
     }
-    Judged::Fine
+    Ok(())
 }
 
 // The first fault of an obstacle that is lent alone: its head, its vertices (2, 6, 14), numbers left over (2).
+#[tactic(auto, unfolding(crate::specs::ObstacleFaults::obstacle_fault))]
 pub(crate) fn judge_obstacle(head: Head, vertices: &[f32]) -> Judged
     ensures { fault_of result ≡ obstacle_fault head vertices.now }
 {
-    let known = judge_head(0, head);
-    let Judged::Fine = known else {
-        return known;
-    };
-    let judged = judge_outline(head, vertices);
-    let Judged::Fine = judged else {
-        return judged;
-    };
-    fault_unless(vertices.len() <= 2 * head.count, 2)
+    judge_head(0, head)?;
+    judge_outline(head, vertices)?;
+    Refusal::MissingOrLeftOver.unless(vertices.len() <= 2 * head.count)
 }

@@ -5,7 +5,7 @@ ghost use Rattle.obstacles.specs.Vertices.{vertices_of, vertex_at, next_of, prev
 
 use admission::Head;
 use common::Vec2;
-use edges::{Edge, EdgeVertex, Outer};
+use edges::{Edge, EdgeVertex};
 
 pub(crate) fn vertex_at(vertices: &[f32], i: usize) -> Vec2
     requires { i < length vertices.now / 2 }
@@ -19,6 +19,8 @@ pub(crate) fn vertex_at(vertices: &[f32], i: usize) -> Vec2
 }
 
 // The index after one of `count` that wrap, and the index before it.
+// kept: no plainer: an index, and the count that it is below
+#[tactic(auto, unfolding(crate::specs::Vertices::next_of, edges::proofs::Choices::choices))]
 pub(crate) fn next_index(count: usize, i: usize) -> usize
     requires { i < count }
     ensures { (result ≡ next_of count i) × (result < count) }
@@ -29,6 +31,7 @@ pub(crate) fn next_index(count: usize, i: usize) -> usize
     i + 1
 }
 
+#[tactic(auto, unfolding(crate::specs::Vertices::previous_of, edges::proofs::Choices::choices))]
 fn previous_index(count: usize, i: usize) -> usize
     requires { i < count }
     ensures { (result ≡ previous_of count i) × (result < count) }
@@ -40,6 +43,7 @@ fn previous_index(count: usize, i: usize) -> usize
 }
 
 // A vertex is convex if the right edge is on the right side of the left edge.
+#[tactic(auto, unfolding(crate::specs::Vertices::convex_at))]
 fn is_convex(left: Vec2, center: Vec2, right: Vec2) -> bool
     ensures { result ≡ convex_at left center right }
 {
@@ -47,67 +51,72 @@ fn is_convex(left: Vec2, center: Vec2, right: Vec2) -> bool
 }
 
 // Whether a vertex is one of an open obstacle's ends.
+#[tactic(auto, unfolding(crate::specs::Vertices::is_end))]
 fn is_end(kind: u8, count: usize, i: usize) -> bool
     requires { i < count }
     ensures { result ≡ is_end kind count i }
 {
-    if kind != Head::OPEN {
-        return false;
-    }
-    if i == 0 {
-        return true;
-    }
-    i == count - 1
+    kind == Head::OPEN && (i == 0 || i == count - 1)
 }
 
-fn edge_vertex(kind: u8, vertices: &[f32], i: usize) -> EdgeVertex
-    requires { i < length vertices.now / 2 }
-    ensures { result ≡ edge_vertex_at kind (length vertices.now / 2) (vertices_of vertices.now) i }
-{
-    let count = vertices.len() / 2;
-    let point = vertex_at(vertices, i);
-    if is_end(kind, count, i) {
-        return EdgeVertex {
+// An obstacle's kind, and its vertices as numbers, two a vertex.
+#[derive(Clone, Copy)]
+pub(crate) struct Outline<'a> {
+    pub(crate) kind: u8,
+    pub(crate) vertices: &'a [f32],
+}
+
+impl Outline<'_> {
+    // The edge from a vertex to the next.
+    #[tactic(auto, unfolding(crate::specs::Vertices::edge_at))]
+    pub(crate) fn edge(self, left_index: usize) -> Edge
+        requires { left_index < length self.vertices.now / 2 }
+        ensures { edge_of result ≡ edge_at self.entry.kind (length self.entry.vertices.now / 2)
+            (vertices_of self.entry.vertices.now) left_index }
+    {
+        let count = self.vertices.len() / 2;
+        let right_index = next_index(count, left_index);
+        let left_left_index = previous_index(count, left_index);
+        let right_right_index = next_index(count, right_index);
+        Edge {
+            left_vertex: self.edge_vertex(left_index),
+            right_vertex: self.edge_vertex(right_index),
+            left_left_vertex: self.outer_vertex(left_index, 0, left_left_index),
+            right_right_vertex: self.outer_vertex(right_index, count - 1, right_right_index),
+        }
+    }
+
+    #[tactic(auto, unfolding(crate::specs::Vertices::edge_vertex_at))]
+    fn edge_vertex(self, i: usize) -> EdgeVertex
+        requires { i < length self.vertices.now / 2 }
+        ensures { result ≡ edge_vertex_at self.entry.kind (length self.entry.vertices.now / 2)
+            (vertices_of self.entry.vertices.now) i }
+    {
+        let count = self.vertices.len() / 2;
+        let point = vertex_at(self.vertices, i);
+        if is_end(self.kind, count, i) {
+            return EdgeVertex {
+                point,
+                convex: true,
+            };
+        }
+        let left = vertex_at(self.vertices, previous_index(count, i));
+        let right = vertex_at(self.vertices, next_index(count, i));
+        EdgeVertex {
             point,
-            convex: true,
-        };
+            convex: is_convex(left, point, right),
+        }
     }
-    let left = vertex_at(vertices, previous_index(count, i));
-    let right = vertex_at(vertices, next_index(count, i));
-    EdgeVertex {
-        point,
-        convex: is_convex(left, point, right),
-    }
-}
 
-// The vertex beyond an edge's vertex: none beyond an open obstacle's end.
-fn outer_vertex(kind: u8, vertices: &[f32], i: usize, end: usize, beyond: usize) -> Outer
-    requires { beyond < length vertices.now / 2 }
-    ensures { outer_of result ≡ outer_at kind (vertices_of vertices.now) i end beyond }
-{
-    if kind != Head::OPEN {
-        return Outer::At(vertex_at(vertices, beyond));
-    }
-    if i == end {
-        return Outer::Absent;
-    }
-    Outer::At(vertex_at(vertices, beyond))
-}
-
-// The edge from a vertex to the next.
-pub(crate) fn edge_at(kind: u8, vertices: &[f32], left_index: usize) -> Edge
-    requires { left_index < length vertices.now / 2 }
-    ensures { edge_of result ≡ edge_at kind (length vertices.now / 2)
-        (vertices_of vertices.now) left_index }
-{
-    let count = vertices.len() / 2;
-    let right_index = next_index(count, left_index);
-    let left_left_index = previous_index(count, left_index);
-    let right_right_index = next_index(count, right_index);
-    Edge {
-        left_vertex: edge_vertex(kind, vertices, left_index),
-        right_vertex: edge_vertex(kind, vertices, right_index),
-        left_left_vertex: outer_vertex(kind, vertices, left_index, 0, left_left_index),
-        right_right_vertex: outer_vertex(kind, vertices, right_index, count - 1, right_right_index),
+    // The vertex beyond an edge's vertex: none beyond an open obstacle's end.
+    #[tactic(auto, unfolding(crate::specs::Vertices::outer_at, edges::proofs::Choices::choices))]
+    fn outer_vertex(self, i: usize, end: usize, beyond: usize) -> Option<Vec2>
+        requires { beyond < length self.vertices.now / 2 }
+        ensures { outer_of result ≡ outer_at self.entry.kind (vertices_of self.entry.vertices.now) i end beyond }
+    {
+        if self.kind == Head::OPEN && i == end {
+            return None;
+        }
+        Some(vertex_at(self.vertices, beyond))
     }
 }

@@ -1,4 +1,5 @@
--- The laws of `one_line`: of the solve, of the enums that its answer is, and that its answers agree.
+-- The laws of `one_line`: of folds over lines, of the solve, of the enums that its answer is, and that its answers agree.
+pub mod LineFolds
 pub mod OneLineLaws
 pub mod Variants
 pub mod Agreement

@@ -36,9 +36,6 @@ data Opens (i : ℕ) : Interval → Type 0 where
   opens : {l r : Float} → Opens i (between l r i)
   shuts : {n : ℕ} {cause : Cause} → n ≤ i → Earlier i cause → Opens i (empty n cause)
 
-open-count : {i n : ℕ} {l r : Float} → Opens i (between l r n) → n ≡ i
-open-count opens = refl
-
 unless-opens : (b : Bool) {cause : Cause} (left right : Float) (n : ℕ) → Earlier (n + 1) cause →
     Opens (n + 1) (unless_fails b cause left right n)
 unfolding unless_fails
@@ -51,11 +48,6 @@ narrow-opens own it i opens =
     if-all (Opens (i + 1)) _ (unless-opens _ _ _ i (by-parallel {k = i} (omega arith)))
     (if-all (Opens (i + 1)) _ (unless-opens _ _ _ i ends) (unless-opens _ _ _ i ends))
 narrow-opens own it i (shuts {n} h by) = shuts {n = n} (omega arith) (earlier_on by)
-
--- one line more
-pub looked-on : (own it : Line) (left right l r : Float) (n k : ℕ) →
-    between l r k ≡ narrow own (between left right n) it → k ≡ n + 1
-looked-on own it left right l r n k e = open-count (rw (← e) at (narrow-opens own it n {s = between left right n} opens))
 
 fold-opens : (own : Line) (l : List Line) (i : ℕ) (s : Interval) → Opens i s → Opens (i + length l) (foldl (narrow own) s l)
 fold-opens own [] i s h = rw add-zero h
@@ -89,24 +81,12 @@ line-solves o limit own e = choose-solves o own (0 + length e) (fold-opens own e
 
 module _ (o : Objective) (limit : Float) (own : Line) (e : List Line) where
   -- the line misses the circle
-  pub missed : (n : ℕ) (cause : Cause) → empty n cause ≡ chord limit own → fails 0 circle ≡ one_line o limit own e
+  pub missed : (cause : Cause) → empty 0 cause ≡ chord limit own → fails 0 cause ≡ one_line o limit own e
   unfolding one_line choose
-  missed n cause h =
-      let (z, by) = none-looked (rw (← h) at (chord-opens limit own)) in
-      rw (← h, z, by, fold_stays (narrow own) (empty 0 circle) (empty-stays own 0 circle) e)
-    where
-      none-earlier : {c : Cause} → Earlier 0 c → c ≡ circle
-      none-earlier by-circle = refl
-      none-earlier (by-parallel l) = absurd (omega arith)
-      none-earlier (by-crossing l) = absurd (omega arith)
-
-      none-looked : {k : ℕ} {c : Cause} → Opens 0 (empty k c) → (k ≡ 0) × (c ≡ circle)
-      none-looked (shuts l by) = (omega arith, none-earlier by)
+  missed cause h = rw (← h, fold_stays (narrow own) (empty 0 cause) (empty-stays own 0 cause) e)
 
   -- what the earlier lines leave of the chord is searched for the best value
-  pub narrowed : (l r : Float) (n : ℕ) (s : Interval) → between l r n ≡ chord limit own →
+  pub narrowed : (l r : Float) (s : Interval) → between l r 0 ≡ chord limit own →
       s ≡ foldl (narrow own) (between l r 0) e → choose o own s ≡ one_line o limit own e
   unfolding one_line
-  narrowed l r n s h k =
-      let z : n ≡ 0 = open-count (rw (← h) at (chord-opens limit own)) in
-      rw (k, ← h, z)
+  narrowed l r s h k = rw (k, ← h)

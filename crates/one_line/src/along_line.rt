@@ -1,104 +1,90 @@
 // The interval of a line that the circle and the earlier lines leave, and the best value in it.
-ghost use Rattle.std.specs.Prelude.{◌≡◌, ◌*◌, ◌≤◌, ◌<◌, length, take};
+ghost use Rattle.std.specs.Prelude.{◌≡◌, ◌+◌, ◌/◌, length};
 ghost use mathlib.Core.List.{foldl};
 ghost use Rattle.lines.specs.Lines.{lines_of};
-ghost use Rattle.one_line.specs.OneLine.{between, chord, unless_fails, cut, narrow, point_on, choose};
-ghost use Rattle.one_line.specs.Read.{objective_of, cause_of, interval_of, found_of};
+ghost use Rattle.one_line.specs.OneLine.{between, chord, cut, narrow, point_on, choose};
+ghost use Rattle.one_line.specs.Read.{objective_of, interval_of, left_of, found_of};
 
-use crate::{AlongLine, Cause, Interval, OptimalValue};
+use crate::{AlongLine, Cause, Empty, Ends, EndsCrossed, OptimalValue};
 use common::Vec2;
 use lines::Line;
 
 // Where the line lies within the circle.
-pub(crate) fn circle_interval(line: Line, radius: f32) -> Interval
-    ensures { interval_of result ≡ chord radius line }
+pub(crate) fn circle_interval(line: Line, radius: f32) -> Result<Ends, Cause>
+    ensures { interval_of 0 result ≡ chord radius line }
 {
     let line_dot_product = line.point.dot(line.direction);
     let discriminant = line_dot_product * line_dot_product + radius * radius
         - line.point.dot(line.point);
     if discriminant < 0.0 {
-        return Interval::Empty(0, Cause::Circle);
+        return Err(Cause::Circle);
     }
     let root = arithmetic::sqrt(discriminant);
-    Interval::Between(-line_dot_product - root, -line_dot_product + root, 0)
+    Ok(Ends {
+        left: -line_dot_product - root,
+        right: -line_dot_product + root,
+    })
 }
 
-// One more line looked at: the interval is empty where that fails, by `cause`, else its ends are as the line left them.
-fn unless_fails(fails: bool, cause: Cause, left: f32, right: f32, looked: usize) -> Interval
-    requires { looked < 18446744073709551615 }
-    ensures { interval_of result ≡ unless_fails fails (cause_of cause) left right looked }
+// The crossing with the earlier line `i`, at `t`, caps the right end or raises the left one, by the side that this line
+// leaves.
+fn cut_at(ends: Ends, i: usize, direction_determinant: f32, t: f32) -> Result<Ends, Cause>
+    ensures { interval_of (i + 1) result ≡ cut ends.left ends.right i direction_determinant t }
 {
-    if fails {
-        return Interval::Empty(looked + 1, cause);
+    let cut = if direction_determinant >= 0.0 {
+        Ends {
+            right: arithmetic::min(ends.right, t),
+            ..ends
+        }
+    } else {
+        Ends {
+            left: arithmetic::max(ends.left, t),
+            ..ends
+        }
+    };
+    if cut.left > cut.right {
+        return Err(Cause::Crossing(i));
     }
-    Interval::Between(left, right, looked + 1)
+    Ok(cut)
 }
 
-// The crossing with an earlier line, at `t`, caps the right end or raises the left one, by the side that the earlier line leaves.
-fn cut_at(left: f32, right: f32, looked: usize, direction_determinant: f32, t: f32) -> Interval
-    requires { looked < 18446744073709551615 }
-    ensures { interval_of result ≡ cut left right looked direction_determinant t }
-{
-    if direction_determinant >= 0.0 {
-        let capped = arithmetic::min(right, t);
-        return unless_fails(left > capped, Cause::Crossing(looked), left, capped, looked);
-    }
-    let raised = arithmetic::max(left, t);
-    unless_fails(
-        raised > right,
-        Cause::Crossing(looked),
-        raised,
-        right,
-        looked,
-    )
-}
-
-// One earlier line narrows the interval; one that is nearly parallel leaves it as it is, or fails where `line` lies on
-// its wrong side.
-fn narrow_by(line: Line, left: f32, right: f32, looked: usize, constraint: Line) -> Interval
-    requires { looked < 18446744073709551615 }
-    ensures { interval_of result ≡ narrow line (between left right looked) constraint }
+// The earlier line `i` narrows the interval; one that is nearly parallel leaves it as it is, or fails where `line` lies
+// on its wrong side.
+fn narrow_by(line: Line, ends: Ends, i: usize, constraint: Line) -> Result<Ends, Cause>
+    ensures { interval_of (i + 1) result ≡ narrow line (between ends.left ends.right i) constraint }
 {
     let direction_determinant = common::determinant(line.direction, constraint.direction);
     let numerator = common::determinant(constraint.direction, line.point.sub(constraint.point));
     if admission::is_within(Line::EPSILON, direction_determinant) {
-        return unless_fails(
-            numerator < 0.0,
-            Cause::Parallel(looked),
-            left,
-            right,
-            looked,
-        );
+        if numerator < 0.0 {
+            return Err(Cause::Parallel(i));
+        }
+        return Ok(ends);
     }
     cut_at(
-        left,
-        right,
-        looked,
+        ends,
+        i,
         direction_determinant,
         numerator / direction_determinant,
     )
 }
 
-// The first `count` lines narrow the interval, one by one.
-pub(crate) fn narrow_all(line: Line, left: f32, right: f32, lines: &[f32], count: usize) -> Interval
-    requires { 4 * count ≤ length lines.now }
-    ensures { interval_of result ≡ foldl (narrow line) (between left right 0) (take count (lines_of lines.now)) }
+// The earlier lines narrow the interval, one by one.
+pub(crate) fn narrow_all(line: Line, chord: Ends, lines: &[f32]) -> Result<Ends, Empty>
+    ensures { left_of (length lines.now / 4) result ≡ foldl (narrow line) (between chord.left chord.right 0)
+        (lines_of lines.now) }
 {
-    let mut t_left = left;
-    let mut t_right = right;
-    let mut looked = 0usize;
-    let mut i = 0usize;
-    while i < count {
-        let interval = narrow_by(line, t_left, t_right, looked, lines::line_at(lines, i));
-        let Interval::Between(l, r, n) = interval else {
-            return interval;
-        };
-        t_left = l;
-        t_right = r;
-        looked = n;
-        i += 1;
+    let mut ends = chord;
+    for i in 0..lines.len() / 4 {
+        match narrow_by(line, ends, i, lines::line_at(lines, i)) {
+            Ok(narrowed) => ends = narrowed,
+            Err(cause) => return Err(Empty {
+                looked: i + 1,
+                cause,
+            }),
+        }
     }
-    Interval::Between(t_left, t_right, looked)
+    Ok(ends)
 }
 
 fn point_on(line: Line, t: f32) -> Vec2
@@ -110,26 +96,31 @@ fn point_on(line: Line, t: f32) -> Vec2
 // The best value of an interval that is left: refused where its ends are not in order at the clamp to a point.
 pub(crate) fn best_on(
     line: Line,
-    left: f32,
-    right: f32,
+    ends: Ends,
     looked: usize,
     optimal_value: OptimalValue,
-) -> AlongLine
-    ensures { found_of result ≡ choose (objective_of optimal_value) line (between left right looked) }
+) -> Result<AlongLine, EndsCrossed>
+    ensures { found_of result ≡ choose (objective_of optimal_value) line (between ends.left ends.right looked) }
 {
-    match optimal_value {
-        OptimalValue::Direction(x, y) => {
-            if Vec2::new(x, y).dot(line.direction) > 0.0 {
-                return AlongLine::At(point_on(line, right), looked);
+    let t = match optimal_value {
+        OptimalValue::Direction(direction) => {
+            if direction.dot(line.direction) > 0.0 {
+                ends.right
+            } else {
+                ends.left
             }
-            AlongLine::At(point_on(line, left), looked)
         }
-        OptimalValue::Point(x, y) => {
-            if left <= right {
-                let t = line.direction.dot(Vec2::new(x, y).sub(line.point));
-                return AlongLine::At(point_on(line, arithmetic::clamp(t, left, right)), looked);
+        OptimalValue::Point(point) => {
+            if ends.left <= ends.right {
+                arithmetic::clamp(
+                    line.direction.dot(point.sub(line.point)),
+                    ends.left,
+                    ends.right,
+                )
+            } else {
+                return Err(EndsCrossed);
             }
-            AlongLine::Refuses
         }
-    }
+    };
+    Ok(AlongLine::At(point_on(line, t), looked))
 }

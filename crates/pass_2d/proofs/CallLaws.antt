@@ -7,6 +7,8 @@ use lib.ListN.{length, take, drop, take-append-drop}
 use lib.Ieee.{Float}
 use borrow.Author.Tests.{le-leb}
 use Rattle.arithmetic.specs.Binary32.{when◌then◌else◌}
+use Rattle.std.specs.Prelude.{Result, Ok, Err}
+use Rattle.admission.specs.declared.refusal.Refusal.{Refusal}
 use Rattle.common.specs.declared.Vec2.{Vec2}
 use Rattle.lines.specs.declared.Line.{Line}
 use Rattle.lines.specs.Lines.{most_lines}
@@ -31,14 +33,14 @@ module _ (o : Objective) (limit : Float) (l : List Line) (short : length l ≤ m
   few-resumed from p = rw (le-leb (length l) most_lines short)
 
   -- what the code counts
-  pub called-most : (a : LinearProgram2D) → pass_of a ≡ pass_call o limit l → probes_of a ≤ 65536
+  pub called-most : (a : Result LinearProgram2D Refusal) → pass_of a ≡ pass_call o limit l → probes_of a ≤ 65536
   called-most a e = most a (rw (← (e ∙ few-called)) at (pass-takes o limit l))
     where
-      most : (a : LinearProgram2D) → Takes (length l) (pass_of a) → probes_of a ≤ 65536
-      most (lp2d.Feasible p n) (takes h b) = omega (arith, bound-grows most_lines (length l) n short b)
-      most (lp2d.Infeasible f p n) (takes-failed b) = omega (arith, bound-grows most_lines (length l) n short b)
-      most (lp2d.Refused r) t = omega arith
+      most : (a : Result LinearProgram2D Refusal) → Takes (length l) (pass_of a) → probes_of a ≤ 65536
+      most (Ok (lp2d.Feasible p n)) (takes h b) = omega (arith, bound-grows most_lines (length l) n short b)
+      most (Ok (lp2d.Infeasible f p n)) (takes-failed b) = omega (arith, bound-grows most_lines (length l) n short b)
+      most (Err r) t = omega arith
 
-  pub resumed-most : (from : ℕ) (p : Vec2) (a : LinearProgram2D) → pass_of a ≡ resumed_pass o limit l from p → probes_of a ≤ 65536
+  pub resumed-most : (from : ℕ) (p : Vec2) (a : Result LinearProgram2D Refusal) → pass_of a ≡ resumed_pass o limit l from p → probes_of a ≤ 65536
   resumed-most from p a e =
       pass-most o limit (take from l) (drop from l) p a (rw (take-append-drop from l) short) (e ∙ few-resumed from p)

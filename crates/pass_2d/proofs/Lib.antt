@@ -1,4 +1,5 @@
--- The laws of `pass_2d`: of walks, of a pass and its probes, of the enums that its answer is, and that its answers agree.
+-- The laws of `pass_2d`: of rules, of walks, of a pass and its probes, of the enums that its answer is, and that its answers agree.
+pub mod RuleLaws
 pub mod WalkLaws
 pub mod PassLaws
 pub mod Probes

@@ -1,12 +1,14 @@
 -- Laws of a pass from any of its lines on: what ended stays, it fails at a line of the list, and each line counts at
 -- most 256 probes. Assumes nothing.
 use Prim.Native.Nat.{ℕ, ◌+◌, ◌*◌, ◌≤◌, ◌<◌}
-use mathlib.Core.Path.{◌≡◌, refl}
+use mathlib.Core.Path.{◌≡◌, refl, sym}
 use mathlib.Core.List.{List, [], ◌∷◌, ◌++◌}
 use native.Mathlib.Omega.{arith}
 use lib.ListN.{length, length-append}
 use lib.Ieee.{Float}
 use Rattle.arithmetic.proofs.Choice.{if-all}
+use Rattle.std.specs.Prelude.{Result, Ok, Err}
+use Rattle.admission.specs.declared.refusal.Refusal.{Refusal}
 use Rattle.common.specs.declared.Vec2.{Vec2}
 use Rattle.lines.specs.declared.Line.{Line}
 use Rattle.lines.specs.Lines.{most_lines}
@@ -16,7 +18,7 @@ use Rattle.pass_2d.specs.Walk.{walk}
 use Rattle.one_line.specs.OneLine.{Objective, toward, along, Found, at, fails, refuses, one_line}
 use Rattle.pass_2d.specs.Pass.{start, Failure, Pass, feasible, failed, refused, judged, solved, pass_line, pass}
 use Rattle.pass_2d.specs.Read.{pass_of, probes_of}
-use Rattle.pass_2d.proofs.Probes.{Counts, counts, counts-failed, counts-none, more-counted, judged-none, pass-counts}
+use Rattle.pass_2d.proofs.Probes.{Counts, counts, counts-failed, counts-none, more-counted, pass-counts}
 use Rattle.pass_2d.proofs.WalkLaws.{walk-stays, walk-grows}
 
 module _ (o : Objective) (limit : Float) where
@@ -28,11 +30,15 @@ module _ (o : Objective) (limit : Float) where
   unfolding pass_line
   pass-refused r = walk-stays (pass_line o limit) (refused r) (λ e x. refl)
 
-  -- from a starting point that is judged fine
-  pub started : (l : List Line) (p : Vec2) (n : ℕ) → feasible p n ≡ judged o (start o limit) 0 →
+  -- from a starting point that is judged fine, or refused
+  pub started : (l : List Line) (p : Vec2) → feasible p 0 ≡ judged o (start o limit) 0 →
       walk (pass_line o limit) [] l (feasible p 0) ≡ pass o limit l
   unfolding pass
-  started l p n h = rw (← h, judged-none o (start o limit) p n h)
+  started l p h = rw (← h) refl
+
+  pub not-started : (l : List Line) (r : ℕ) → refused r ≡ judged o (start o limit) 0 → refused r ≡ pass o limit l
+  unfolding pass
+  not-started l r h = rw (← h) (sym (pass-refused r [] l))
 
 -- ---- it fails at its own line
 
@@ -84,13 +90,13 @@ module _ (o : Objective) (limit : Float) where
       next counts-none room = counts-none
 
   -- what the code counts, from any point on
-  pub pass-most : (e l : List Line) (p : Vec2) (a : LinearProgram2D) → length (e ++ l) ≤ most_lines →
+  pub pass-most : (e l : List Line) (p : Vec2) (a : Result LinearProgram2D Refusal) → length (e ++ l) ≤ most_lines →
       pass_of a ≡ walk (pass_line o limit) e l (feasible p 0) → probes_of a ≤ 65536
   pass-most e l p a h eq =
       most a (rw (← eq) at (walk-grows (pass_line o limit) (λ i t. length i ≤ most_lines →
       Counts (256 * length i) t) line-counted e l (feasible p 0) (λ short. counts (omega arith)) h))
     where
-      most : (a : LinearProgram2D) → Counts (256 * length (e ++ l)) (pass_of a) → probes_of a ≤ 65536
-      most (lp2d.Feasible p n) (counts b) = omega arith
-      most (lp2d.Infeasible f p n) (counts-failed b) = omega arith
-      most (lp2d.Refused r) b = omega arith
+      most : (a : Result LinearProgram2D Refusal) → Counts (256 * length (e ++ l)) (pass_of a) → probes_of a ≤ 65536
+      most (Ok (lp2d.Feasible p n)) (counts b) = omega arith
+      most (Ok (lp2d.Infeasible f p n)) (counts-failed b) = omega arith
+      most (Err r) b = omega arith

@@ -9,7 +9,7 @@ use lib.Ieee.{Float}
 use Rattle.arithmetic.proofs.Choice.{if-all}
 use Rattle.common.specs.declared.Vec2.{Vec2}
 use Rattle.lines.specs.declared.Line.{Line}
-use Rattle.one_line.specs.OneLine.{Objective, toward, along, Found, at}
+use Rattle.one_line.specs.OneLine.{Objective, toward, along, Found}
 use Rattle.pass_2d.specs.Pass.{Failure, Pass, feasible, failed, refused, judged, solved, pass_line, pass}
 use Rattle.one_line.proofs.OneLineLaws.{Solves, solves, stops, stops-refused, line-solves}
 use Rattle.pass_2d.proofs.WalkLaws.{walk-grows}
@@ -31,13 +31,6 @@ judged-counts : (o : Objective) (q : Vec2) (n b : ℕ) → n ≤ b → Counts b 
 unfolding judged
 judged-counts (toward w) q n b h = if-all (Counts b) _ (counts h) counts-none
 judged-counts (along d) q n b h = counts h
-
--- a starting point that is judged has no probes
-pub judged-none : (o : Objective) (q p : Vec2) (n : ℕ) → feasible p n ≡ judged o q 0 → n ≡ 0
-judged-none o q p n h = counted (rw (← h) at (judged-counts o q 0 0 (omega arith)))
-  where
-    counted : Counts 0 (feasible p n) → n ≡ 0
-    counted (counts k) = omega arith
 
 solved-counts : (o : Objective) (j : ℕ) (p : Vec2) (n i : ℕ) {q : Found} → Solves (0 + i) q → Counts (n + i) (solved o j p n q)
 unfolding solved

@@ -1,17 +1,14 @@
 -- Laws of `walk`: in two parts, turn by turn as a loop takes it, what each step keeps, and one walk told as another.
 -- Assumes nothing.
-use Prim.Native.Nat.{ℕ, ◌+◌, ◌≤◌, ◌<◌}
+use Prim.Native.Nat.{ℕ, suc, ◌+◌, ◌≤◌, ◌<◌}
 use mathlib.Core.Path.{◌≡◌, refl, ◌∙◌, ap}
-use mathlib.Core.Bool.{Bool, true, false}
 use mathlib.Core.List.{List, [], ◌∷◌, ◌++◌, append_assoc, append-nil}
-use native.Mathlib.Omega.{arith}
-use lib.Dec.{leb}
-use lib.ListN.{length, length-take, take, drop, get_or, drop_of_length-le}
-use lib.Seq.{append_snoc, take-take}
-use borrow.Author.Tests.{leb-true, leb-false}
+use native.Mathlib.Numerals.{add-one}
+use lib.ListN.{length, take, drop, get_or, drop_of_length-le}
+use lib.Seq.{append_snoc, drop-cons}
 use Rattle.arithmetic.proofs.Lists.{All, all_snoc, none, more}
 use Rattle.pass_2d.specs.Walk.{walk}
-use Rattle.lines.proofs.Fold.{left-next, left-none, take_next}
+use Rattle.lines.proofs.Fold.{take_next}
 
 module _ {A S : Type 0} where
   -- in two parts
@@ -53,30 +50,17 @@ module _ {A S : Type 0} where
   walk_through step other g h e [] s = refl
   walk_through step other g h e (x ∷ xs) s = rw (h e x s) (walk_through step other g h (e ++ (x ∷ [])) xs (step e x s))
 
-  -- the elements before the i-th, of the first n or of all
-  pub walk_first : (step : List A → A → S → S) (l : List A) (n i : ℕ) (s : S) →
-      walk step (take i (take n l)) (drop i (take n l)) s ≡ walk step (take i l) (drop i (take n l)) s
-  walk_first step l n i s = go (leb i n) refl
-    where
-      go : (b : Bool) → leb i n ≡ b → walk step (take i (take n l)) (drop i (take n l)) s
-          ≡ walk step (take i l) (drop i (take n l)) s
-      go true h = rw (take-take i n l (leb-true i n h)) refl
-      go false h =
-          let k : length (take n l) ≤ i = rw (length-take n l) (omega (arith, leb-false i n h)) in
-          rw (drop_of_length-le (take n l) k) refl
-
--- a walk over the first n elements, from the i-th on: one turn, a turn that ends it, and no turn left
-module _ {A S : Type 0} (step : List A → A → S → S) (l : List A) (n i : ℕ) (fits : n ≤ length l) where
-  pub walk-on : (d : A) {s t : S} → i < n → step (take i l) (get_or l i d) s ≡ t →
-      walk step (take i l) (drop i (take n l)) s ≡ walk step (take (i + 1) l) (drop (i + 1) (take n l)) t
+-- a walk over a list from the i-th element on: one turn, a turn that ends it, and no turn left
+module _ {A S : Type 0} (step : List A → A → S → S) (l : List A) (i : ℕ) where
+  pub walk-on : (d : A) {s t : S} → i < length l → step (take i l) (get_or l i d) s ≡ t →
+      walk step (take i l) (drop i l) s ≡ walk step (take (i + 1) l) (drop (i + 1) l) t
   walk-on d {s} {t} h e =
-      let k : i < length l = omega arith in
-      rw (left-next l n i fits d h, take_next l i k d)
-      (ap (λ (x : S). walk step (take i l ++ (get_or l i d ∷ [])) (drop (i + 1) (take n l)) x) e)
+      rw (drop-cons l i d h, take_next l i h d, add-one)
+      (ap (λ (x : S). walk step (take i l ++ (get_or l i d ∷ [])) (drop (suc i) l) x) e)
 
-  pub walk-stop : (d : A) {s t : S} → i < n → step (take i l) (get_or l i d) s ≡ t →
-      ((e : List A) (x : A) → step e x t ≡ t) → walk step (take i l) (drop i (take n l)) s ≡ t
-  walk-stop d {s} {t} h e stays = walk-on d h e ∙ walk-stays step t stays (take (i + 1) l) (drop (i + 1) (take n l))
+  pub walk-stop : (d : A) {s t : S} → i < length l → step (take i l) (get_or l i d) s ≡ t →
+      ((e : List A) (x : A) → step e x t ≡ t) → walk step (take i l) (drop i l) s ≡ t
+  walk-stop d {s} {t} h e stays = walk-on d h e ∙ walk-stays step t stays (take (i + 1) l) (drop (i + 1) l)
 
-  pub walk-done : {s : S} → n ≤ i → walk step (take i l) (drop i (take n l)) s ≡ s
-  walk-done h = rw (left-none l n i fits h)
+  pub walk-done : {s : S} → length l ≤ i → walk step (take i l) (drop i l) s ≡ s
+  walk-done h = rw (drop_of_length-le l h)

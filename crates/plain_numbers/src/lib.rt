@@ -1,10 +1,12 @@
 // Phases, causes and failed lines as plain numbers, for a caller that has no enums; and back.
+// kept: C interface: kinds and indices are numbers there
 #![tactic(auto)]
 
 ghost use Rattle.std.specs.Prelude.{◌≡◌};
 ghost use Rattle.plain_numbers.specs.Kinds.{phase_kind, phase_index, phase_in, cause_kind, cause_line, cause_in, failed_kind, failed_index, failed_cause, failed_in};
 
-use linear_programming::{FailedLine, Phase};
+use common::Vec2;
+use linear_programming::Phase;
 use one_line::Cause;
 use pass_2d::Failure;
 
@@ -13,9 +15,9 @@ pub fn phase_kind(phase: Phase) -> u8
     ensures { result ≡ phase_kind phase }
 {
     match phase {
-        Phase::Solving(_, _) => 0,
-        Phase::Relaxing(_, _, _) => 1,
-        Phase::RigidFailure(_, _, _) => 2,
+        Phase::Solving(_) => 0,
+        Phase::Relaxing(_, _) => 1,
+        Phase::RigidFailure(_, _) => 2,
     }
 }
 
@@ -23,9 +25,8 @@ pub fn phase_index(phase: Phase) -> usize
     ensures { result ≡ phase_index phase }
 {
     match phase {
-        Phase::Solving(_, _) => 0,
-        Phase::Relaxing(_, _, _) => 0,
-        Phase::RigidFailure(k, _, _) => k,
+        Phase::Solving(_) | Phase::Relaxing(_, _) => 0,
+        Phase::RigidFailure(k, _) => k,
     }
 }
 
@@ -50,71 +51,54 @@ fn cause_line(cause: Cause) -> usize
 }
 
 // The cause of the failed line as a number: 0 where none failed, 1 the circle, 2 a parallel line, 3 crossing ends.
-pub fn failed_kind(failed: FailedLine) -> u8
+pub fn failed_kind(failed: Option<Failure>) -> u8
     ensures { result ≡ failed_kind failed }
 {
-    match failed {
-        FailedLine::NoLine => 0,
-        FailedLine::At(failure) => {
-            let cause = failure.cause;
-            cause_kind(cause)
-        }
-    }
+    failed.map_or(0, |failure| cause_kind(failure.cause))
 }
 
 // The index of the failed line, 0 where none failed.
-pub fn failed_index(failed: FailedLine) -> usize
+pub fn failed_index(failed: Option<Failure>) -> usize
     ensures { result ≡ failed_index failed }
 {
-    match failed {
-        FailedLine::NoLine => 0,
-        FailedLine::At(failure) => failure.index,
-    }
+    failed.map_or(0, |failure| failure.index)
 }
 
 // The earlier line that the cause of the failed line names, 0 where it names none.
-pub fn failed_cause(failed: FailedLine) -> usize
+pub fn failed_cause(failed: Option<Failure>) -> usize
     ensures { result ≡ failed_cause failed }
 {
-    match failed {
-        FailedLine::NoLine => 0,
-        FailedLine::At(failure) => {
-            let cause = failure.cause;
-            cause_line(cause)
-        }
-    }
+    failed.map_or(0, |failure| cause_line(failure.cause))
 }
 
+// kept: C interface: a point comes as two numbers
 pub fn phase_in(kind: usize, k: usize, x: f32, y: f32, penetration: f32) -> Phase
     ensures { result ≡ phase_in kind k x y penetration }
 {
-    if kind == 0 {
-        return Phase::Solving(x, y);
+    let point = Vec2 { x, y };
+    match kind {
+        0 => Phase::Solving(point),
+        1 => Phase::Relaxing(point, penetration),
+        _ => Phase::RigidFailure(k, point),
     }
-    if kind == 1 {
-        return Phase::Relaxing(x, y, penetration);
-    }
-    Phase::RigidFailure(k, x, y)
 }
 
 fn cause_in(kind: usize, k: usize) -> Cause
     ensures { result ≡ cause_in kind k }
 {
-    if kind == 1 {
-        return Cause::Circle;
+    match kind {
+        1 => Cause::Circle,
+        2 => Cause::Parallel(k),
+        _ => Cause::Crossing(k),
     }
-    if kind == 2 {
-        return Cause::Parallel(k);
-    }
-    Cause::Crossing(k)
 }
 
-pub fn failed_in(kind: usize, index: usize, k: usize) -> FailedLine
+pub fn failed_in(kind: usize, index: usize, k: usize) -> Option<Failure>
     ensures { result ≡ failed_in kind index k }
 {
     if kind == 0 {
-        return FailedLine::NoLine;
+        return None;
     }
     let cause = cause_in(kind, k);
-    FailedLine::At(Failure { index, cause })
+    Some(Failure { index, cause })
 }

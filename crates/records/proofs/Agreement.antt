@@ -4,6 +4,8 @@
 use Prim.Native.Nat.{ℕ}
 use mathlib.Core.Path.{◌≡◌, refl, ap}
 use mathlib.Core.List.{List}
+use Rattle.std.specs.Prelude.{Option, Some, None, Result}
+use Rattle.admission.specs.declared.refusal.Refusal.{Refusal}
 use Rattle.arithmetic.proofs.Agree.{agree, agree-read}
 use Rattle.dodgy_2d.specs.declared.SceneAnswer.{SceneAnswer}
 use Rattle.records.specs.declared.Part.{Part as PartCode}
@@ -23,22 +25,22 @@ turns-agree p q = (
 )
 
 -- what a part says can be turned back
-abbrev part_as : Part → PartCode
-part_as (skipped k) = code.Skipped k
-part_as (overlong n) = code.Overlong n
-part_as (whole k) = code.Whole k
-part_as cut_short = code.Cut
+abbrev part_as : Part → Option PartCode
+part_as (skipped k) = Some (code.Skipped k)
+part_as (overlong n) = Some (code.Overlong n)
+part_as (whole k) = Some (code.Whole k)
+part_as cut_short = None
 
-part-back : (q : PartCode) → part_as (part_of q) ≡ q
-part-back (code.Skipped k) = refl
-part-back (code.Overlong n) = refl
-part-back (code.Whole k) = refl
-part-back code.Cut = refl
+part-back : (q : Option PartCode) → part_as (part_of q) ≡ q
+part-back (Some (code.Skipped k)) = refl
+part-back (Some (code.Overlong n)) = refl
+part-back (Some (code.Whole k)) = refl
+part-back None = refl
 
-pub parts-agree : {one other : PartCode} {promised : Part} → part_of one ≡ promised → part_of other ≡ promised → one ≡ other
+pub parts-agree : {one other : Option PartCode} {promised : Part} → part_of one ≡ promised → part_of other ≡ promised → one ≡ other
 parts-agree = agree-read part_of part_as part-back
 
-pub answers_agree : {one other : SceneAnswer} {held out : List ℕ} {promised : Solved} → solved one held ≡ promised →
+pub answers_agree : {one other : Result SceneAnswer Refusal} {held out : List ℕ} {promised : Solved} → solved one held ≡ promised →
     solved other out ≡ promised
     → (one ≡ other) × (held ≡ out)
 answers_agree p q = (

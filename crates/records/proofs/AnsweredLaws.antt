@@ -1,5 +1,6 @@
 -- Laws of one record answered: what the reader's and the writer's promises say of it, and of its reply's bytes. Assumes nothing.
-use Prim.Native.Nat.{ℕ, ◌≤◌, ◌<◌}
+use Prim.Native.Nat.{ℕ, zero, suc, ◌≤◌, ◌<◌}
+use Rattle.std.specs.Prelude.{Result, Ok, Err}
 use native.Mathlib.Omega.{arith}
 use mathlib.Core.Path.{◌≡◌, refl, sym, ap, ◌∙◌}
 use mathlib.Core.Bool.{Bool, true, false}
@@ -9,19 +10,24 @@ use lib.ListN.{length}
 use borrow.Author.Tests.{le-leb, lt-leb, leb-true}
 use Rattle.arithmetic.specs.Binary32.{when◌then◌else◌}
 use Rattle.arithmetic.proofs.Choice.{if-all}
-use Rattle.admission.specs.declared.Judged.TheVariants as judged
-use Rattle.admission.specs.Faults.{Fault, fine, fault, fault_of}
+use Rattle.admission.specs.declared.refusal.Refusal.{Refusal}
+use Rattle.admission.specs.declared.refusal.Refusal.TheVariants as code
+use Rattle.admission.specs.Refusals.{number_of}
+use Rattle.admission.specs.Faults.{Fault, fine, fault}
 use Rattle.admission.proofs.FaultLaws.{no-fault}
-use Rattle.common.specs.Vectors.{vec}
 use Rattle.linear_programming.specs.Read.{failed_of}
 use Rattle.dodgy_2d.specs.declared.SceneAnswer.{SceneAnswer}
-use Rattle.dodgy_2d.specs.declared.SceneAnswer.TheVariants as code
-use Rattle.dodgy_2d.specs.Outcomes.{scene_outcome}
+use Rattle.lines.specs.declared.Origin.{Origin}
+use Rattle.linear_programming.proofs.Agreement.{failed-there}
+use Rattle.dodgy_2d.specs.declared.Scene.{Scene}
+use Rattle.dodgy_2d.specs.Scenes.{scene_fault}
+use Rattle.dodgy_2d.specs.Outcomes.{SceneOutcome, outcome, refused_scene, scene_outcome}
+use Rattle.dodgy_2d.proofs.SceneTold.{Told, answered as answered-outcome, at-fault, by-edge, by-edge-at-rest, scene-told}
+use Rattle.records.proofs.RefusalLaws.{NumberedReading, numbered-back, refused-numbered, scene-numbered}
 use Rattle.dodgy_2d.specs.Origins.{scene_origin}
-use Rattle.dodgy_2d.specs.Read.{outcome_of}
+use Rattle.dodgy_2d.specs.Read.{code_of, code_as, outcome_of, scene_answer_as}
 use Rattle.dodgy_2d.specs.Admitted.{admitted_answer}
 use Rattle.dodgy_2d.proofs.ScenePasses.{admitted-alike}
-use Rattle.dodgy_2d.proofs.Agreement.{outcome-said}
 use Rattle.fields.specs.Bytes.{big_endian}
 use Rattle.fields.specs.Got.{Got, refused, got}
 use Rattle.scene_records.specs.declared.NumberedScene.{NumberedScene}
@@ -34,24 +40,46 @@ use Rattle.records.specs.Steps.{put, put_at}
 
 -- ---- the reader's promise
 
-read-refused : (g : Got Numbered) (r : NumberedScene) (n : ℕ) → r ≡ numbered_as g → r.judged ≡ judged.Fault n →
-    code.Refused n ≡ solved_in g
-read-refused (refused m) r n e j =
-    cc
-read-refused (got s at) r n e j = absurd (no-fault n (ap fault_of (sym (ap (λ (x : NumberedScene). x.judged) e) ∙ j)))
+read-refused : (g : Got Numbered) (r : Refusal) → Err r ≡ numbered_as g → Err r ≡ solved_in g
+read-refused (refused m) r e = cc
+read-refused (got s at) r e = cc
 
 -- a scene that was read has no fault, and is answered alike where it is not judged again
-read-solved : (bytes : List ℕ) (g : Got Numbered) → scene_in bytes ≡ g → (r : NumberedScene) → r ≡ numbered_as g →
-    r.judged ≡ judged.Fine → length r.scene.lines ≡ 256 → admitted_answer r.scene ≡ solved_in g
-read-solved bytes (refused m) k r e j long = absurd (no-fault m (ap fault_of (sym j ∙ ap (λ (x : NumberedScene). x.judged) e)))
-read-solved bytes (got x at) k r e j long =
-    let same : r.scene ≡ x.scene = ap (λ (y : NumberedScene). y.scene) e in
+read-solved : (bytes : List ℕ) (g : Got Numbered) → scene_in bytes ≡ g → (r : NumberedScene) → Ok r ≡ numbered_as g →
+    length r.scene.lines ≡ 256 → admitted_answer r.scene ≡ solved_in g
+read-solved bytes (refused m) k r e long = absurd (cc)
+read-solved bytes (got x at) k r e long =
+    let whole : r ≡ record { scene = x.scene; numbers = x.numbers } = cc in
+    let same : r.scene ≡ x.scene = ap (λ (y : NumberedScene). y.scene) whole in
     rw same (admitted-alike x.scene (rw same at long) (read-admitted bytes x at k))
 
+-- what is said of a scene without a fault is its outcome
+code-there : (n : ℕ) → 1 ≤ n → n ≤ 5 → code_of (code_as n) ≡ n
+unfolding when◌then◌else◌
+code-there zero low high = absurd (omega arith)
+code-there (suc zero) low high = refl
+code-there (suc (suc zero)) low high = refl
+code-there (suc (suc (suc zero))) low high = refl
+code-there (suc (suc (suc (suc zero)))) low high = refl
+code-there (suc (suc (suc (suc (suc zero))))) low high = refl
+code-there (suc (suc (suc (suc (suc (suc n)))))) low high = absurd (omega arith)
+
+outcome-told : (c : Scene) → scene_fault c ≡ fine → (o : SceneOutcome) → Told c o → (from : Origin) →
+    outcome_of (scene_answer_as o from) ≡ o
+outcome-told c f (outcome code p l n) (answered-outcome h) from = rw (code-there code h.0 h.1, failed-there l)
+outcome-told c f (refused_scene m) (at-fault g) from = absurd (no-fault m (sym f ∙ g))
+outcome-told c f (refused_scene m) (by-edge nine g h) from = rw (nine, numbered-back 9 refl)
+outcome-told c f (refused_scene m) (by-edge-at-rest nine g h) from = rw (nine, numbered-back 9 refl)
+
 -- what is written of a reading is its outcome
-outcome-read : (g : Got Numbered) → of_reading g ≡ of_outcome (outcome_of (solved_in g))
-outcome-read (refused r) = refl
-outcome-read (got x at) = rw (outcome-said (scene_outcome x.scene) (scene_origin x.scene))
+reading-outcome : (bytes : List ℕ) (g : Got Numbered) → scene_in bytes ≡ g → NumberedReading g →
+    of_reading g ≡ of_outcome (outcome_of (solved_in g))
+reading-outcome bytes (refused r) z h = rw (numbered-back r (refused-numbered h))
+reading-outcome bytes (got x at) z h =
+    rw (outcome-told x.scene (read-admitted bytes x at z) (scene_outcome x.scene) (scene-told x.scene) (scene_origin x.scene))
+
+outcome-read : (bytes : List ℕ) → of_reading (scene_in bytes) ≡ of_outcome (outcome_of (solved_in (scene_in bytes)))
+outcome-read bytes = reading-outcome bytes (scene_in bytes) refl (scene-numbered bytes)
 
 -- ---- the first fault
 
@@ -60,49 +88,51 @@ module _ (bytes buffer : List ℕ) where
   unfolding answer_to when◌then◌else◌
   some-room h = rw (le-leb longest_answer (length buffer) h)
 
-  pub no-room-solved : length buffer < longest_answer → solved (code.Refused 10) buffer ≡ scene_answer_to bytes buffer
+  pub no-room-solved : length buffer < longest_answer → solved (Err code.NoRoom) buffer ≡ scene_answer_to bytes buffer
   unfolding answer_to scene_answer when◌then◌else◌
   no-room-solved h = rw (lt-leb longest_answer (length buffer) h)
 
-  room-solved : longest_answer ≤ length buffer → (a : SceneAnswer) → a ≡ solved_in (scene_in bytes) → (l : List ℕ) →
+  room-solved : longest_answer ≤ length buffer → (a : Result SceneAnswer Refusal) → a ≡ solved_in (scene_in bytes) → (l : List ℕ) →
       l ≡ (laid_answer (of_outcome (outcome_of a)) buffer).contents → solved a l ≡ scene_answer_to bytes buffer
   unfolding answer_to answered scene_answer when◌then◌else◌
-  room-solved h a e l f = rw (le-leb longest_answer (length buffer) h, outcome-read (scene_in bytes), ← e, f)
+  room-solved h a e l f = rw (le-leb longest_answer (length buffer) h, outcome-read bytes, ← e, f)
 
-  module _ (h : longest_answer ≤ length buffer) (r : NumberedScene) (read : r ≡ numbered_as (scene_in bytes)) where
-    pub refused-solved : (n : ℕ) → r.judged ≡ judged.Fault n → solved (code.Refused n) buffer ≡ scene_answer_to bytes buffer
-    refused-solved n j = room-solved h (code.Refused n) (read-refused (scene_in bytes) r n read j) buffer refl
+  module _ (h : longest_answer ≤ length buffer) where
+    pub refused-solved : (r : Refusal) → Err r ≡ numbered_as (scene_in bytes) →
+        solved (Err r) buffer ≡ scene_answer_to bytes buffer
+    refused-solved r read = room-solved h (Err r) (read-refused (scene_in bytes) r read) buffer refl
 
-    pub outcome-solved : r.judged ≡ judged.Fine → length r.scene.lines ≡ 256 → (a : SceneAnswer) →
-        a ≡ admitted_answer r.scene → (l : List ℕ) → l ≡ (laid_answer (of_outcome (outcome_of a)) buffer).contents →
-        solved a l ≡ scene_answer_to bytes buffer
-    outcome-solved j long a e l f = room-solved h a (e ∙ read-solved bytes (scene_in bytes) refl r read j long) l f
+    pub outcome-solved : (r : NumberedScene) → Ok r ≡ numbered_as (scene_in bytes) → length r.scene.lines ≡ 256 →
+        (a : Result SceneAnswer Refusal) → a ≡ admitted_answer r.scene → (l : List ℕ) →
+        l ≡ (laid_answer (of_outcome (outcome_of a)) buffer).contents → solved a l ≡ scene_answer_to bytes buffer
+    outcome-solved r read long a e l f = room-solved h a (e ∙ read-solved bytes (scene_in bytes) refl r read long) l f
 
 -- ---- the answer with its failure forgotten
 
-abbrev pub fault_in : SceneAnswer → Fault
-fault_in (code.Outcome outcome x y f n o) = fine
-fault_in (code.Refused r) = fault r
+abbrev pub fault_in : Result SceneAnswer Refusal → Fault
+fault_in (Ok a) = fine
+fault_in (Err r) = fault (number_of r)
 
-laid-told : (a : SceneAnswer) (buffer : List ℕ) → longest_answer ≤ length buffer →
+laid-told : (a : Result SceneAnswer Refusal) (buffer : List ℕ) → longest_answer ≤ length buffer →
     (laid_answer (of_outcome (outcome_of a)) buffer).told ≡ fault_in a
 unfolding answer_bytes big_endian
-laid-told (code.Outcome outcome x y f n o) buffer h =
-    ap (λ (w : Written). w.told) (laid-there (answer_bytes (answer_of outcome (vec x y) (failed_of f) n)) buffer h)
-laid-told (code.Refused r) buffer h = refl
+laid-told (Ok a) buffer h =
+    ap (λ (w : Written). w.told)
+    (laid-there (answer_bytes (answer_of (code_of a.outcome) a.velocity (failed_of a.failed) a.probes)) buffer h)
+laid-told (Err r) buffer h = refl
 
 module _ (bytes buffer : List ℕ) where
   told-by-room : (b : Bool) → leb longest_answer (length buffer) ≡ b → (answer_to bytes buffer).told
       ≡ fault_in (scene_answer bytes buffer)
   unfolding answer_to answered scene_answer when◌then◌else◌
-  told-by-room true e = rw (e, outcome-read (scene_in bytes)) (laid-told (solved_in (scene_in bytes)) buffer
+  told-by-room true e = rw (e, outcome-read bytes) (laid-told (solved_in (scene_in bytes)) buffer
       (leb-true longest_answer (length buffer) e))
   told-by-room false e = rw e
 
   faults-told : (answer_to bytes buffer).told ≡ fault_in (scene_answer bytes buffer)
   faults-told = told-by-room (leb longest_answer (length buffer)) refl
 
-  pub forgotten : (a : SceneAnswer) (l : List ℕ) → solved a l ≡ scene_answer_to bytes buffer → written (fault_in a) l
+  pub forgotten : (a : Result SceneAnswer Refusal) (l : List ℕ) → solved a l ≡ scene_answer_to bytes buffer → written (fault_in a) l
       ≡ answer_to bytes buffer
   forgotten a l e =
       ap (λ (s : Solved). written (fault_in s.told) s.contents) e
@@ -164,6 +194,6 @@ pub refused-untouched : (bytes buffer : List ℕ) (n : ℕ) → (answer_to bytes
 refused-untouched bytes buffer n e = (answered-untouched bytes buffer).stays n e
 
 -- So it does where the answer with its failure is a refusal.
-pub refused-scene-untouched : (bytes buffer : List ℕ) (n : ℕ) → scene_answer bytes buffer ≡ code.Refused n →
+pub refused-scene-untouched : (bytes buffer : List ℕ) (r : Refusal) → scene_answer bytes buffer ≡ Err r →
     (scene_answer_to bytes buffer).contents ≡ buffer
-refused-scene-untouched bytes buffer n e = refused-untouched bytes buffer n (faults-told bytes buffer ∙ ap fault_in e)
+refused-scene-untouched bytes buffer r e = refused-untouched bytes buffer (number_of r) (faults-told bytes buffer ∙ ap fault_in e)

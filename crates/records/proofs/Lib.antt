@@ -10,6 +10,7 @@ pub mod RunLaws
 pub mod RoomLaws
 pub mod TurnLaws
 pub mod Agreement
+pub mod NumberedBack
 pub mod RefusalLaws
 pub mod OutcomeLaws
 pub mod PlaceLaws

@@ -13,6 +13,7 @@ use borrow.Author.Tests.{leb-true, eqb-true, le-leb}
 use Rattle.arithmetic.specs.Binary32.{finite}
 use Rattle.arithmetic.proofs.Choice.{and_left, and_right, or_cases}
 use Rattle.admission.specs.Faults.{fine, within, inside}
+use Rattle.admission.specs.Refusals.{number_of, refusal_of}
 use Rattle.admission.specs.Heads.{is_kind, room_for, is_empty_open}
 use Rattle.admission.proofs.FaultLaws.{no-fault}
 use Rattle.lines.specs.LineFaults.{band_low, band_high}
@@ -35,9 +36,10 @@ use Rattle.answer_records.specs.Replies as said
 use Rattle.answer_records.specs.Replies.{is_refusal_code, answer_in}
 use Rattle.answer_records.proofs.RoundTrips.{refusal-read-back}
 use Rattle.records.specs.Answered as one
+use Rattle.records.proofs.NumberedBack.{few-back, doubled-back}
 
 -- a number from 1 to 10, or 14, said by a test: so of a number that is written out it is plain
-abbrev Numbered : ℕ → Type 0
+abbrev pub Numbered : ℕ → Type 0
 Numbered r = ((leb 1 r && leb r 10) || eqb r 14) ≡ true
 
 numbered-cases : (r : ℕ) → Numbered r → ((1 ≤ r) × (r ≤ 10)) ⊎ (r ≡ 14)
@@ -47,6 +49,10 @@ numbered-cases r h =
     (λ d. inr (eqb-true r 14 d))
     (or_cases (leb 1 r && leb r 10) (eqb r 14) h)
 
+-- the refusal of each has that number
+pub numbered-back : (r : ℕ) → Numbered r → number_of (refusal_of r) ≡ r
+numbered-back r h = ⊎_elim (λ d. few-back r d.0 d.1) (λ e. rw e doubled-back) (numbered-cases r h)
+
 -- the answer reader takes the code of each
 numbered-taken : (r : ℕ) → ((1 ≤ r) × (r ≤ 10)) ⊎ (r ≡ 14) → is_refusal_code (128 + r) ≡ true
 numbered-taken r (inl h) = rw (le-leb 129 (128 + r) (omega (arith, h.0)), le-leb (128 + r) 138 (omega (arith, h.1)))
@@ -55,7 +61,7 @@ numbered-taken r (inr e) = rw e
 -- ---- the reader's
 
 -- a reading that is refused with such a number alone
-data NumberedReading {A : Type 0} : Got A → Type 0 where
+pub data NumberedReading {A : Type 0} : Got A → Type 0 where
   told : {r : ℕ} → Numbered r → NumberedReading (refused r)
   read : {a : A} {m : ℕ} → NumberedReading (got a m)
 
@@ -155,7 +161,7 @@ module _ (s : List ℕ) where
       then-numbered _ _ (vector-numbered _ d) λ w e.
       then-numbered _ _ (number-numbered _ e) λ l f. read
 
-  scene-numbered : NumberedReading (scene_in s)
+  pub scene-numbered : NumberedReading (scene_in s)
   unfolding scene_in announced either_version behind_version fields_with ended
   scene-numbered =
       then-numbered (announced longest_either s) _
@@ -173,7 +179,7 @@ module _ (s : List ℕ) where
 
 -- ---- a record's
 
-refused-numbered : {r : ℕ} → NumberedReading {A = NumberedSceneRead} (refused r) → Numbered r
+pub refused-numbered : {r : ℕ} → NumberedReading {A = NumberedSceneRead} (refused r) → Numbered r
 refused-numbered (told h) = h
 
 same_number : (m r : ℕ) → one.refusal m ≡ one.refusal r → m ≡ r

@@ -3,6 +3,7 @@ use Prim.Native.Nat.{ℕ, ◌+◌, ◌-◌, ◌≤◌, ◌<◌}
 use native.Mathlib.Omega.{arith}
 use native.Mathlib.Nat.{zero-add}
 use mathlib.Core.Path.{◌≡◌, sym, ap, ◌∙◌}
+use Rattle.std.proofs.Common.{Option, Some, None}
 use mathlib.Core.List.{List, [], ◌++◌, append_assoc, append-nil}
 use lib.ListN.{length, take, drop, length-drop, drop_of_length-le}
 use lib.Seq.{take_all, drop-drop}
@@ -51,7 +52,7 @@ module _ (s out : List ℕ) (p : Place) where
   unfolding step_over when◌then◌else◌
   no_room h = rw (lt-leb longest_answer (length out - p.put) h)
 
-  module _ (room : longest_answer ≤ length out - p.put) (q : PartCode) (there : part_of q
+  module _ (room : longest_answer ≤ length out - p.put) (q : Option PartCode) (there : part_of q
       ≡ part_in p.skip (take (length s - p.used) (drop p.used s))) where
     by_part : step_over s out p ≡ step_by s out p (part_of q)
     unfolding step_over when◌then◌else◌
@@ -60,17 +61,17 @@ module _ (s out : List ℕ) (p : Place) where
     known : Lies p.skip (drop p.used s) (part_of q)
     known = rw (there, rest_of p.used s) (lies p.skip (drop p.used s))
 
-    pub cut_step : q ≡ code.Cut → stops out ≡ step_over s out p
+    pub cut_step : q ≡ None → stops out ≡ step_over s out p
     cut_step e = sym (rw e at by_part)
 
-    module _ (k : ℕ) (e : q ≡ code.Skipped k) where
+    module _ (k : ℕ) (e : q ≡ Some (code.Skipped k)) where
       pub skip_step : goes_on (record { used = p.used + k; put = p.put; skip = p.skip - k }) out ≡ step_over s out p
       skip_step = sym (rw e at by_part)
 
       pub skip-fits : (1 ≤ k) × (k ≤ p.skip) × (k ≤ length s - p.used)
       skip-fits = rw length-drop at (skip-lies (rw e at known))
 
-    module _ (n : ℕ) (e : q ≡ code.Overlong n) where
+    module _ (n : ℕ) (e : q ≡ Some (code.Overlong n)) where
       pub overlong-step : (f : Fault) (part : List ℕ) → p.put ≤ length out →
           written f part ≡ laid (refusal_bytes 4) (take (length out - p.put) (drop p.put out)) →
           goes_on (record { used = p.used + 2; put = p.put + 4; skip = n })
@@ -82,7 +83,7 @@ module _ (s out : List ℕ) (p : Place) where
           ∙ laid-there (refusal_bytes 4) (drop p.put out) (rw length-drop (omega arith))) in
           rw (put-in-part p.put (refusal_bytes 4) out part h held) (sym (rw e at by_part))
 
-    module _ (k : ℕ) (e : q ≡ code.Whole k) where
+    module _ (k : ℕ) (e : q ≡ Some (code.Whole k)) where
       pub whole-step : (r : ℕ) (part : List ℕ) → p.put ≤ length out →
           put r part ≡ put_at 0 (reply_to (take (p.used + k - p.used) (drop p.used s)))
           (take (length out - p.put) (drop p.put out)) →

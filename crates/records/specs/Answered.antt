@@ -1,14 +1,15 @@
 -- One scene record of either version answered, from bytes to bytes (01, "Records (ours)"; 02, T-07). Definitions only.
 -- Assumes nothing.
-use Rattle.std.specs.Prelude.{ℕ, ◌%◌, ◌^◌, List, leb, length, Float}
+use Rattle.std.specs.Prelude.{ℕ, ◌%◌, ◌^◌, List, leb, length, Float, Result, Err}
 use Rattle.std.specs.Float.{binary32}
 use Rattle.std.specs.Float.Ieee.{is_nan, to_bits}
 use Rattle.arithmetic.specs.Binary32.{when◌then◌else◌}
+use Rattle.admission.specs.declared.refusal.Refusal.{Refusal}
+use Rattle.admission.specs.Refusals.{refusal_of}
 use Rattle.admission.specs.Faults.{fault}
 use Rattle.common.specs.declared.Vec2.{Vec2}
 use Rattle.linear_programming.specs.Whole.{Failed, no_line, failed_line}
 use Rattle.dodgy_2d.specs.declared.SceneAnswer.{SceneAnswer}
-use Rattle.dodgy_2d.specs.declared.SceneAnswer.TheVariants as answer-code
 use Rattle.dodgy_2d.specs.Outcomes.{SceneOutcome, outcome, refused_scene, scene_outcome}
 use Rattle.dodgy_2d.specs.Origins.{scene_origin}
 use Rattle.dodgy_2d.specs.Read.{scene_answer_as}
@@ -61,18 +62,18 @@ answer_to bytes buffer =
 
 -- what is told, and what the buffer holds then
 pub record Solved : Type 0 where
-  pub told : SceneAnswer
+  pub told : Result SceneAnswer Refusal
   pub contents : List ℕ
 
-abbrev pub solved : SceneAnswer → List ℕ → Solved
+abbrev pub solved : Result SceneAnswer Refusal → List ℕ → Solved
 solved a l = record { told = a; contents = l }
 
-abbrev pub solved_in : Got Numbered → SceneAnswer
-solved_in (refused r) = answer-code.Refused r
+abbrev pub solved_in : Got Numbered → Result SceneAnswer Refusal
+solved_in (refused r) = Err (refusal_of r)
 solved_in (got x at) = scene_answer_as (scene_outcome x.scene) (scene_origin x.scene)
 
-unfoldable pub scene_answer : List ℕ → List ℕ → SceneAnswer
-scene_answer bytes buffer = when leb longest_answer (length buffer) then solved_in (scene_in bytes) else answer-code.Refused 10
+unfoldable pub scene_answer : List ℕ → List ℕ → Result SceneAnswer Refusal
+scene_answer bytes buffer = when leb longest_answer (length buffer) then solved_in (scene_in bytes) else Err (refusal_of 10)
 
 -- the bytes are those of `answer_to`
 abbrev pub scene_answer_to : List ℕ → List ℕ → Solved

@@ -1,6 +1,6 @@
 -- The parts of a stream of scene records (01, "Records (ours)": "An overlong record is skipped by its length").
 -- Definitions only. Assumes nothing.
-use Rattle.std.specs.Prelude.{ℕ, ◌+◌, List, eqb, ltb, length}
+use Rattle.std.specs.Prelude.{ℕ, ◌+◌, List, Option, Some, None, eqb, ltb, length}
 use Rattle.arithmetic.specs.Binary32.{when◌then◌else◌}
 use Rattle.words.specs.Words.{pair_of}
 use Rattle.scene_records.specs.Versions.{longest_either}
@@ -15,11 +15,11 @@ pub data Part : Type 0 where
   whole : ℕ → Part
   cut_short : Part
 
-abbrev pub part_of : PartCode → Part
-part_of (code.Skipped k) = skipped k
-part_of (code.Overlong n) = overlong n
-part_of (code.Whole k) = whole k
-part_of code.Cut = cut_short
+abbrev pub part_of : Option PartCode → Part
+part_of (Some (code.Skipped k)) = skipped k
+part_of (Some (code.Overlong n)) = overlong n
+part_of (Some (code.Whole k)) = whole k
+part_of None = cut_short
 
 -- as many of the bytes to be skipped as are there
 unfoldable pub skipped_of : ℕ → ℕ → Part

@@ -1,10 +1,8 @@
 -- One part of a stream worked: where it leads, and what the output holds then. Definitions only. Assumes nothing.
-use Rattle.std.specs.Prelude.{ℕ, ◌+◌, ◌-◌, List, ◌++◌, leb, length, take, drop}
+use Rattle.std.specs.Prelude.{ℕ, ◌+◌, ◌-◌, List, ◌++◌, Option, Some, None, leb, length, take, drop}
 use Rattle.arithmetic.specs.Binary32.{when◌then◌else◌}
 use Rattle.answer_records.specs.Answers.{longest_answer, refusal_bytes}
 use Rattle.records.specs.declared.Place.{Place}
-use Rattle.records.specs.declared.Step.{Step}
-use Rattle.records.specs.declared.Step.TheVariants as step
 use Rattle.records.specs.Answered.{reply_to}
 use Rattle.records.specs.Parts.{Part, skipped, overlong, whole, cut_short, part_in}
 
@@ -24,9 +22,9 @@ pub data Stepped : Type 0 where
   goes_on : Place → List ℕ → Stepped
   stops : List ℕ → Stepped
 
-abbrev pub stepped_of : Step → List ℕ → Stepped
-stepped_of (step.More p) l = goes_on p l
-stepped_of step.Stop l = stops l
+abbrev pub stepped_of : Option Place → List ℕ → Stepped
+stepped_of (Some p) l = goes_on p l
+stepped_of None l = stops l
 
 abbrev pub place_at : ℕ → Put → ℕ → Place
 place_at used p skip = record { used = used; put = p.count; skip = skip }

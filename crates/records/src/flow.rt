@@ -5,22 +5,21 @@ ghost use Rattle.records.specs.Steps.{put, put_at};
 ghost use Rattle.records.specs.Streams.{standing, worked_over, last_answer};
 ghost use Rattle.records.specs.Turns.{has_room_for};
 
+use crate::Place;
 use crate::steps::step;
-use crate::{Place, Step};
+use admission::Refusal;
 use answer_records::Answer;
 
 // Whether the bytes kept and read lie in the input, and the output has two bytes for each of the input's and 18 more. No sum is
 // made that could overflow.
+#[tactic(auto, unfolding(crate::specs::Turns::has_room_for))]
 pub(crate) fn is_room(input: usize, output: usize, kept: usize, read: usize) -> bool
     ensures { result ≡ has_room_for input output kept read }
 {
     if output < Answer::BYTES {
         return false;
     }
-    if (output - Answer::BYTES) / 2 < input {
-        return false;
-    }
-    admission::fits_behind(input, kept, read)
+    (output - Answer::BYTES) / 2 >= input && admission::fits_behind(input, kept, read)
 }
 
 // Works the parts of a stream that the input holds from its start on: what is still to be skipped, then record behind
@@ -34,12 +33,11 @@ pub(crate) fn work(input: &[u8], output: &mut [u8], skip: usize) -> Place
         put: 0,
         skip,
     };
-    loop {
-        let Step::More(next) = step(input, output, place) else {
-            return place;
-        };
+    // kept: no plainer: the next place is what a step says, not a count
+    while let Some(next) = step(input, output, place) {
         place = next;
     }
+    place
 }
 
 // The end of the input, with so many bytes left over: they are a record cut short, which gets 2 at the output's start. How many
@@ -51,6 +49,6 @@ pub(crate) fn finish(left: usize, output: &mut [u8]) -> usize
     if left == 0 {
         return 0;
     }
-    answer_records::write_refusal(output, 2);
+    let _ = answer_records::write_refusal(output, Refusal::MissingOrLeftOver.number());
     Answer::REFUSAL_BYTES
 }

@@ -7,7 +7,7 @@ ghost use Rattle.records.specs.Answered.{answer_to, solved, scene_answer_to};
 ghost use Rattle.records.specs.Parts.{part_of, part_in};
 ghost use Rattle.records.specs.Turns.{lent, turn_over};
 
-use admission::Judged;
+use admission::{Judged, Refusal};
 use answer_records::Answer;
 use dodgy_2d::SceneAnswer;
 use scene_records::NumberedScene;
@@ -20,7 +20,7 @@ mod steps;
 // Where a stream of records stands after a turn: how many bytes of answers are at the output's start, to be written;
 // how many bytes wait at the input's start for the next read; how many bytes of an overlong record are still to be
 // skipped; and whether there may be more to read.
-#[derive(Clone, Copy)]
+#[derive(Clone, Copy, Debug, PartialEq, Eq)]
 pub struct Stream {
     pub put: usize,
     pub kept: usize,
@@ -61,21 +61,13 @@ pub(crate) struct Place {
     pub(crate) skip: usize,
 }
 
-// What stands next in a stream: bytes of an overlong record to be skipped; the length that an overlong record names; a whole
-// record, by the count of its bytes; or nothing whole.
-#[derive(Clone, Copy)]
+// What stands next in a stream: bytes of an overlong record to be skipped; the length that an overlong record names; or a
+// whole record, by the count of its bytes.
+#[derive(Clone, Copy, Debug, PartialEq, Eq)]
 pub enum Part {
     Skipped(usize),
     Overlong(usize),
     Whole(usize),
-    Cut,
-}
-
-// The place behind a part that was worked; or there was none, or no room for its answer.
-#[derive(Clone, Copy)]
-pub(crate) enum Step {
-    More(Place),
-    Stop,
 }
 
 // Answers one scene record: the 18 bytes of its outcome at the buffer's start; bytes behind them keep their contents.
@@ -84,53 +76,52 @@ pub(crate) enum Step {
 pub fn answer_record(bytes: &[u8], buffer: &mut [u8]) -> Judged
     ensures { written_of result buffer.new ≡ answer_to bytes.now buffer.old }
 {
-    let answer = answer_scene(bytes, buffer);
-    match answer {
-        SceneAnswer::Outcome(_, _, _, _, _, _) => Judged::Fine,
-        SceneAnswer::Refused(number) => Judged::Fault(number),
-    }
+    answer_scene(bytes, buffer)?;
+    Ok(())
 }
 
 // `answer_record`, and what its bytes do not say: why the failed line failed, and where that line comes from.
-pub fn answer_scene(bytes: &[u8], buffer: &mut [u8]) -> SceneAnswer
+pub fn answer_scene(bytes: &[u8], buffer: &mut [u8]) -> Result<SceneAnswer, Refusal>
     ensures { solved result buffer.new ≡ scene_answer_to bytes.now buffer.old }
 {
     if buffer.len() < Answer::BYTES {
-        return SceneAnswer::Refused(10);
+        return Err(Refusal::NoRoom);
     }
-    let read = scene_records::read_scene(bytes);
-    let judged = read.judged;
-    if let Judged::Fault(number) = judged {
-        return SceneAnswer::Refused(number);
-    }
+    let read = scene_records::read_scene(bytes)?;
     let scene = read.scene;
     let bare = scene.bare();
     let kinds = scene.kinds;
     let counts = scene.counts;
-    let answer = dodgy_2d::solve_admitted_scene(bare, kinds, counts, &scene.vertices, &scene.lines);
+    let answer = dodgy_2d::solve_admitted_scene(
+        bare,
+        kinds,
+        counts,
+        &scene.vertices,
+        &scene.lines,
+    )?;
     outcome::write_outcome(answer, buffer);
-    answer
+    Ok(answer)
 }
 
-// The next part of what is left of a stream, with so many bytes still to be skipped. A record is overlong by its length
-// field, as soon as that is there; whole where all its bytes are.
-pub fn next_part(rest: &[u8], skip: usize) -> Part
+// The next part of what is left of a stream, with so many bytes still to be skipped; none where nothing whole is left. A
+// record is overlong by its length field, as soon as that is there; whole where all its bytes are.
+pub fn next_part(rest: &[u8], skip: usize) -> Option<Part>
     ensures { part_of result ≡ part_in skip rest.now }
 {
     if skip > 0 {
         return parts::skipped(rest.len(), skip);
     }
     if rest.len() < 2 {
-        return Part::Cut;
+        return None;
     }
     let length = words::pair_at(rest, 0) as usize;
     if length > NumberedScene::LONGEST_REST {
-        return Part::Overlong(length);
+        return Some(Part::Overlong(length));
     }
     if rest.len() < 2 + length {
-        return Part::Cut;
+        return None;
     }
-    Part::Whole(2 + length)
+    Some(Part::Whole(2 + length))
 }
 
 // One turn of a program that reads scene records and writes answers. At the input's start wait the bytes that the turn

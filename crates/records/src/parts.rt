@@ -5,14 +5,11 @@ ghost use Rattle.records.specs.Parts.{part_of, skipped_of};
 use crate::Part;
 
 // As many of the bytes to be skipped as are there.
-pub(crate) fn skipped(length: usize, skip: usize) -> Part
+pub(crate) fn skipped(length: usize, skip: usize) -> Option<Part>
     ensures { part_of result ≡ skipped_of skip length }
 {
     if length == 0 {
-        return Part::Cut;
+        return None;
     }
-    if length < skip {
-        return Part::Skipped(length);
-    }
-    Part::Skipped(skip)
+    Some(Part::Skipped(length.min(skip)))
 }

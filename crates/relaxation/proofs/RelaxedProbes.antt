@@ -6,6 +6,8 @@ use native.Mathlib.Omega.{arith}
 use lib.ListN.{length, length-drop, length-append}
 use lib.Ieee.{Float}
 use Rattle.arithmetic.proofs.Choice.{if-all}
+use Rattle.std.specs.Prelude.{Result, Ok, Err}
+use Rattle.admission.specs.declared.refusal.Refusal.{Refusal}
 use Rattle.common.specs.declared.Vec2.{Vec2}
 use Rattle.lines.specs.declared.Line.{Line}
 use Rattle.lines.specs.Lines.{most_lines}
@@ -29,14 +31,14 @@ inner-counts o limit l h = go (pass-takes o limit l)
     go (takes-failed {n = n} b) = counts-failed {n = n} (omega (arith, bound-grows 255 (length l) n h b))
     go takes_none = counts-none
 
-pub inner-solve-most : (o : Objective) (limit : Float) (l : List Line) (a : LinearProgram2D) → length l ≤ 255 →
+pub inner-solve-most : (o : Objective) (limit : Float) (l : List Line) (a : Result LinearProgram2D Refusal) → length l ≤ 255 →
     pass_of a ≡ pass o limit l → probes_of a ≤ 32640
 inner-solve-most o limit l a h e = most a (rw (← e) at (inner-counts o limit l h))
   where
-    most : (a : LinearProgram2D) → Counts 32640 (pass_of a) → probes_of a ≤ 32640
-    most (lp2d.Feasible p n) (counts k) = k
-    most (lp2d.Infeasible f p n) (counts-failed k) = k
-    most (lp2d.Refused r) k = omega arith
+    most : (a : Result LinearProgram2D Refusal) → Counts 32640 (pass_of a) → probes_of a ≤ 32640
+    most (Ok (lp2d.Feasible p n)) (counts k) = k
+    most (Ok (lp2d.Infeasible f p n)) (counts-failed k) = k
+    most (Err r) k = omega arith
 
 -- ---- one line of relaxation
 

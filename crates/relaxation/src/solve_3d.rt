@@ -1,34 +1,19 @@
 // Relaxation: the lines that are not rigid move back at the same speed, until the value that violates them least is found.
-ghost use Rattle.std.specs.Prelude.{◌&&◌, ◌≡◌, ◌+◌, ◌*◌, ◌≤◌, ◌<◌, min, get_or, length, take, drop};
+ghost use Rattle.std.specs.Prelude.{◌&&◌, ◌≡◌, ◌+◌, ◌*◌, ◌/◌, ◌≤◌, ◌<◌, get_or, length, take, drop, Ok};
 ghost use Rattle.arithmetic.specs.Binary32.{finite};
 ghost use Rattle.pass_2d.specs.Walk.{walk};
 ghost use Rattle.lines.specs.Lines.{most_lines, lines_of, off_line};
-ghost use Rattle.one_line.specs.OneLine.{along};
-ghost use Rattle.pass_2d.specs.Pass.{finite_point, pass};
-ghost use Rattle.relaxation.specs.Relax.{tight_at, midpoint, intersection, tighten as tightenedBy, tightened, relaxed, depth_in, replaced, relax_line};
+ghost use Rattle.pass_2d.specs.Pass.{finite_point};
+ghost use Rattle.relaxation.specs.Relax.{midpoint, intersection, tighten as tightenedBy, tightened, relaxed, depth_in, replaced, relax_line};
 ghost use Rattle.pass_2d.specs.Read.{pass_of, probes_of};
 ghost use Rattle.relaxation.specs.Read.{tight_of, relaxed_of};
 
-use crate::{LinearProgram3D, Tightened};
+use crate::LinearProgram3D;
+use admission::Refusal;
 use common::Vec2;
 use lines::Line;
 use one_line::OptimalValue;
 use pass_2d::LinearProgram2D;
-
-// The lesser of two counts.
-fn lesser(a: usize, b: usize) -> usize
-    ensures { result ≡ min a b }
-{
-    if a < b { a } else { b }
-}
-
-// The constraint that a previous line becomes, through a point where both are violated alike.
-fn tighten_at(constraint: Line, previous: Line, point: Vec2) -> Tightened
-    ensures { tight_of result ≡ tight_at constraint previous point }
-{
-    let direction = previous.direction.sub(constraint.direction).normalize();
-    Tightened::Kept(Line::new(point, direction))
-}
 
 fn middle_point(constraint: Line, previous: Line) -> Vec2
     ensures { result ≡ midpoint constraint previous }
@@ -47,76 +32,39 @@ fn intersection_point(constraint: Line, previous: Line) -> Vec2
         .add(constraint.direction.mul(intersection_t))
 }
 
-// What a previous line becomes: nothing where it points the same way, since then it is satisfied just as well.
-fn tighten(constraint: Line, previous: Line) -> Tightened
+// The constraint that a previous line becomes, through a point where both are violated alike: none where it points the
+// same way, since then it is satisfied just as well.
+fn tighten(constraint: Line, previous: Line) -> Option<Line>
     ensures { tight_of result ≡ tightenedBy constraint previous }
 {
     let intersection_determinant = common::determinant(constraint.direction, previous.direction);
-    if admission::is_within(Line::EPSILON, intersection_determinant) {
+    let point = if admission::is_within(Line::EPSILON, intersection_determinant) {
         if constraint.direction.dot(previous.direction) > 0.0 {
-            return Tightened::Skipped;
+            return None;
         }
-        return tighten_at(constraint, previous, middle_point(constraint, previous));
-    }
-    tighten_at(
-        constraint,
-        previous,
-        intersection_point(constraint, previous),
-    )
+        middle_point(constraint, previous)
+    } else {
+        intersection_point(constraint, previous)
+    };
+    let direction = previous.direction.sub(constraint.direction).normalize();
+    Some(Line::new(point, direction))
 }
 
-// The rigid lines, unchanged.
-fn copy_rigid(lines: &[f32], rigid: usize, tight: &mut [f32])
-    requires { (rigid ≤ 255) × (4 * rigid ≤ length lines.now) × (length tight.old ≡ 1020) }
-    ensures { (length tight.new ≡ 1020) × (take rigid (lines_of tight.new)
-        ≡ take rigid (lines_of lines.now)) }
+// Fills the tightened list for a line: the rigid lines, unchanged, then the other earlier ones, tightened. Its count.
+fn tighten_into(earlier: &[f32], rigid: usize, constraint: Line, tight: &mut [f32]) -> usize
+    requires { (rigid ≤ length earlier.now / 4) × (length earlier.now ≤ 1020) × (length tight.old ≡ 1020) }
+    ensures { (result ≤ length earlier.now / 4) × (length tight.new ≡ 1020)
+        × (take result (lines_of tight.new) ≡ tightened rigid constraint (lines_of earlier.now)) }
 {
-    let mut n = 0usize;
-    while n < rigid {
-        lines::put_line(tight, n, lines::line_at(lines, n));
-        n += 1;
-    }
-}
-
-// Fills the tightened list for the line at an index: the rigid lines, then the other ones before it, tightened. Its count.
-fn tighten_into(
-    lines: &[f32],
-    rigid: usize,
-    index: usize,
-    constraint: Line,
-    tight: &mut [f32],
-) -> usize
-    requires { (rigid ≤ index) × (index ≤ 255) × (4 * index ≤ length lines.now) × (length tight.old ≡ 1020) }
-    ensures { (result ≤ index) × (length tight.new ≡ 1020)
-        × (take result (lines_of tight.new)
-        ≡ tightened rigid constraint (take index (lines_of lines.now))) }
-{
-    copy_rigid(lines, rigid, tight);
+    tight[..4 * rigid].copy_from_slice(&earlier[..4 * rigid]);
     let mut n = rigid;
-    let mut i = rigid;
-    while i < index {
-        let previous = lines::line_at(lines, i);
-        i += 1;
-        if let Tightened::Kept(line) = tighten(constraint, previous) {
+    for i in rigid..earlier.len() / 4 {
+        if let Some(line) = tighten(constraint, lines::line_at(earlier, i)) {
             lines::put_line(tight, n, line);
             n += 1;
         }
     }
     n
-}
-
-// The inner solve: the tightened list by value, its count beside it.
-fn solve_tightened(
-    tight: [f32; 4 * (Line::MOST - 1)],
-    count: usize,
-    radius: f32,
-    direction: Vec2,
-) -> LinearProgram2D
-    requires { count ≤ 255 }
-    ensures { pass_of result ≡ pass (along direction) radius (take count (lines_of tight)) }
-{
-    let optimal_value = OptimalValue::Direction(direction.x, direction.y);
-    pass_2d::solve_linear_program_2d(&tight, count, radius, optimal_value)
 }
 
 // How deep a value lies on the wrong side of a line.
@@ -132,88 +80,80 @@ fn are_finite(value: Vec2, penetration: f32) -> bool
     pass_2d::is_finite_point(value) && arithmetic::is_finite(penetration)
 }
 
-// What the inner solve leaves: its value and how deep that lies, or both as they were where it failed.
+// What the inner solve leaves of relaxation: its value and how deep that lies, or both as they were where it failed.
 fn after_inner(
     constraint: Line,
-    value: Vec2,
-    penetration: f32,
-    probes: u32,
+    relaxed: LinearProgram3D,
     inner: LinearProgram2D,
-) -> LinearProgram3D
-    requires { (probes ≤ 16777471) × (probes_of inner ≤ 32640) }
-    ensures { relaxed_of result ≡ replaced constraint value penetration probes (pass_of inner) }
+) -> Result<LinearProgram3D, Refusal>
+    requires { (relaxed.probes ≤ 16777471) × (probes_of (Ok inner) ≤ 32640) }
+    ensures { relaxed_of result ≡ replaced constraint relaxed.point relaxed.penetration relaxed.probes (pass_of (Ok inner)) }
 {
     match inner {
-        LinearProgram2D::Feasible(best_value, n) => {
-            let depth = depth_in(constraint, best_value);
-            if are_finite(best_value, depth) {
-                return LinearProgram3D::Relaxed(best_value, depth, probes + n);
-            }
-            LinearProgram3D::Refused(9)
+        LinearProgram2D::Feasible(point, n) => {
+            let depth = depth_in(constraint, point);
+            Refusal::NotAdmitted.unless(are_finite(point, depth))?;
+            Ok(LinearProgram3D {
+                point,
+                penetration: depth,
+                probes: relaxed.probes + n,
+            })
         }
-        LinearProgram2D::Infeasible(_, _, n) => LinearProgram3D::Relaxed(
-            value,
-            penetration,
-            probes + n,
-        ),
-        LinearProgram2D::Refused(number) => LinearProgram3D::Refused(number),
+        LinearProgram2D::Infeasible(_, _, n) => Ok(LinearProgram3D {
+            probes: relaxed.probes + n,
+            ..relaxed
+        }),
     }
 }
 
-// The line at an index, after the lines before it left `value` and `penetration`.
+// The line at an index, after the lines before it left relaxation as it is.
 fn relax_line(
     lines: &[f32],
     rigid: usize,
     index: usize,
     radius: f32,
-    value: Vec2,
-    penetration: f32,
-    probes: u32,
-) -> LinearProgram3D
-    requires { (4 * index + 4 ≤ length lines.now) × (index < most_lines) × (probes < 16777216) }
+    relaxed: LinearProgram3D,
+) -> Result<LinearProgram3D, Refusal>
+    requires { (4 * index + 4 ≤ length lines.now) × (index < most_lines) × (relaxed.probes < 16777216) }
     ensures { relaxed_of result ≡ relax_line rigid radius (take index (lines_of lines.now))
-        (get_or (lines_of lines.now) index off_line) (relaxed value penetration probes) }
+        (get_or (lines_of lines.now) index off_line) (relaxed_of (Ok relaxed)) }
 {
     let constraint = lines::line_at(lines, index);
-    if depth_in(constraint, value) <= penetration {
-        return LinearProgram3D::Relaxed(value, penetration, probes + 1);
+    let probes = relaxed.probes + 1;
+    if depth_in(constraint, relaxed.point) <= relaxed.penetration {
+        return Ok(LinearProgram3D { probes, ..relaxed });
     }
-    let copied = lesser(rigid, index);
+    let copied = rigid.min(index);
+    // kept: no heap: a list of fixed size, its count beside it
     let mut tight = [0.0f32; 4 * (Line::MOST - 1)];
-    let count = tighten_into(lines, copied, index, constraint, &mut tight);
-    let inner = solve_tightened(tight, count, radius, constraint.direction.perp());
+    let count = tighten_into(&lines[..4 * index], copied, constraint, &mut tight);
+    let optimal_value = OptimalValue::Direction(constraint.direction.perp());
+    let inner = pass_2d::solve_linear_program_2d(&tight[..4 * count], radius, optimal_value)?;
     // every line behind the copied ones was examined
-    let counted = probes + 1 + (index - copied) as u32;
-    after_inner(constraint, value, penetration, counted, inner)
+    let probes = probes + (index - copied) as u32;
+    after_inner(constraint, LinearProgram3D { probes, ..relaxed }, inner)
 }
 
-// The lines from `from` up to `count`, after those before them left `value` and `penetration`.
+// The lines from `from` on, after those before them left `value` and `penetration`.
 pub(crate) fn relax_from(
     lines: &[f32],
     rigid: usize,
     from: usize,
-    count: usize,
     radius: f32,
     value: Vec2,
     penetration: f32,
-) -> LinearProgram3D
-    requires { (count ≤ most_lines) × (4 * count ≤ length lines.now) }
+) -> Result<LinearProgram3D, Refusal>
+    requires { length lines.now / 4 ≤ most_lines }
     ensures { relaxed_of result ≡ walk (relax_line rigid radius) (take from (lines_of lines.now))
-        (drop from (take count (lines_of lines.now))) (relaxed value penetration 0) }
+        (drop from (lines_of lines.now)) (relaxed value penetration 0) }
 {
-    let mut best_value = value;
-    let mut depth = penetration;
-    let mut counted = 0u32;
-    let mut i = from;
-    while i < count {
-        let relaxed = relax_line(lines, rigid, i, radius, best_value, depth, counted);
-        let LinearProgram3D::Relaxed(p, d, n) = relaxed else {
-            return relaxed;
-        };
-        best_value = p;
-        depth = d;
-        counted = n;
-        i += 1;
+    let mut relaxed = LinearProgram3D {
+        point: value,
+        penetration,
+        probes: 0,
+    };
+    for i in from..lines.len() / 4 {
+        relaxed = relax_line(lines, rigid, i, radius, relaxed)?;
     }
-    LinearProgram3D::Relaxed(best_value, depth, counted)
+    Ok(relaxed)
 }

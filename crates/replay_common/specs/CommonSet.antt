@@ -1,8 +1,6 @@
 -- Records of the set `common`, by the definitions of the crate `common`. Definitions only. Assumes nothing.
-use Rattle.std.specs.Prelude.{ℕ, Bool, true, false, ◌&&◌, List, length, leb, Float}
+use Rattle.std.specs.Prelude.{ℕ, Bool, true, false, ◌&&◌, List, length, leb, Float, Option, Some, None}
 use Rattle.common.specs.declared.Vec2.{Vec2}
-use Rattle.common.specs.declared.Times.{Times}
-use Rattle.common.specs.declared.Times.TheVariants as times
 use Rattle.common.specs.Meetings.{times_of}
 use Rattle.common.specs.Vectors.{zero_vector, add_of, sub_of, neg_of, mul_of, div_of, dot_of, perp_of, length_squared_of, distance_squared_of, normalize_of, eq_of, determinant_of}
 use Rattle.replay_records.specs.Answers.{number_at, vector_at, is_number, is_vector, is_flag}
@@ -28,9 +26,9 @@ functions_agree s a b =
     && is_vector s 84 (normalize_of a)
 
 -- and those of the two lines: a flag and the times, zeros where they are parallel
-unfoldable pub is_times : List ℕ → Times → Bool
-is_times s (times.At t) = is_flag s 112 true && is_vector s 116 t
-is_times s times.Parallel = is_flag s 112 false && is_vector s 116 zero_vector
+unfoldable pub is_times : List ℕ → Option Vec2 → Bool
+is_times s (Some t) = is_flag s 112 true && is_vector s 116 t
+is_times s None = is_flag s 112 false && is_vector s 116 zero_vector
 
 -- whether the record is whole and all agree, with a, b and k at its start
 unfoldable pub is_replayed : List ℕ → Bool

@@ -8,10 +8,11 @@
 ghost use Rattle.std.specs.Prelude.{◌≡◌, ◌<◌};
 ghost use Rattle.replay_common.specs.CommonSet.{operators_agree, functions_agree, is_times, is_replayed};
 
-use common::{Times, Vec2};
+use common::Vec2;
 use replay_records::{Walk, is_flag, is_number, is_vector, number_at, vector_at};
 
 // Whether the record is whole, and each answer is the one that `common` gives, bit for bit.
+#[tactic(auto, unfolding(crate::specs::CommonSet::is_replayed))]
 fn is_replayed(bytes: &[u8]) -> bool
     ensures { result ≡ is_replayed bytes.now }
 {
@@ -23,40 +24,43 @@ fn is_replayed(bytes: &[u8]) -> bool
     let k = number_at(bytes, 16);
     let start = vector_at(bytes, 96);
     let times = common::time_to_intersect_lines(a, b, start, vector_at(bytes, 104));
-    operators_agree(bytes, a, b, k) & functions_agree(bytes, a, b) & is_times(bytes, times)
+    operators_agree(bytes, a, b, k) && functions_agree(bytes, a, b) && is_times(bytes, times)
 }
 
 // Whether the answers of the operators are those of `common`.
+#[tactic(auto, unfolding(crate::specs::CommonSet::operators_agree))]
 fn operators_agree(bytes: &[u8], a: Vec2, b: Vec2, k: f32) -> bool
     ensures { result ≡ operators_agree bytes.now a b k }
 {
     is_vector(bytes, 24, a.add(b))
-        & is_vector(bytes, 32, a.sub(b))
-        & is_vector(bytes, 40, a.neg())
-        & is_vector(bytes, 48, a.mul(k))
-        & is_vector(bytes, 56, a.div(k))
-        & is_flag(bytes, 92, a.eq(b))
+        && is_vector(bytes, 32, a.sub(b))
+        && is_vector(bytes, 40, a.neg())
+        && is_vector(bytes, 48, a.mul(k))
+        && is_vector(bytes, 56, a.div(k))
+        && is_flag(bytes, 92, a.eq(b))
 }
 
 // Whether the answers of the functions that have a name are those of `common`.
+#[tactic(auto, unfolding(crate::specs::CommonSet::functions_agree))]
 fn functions_agree(bytes: &[u8], a: Vec2, b: Vec2) -> bool
     ensures { result ≡ functions_agree bytes.now a b }
 {
     is_number(bytes, 20, common::determinant(a, b))
-        & is_number(bytes, 64, a.dot(b))
-        & is_vector(bytes, 68, a.perp())
-        & is_number(bytes, 76, a.length_squared())
-        & is_number(bytes, 80, a.distance_squared(b))
-        & is_vector(bytes, 84, a.normalize())
+        && is_number(bytes, 64, a.dot(b))
+        && is_vector(bytes, 68, a.perp())
+        && is_number(bytes, 76, a.length_squared())
+        && is_number(bytes, 80, a.distance_squared(b))
+        && is_vector(bytes, 84, a.normalize())
 }
 
 // Whether the times, or that there are none, are the answer.
-fn is_times(bytes: &[u8], times: Times) -> bool
+#[tactic(auto, unfolding(crate::specs::CommonSet::is_times))]
+fn is_times(bytes: &[u8], times: Option<Vec2>) -> bool
     ensures { result ≡ is_times bytes.now times }
 {
     match times {
-        Times::At(at) => is_flag(bytes, 112, true) & is_vector(bytes, 116, at),
-        Times::Parallel => is_flag(bytes, 112, false) & is_vector(bytes, 116, Vec2::ZERO),
+        Some(at) => is_flag(bytes, 112, true) && is_vector(bytes, 116, at),
+        None => is_flag(bytes, 112, false) && is_vector(bytes, 116, Vec2::ZERO),
     }
 }
 
@@ -78,6 +82,7 @@ fn turn(walk: Walk, head: &mut [u8]) -> Walk
 fn walked(start: Walk) -> Walk {
     let mut walk = start;
     let mut head: [u8; 124] = [0; 124];
+    // kept: no plainer: a walk is over where its file is
     while walk.left > 0 {
         walk = turn(walk, &mut head);
     }

@@ -5,26 +5,36 @@
 #![tactic(auto)]
 
 ghost use Rattle.std.specs.Prelude.{◌≡◌, ◌/◌, ◌≤◌, ◌<◌, length};
-ghost use Rattle.admission.specs.Faults.{fault_of};
-ghost use Rattle.replay_cuts.specs.CutsSet.{same_fault};
 
-use admission::Judged;
+use admission::{Judged, Refusal};
 use lines::{Line, Origin};
 use replay_records::{Walk, first_numbers, number_at, vector_at};
 use replay_standings::is_standing;
-use session::{Fed, Session};
+use session::Session;
 use verdict::Tally;
 
-// A session on its way through a record: the origins that it was fed, how many lines, the last number drawn, the
-// record's name, and the comparisons so far.
+// A list's lines as numbers, numbers for their origins, and the answers to its first lines, from none to all.
 #[derive(Clone, Copy)]
-struct Feeding {
+struct List<'a> {
+    numbers: &'a [f32],
+    origins: &'a [u32],
+    answers: &'a [u8],
+    ghost few: { length numbers.now ≤ 1024 },
+    ghost known: { length origins.now ≡ 768 },
+}
+
+// A session on its way through a list: the origins that it was fed, how many lines, the last number drawn, the record's
+// name, and the comparisons so far.
+#[derive(Clone, Copy)]
+struct Feeding<'a> {
+    list: List<'a>,
     session: Session,
     kept: [Origin; Line::MOST],
     place: usize,
     drawn: u32,
     name: u32,
     tally: Tally,
+    ghost among: { place ≤ length list.numbers.now / 4 },
 }
 
 // How lines are cut into batches: one each; 0 to 5, as drawn; one each with an empty batch before it, or with refused ones.
@@ -36,147 +46,167 @@ enum Cut {
     Refusing,
 }
 
-// The tally with the comparisons of a record. One with numbers left over, or more than its bytes hold, is bad.
-fn with_record(tally: Tally, head: &[u8], rest: &[u8], name: u32) -> Tally {
-    let count = words::word_at(head, 0) as usize;
-    if count > 4 * Line::MOST {
-        return tally.with(false, name);
-    }
-    if count % 4 != 0 {
-        return tally.with(false, name);
-    }
-    if 4 * count > rest.len() {
-        return tally.with(false, name);
-    }
-    let fed = Session::start(
-        vector_at(head, 12),
-        number_at(head, 8),
-        words::word_at(head, 4) as usize,
-    );
-    let numbers = first_numbers(rest, count);
-    let origins = drawn_origins(name);
-    with_session(
-        tally,
-        fed,
-        &rest[4 * count..rest.len()],
-        &numbers[0..count],
-        &origins,
-        name,
-    )
-}
-
-// Numbers of all sizes for the origins of 256 lines.
-fn drawn_origins(name: u32) -> [u32; 768] {
-    let mut origins = [0u32; 768];
-    let mut drawn = name % 65537;
-    let mut i = 0usize;
-    while i < 768 {
-        drawn = draw(drawn);
-        origins[i] = drawn * 65535;
-        i += 1;
-    }
-    origins
-}
-
-// The tally with the comparisons of a list, for a session as it was started.
-fn with_session(
-    tally: Tally,
-    fed: Fed,
-    answers: &[u8],
-    numbers: &[f32],
-    origins: &[u32],
-    name: u32,
-) -> Tally
-    requires { (length numbers.now ≤ 1024) × (length origins.now ≡ 768) }
-{
-    let session = fed.session;
-    let started = Feeding {
-        session,
-        kept: [Origin::UNKNOWN; Line::MOST],
-        place: 0,
-        drawn: name,
-        name,
-        tally,
-    };
-    with_cuts(
-        compared(started, fed, Judged::Fine, 0, answers),
-        answers,
-        numbers,
-        origins,
-    )
-}
-
-// The tally with the comparisons of all cuts, each from the session's start.
-fn with_cuts(begun: Feeding, answers: &[u8], numbers: &[f32], origins: &[u32]) -> Tally
-    requires { (begun.place ≡ 0) × (length numbers.now ≤ 1024) × (length origins.now ≡ 768) }
-{
-    let whole = feed(begun, answers, numbers, origins, numbers.len() / 4).tally;
-    let single = with_cut(begun, whole, answers, numbers, origins, Cut::Single);
-    let drawn = with_cut(begun, single, answers, numbers, origins, Cut::Drawn);
-    let spaced = with_cut(begun, drawn, answers, numbers, origins, Cut::Spaced);
-    with_cut(begun, spaced, answers, numbers, origins, Cut::Refusing)
-}
-
-// The tally with the comparisons of one cut, and of what is refused once all lines are fed.
-fn with_cut(
-    begun: Feeding,
-    tally: Tally,
-    answers: &[u8],
-    numbers: &[f32],
-    origins: &[u32],
-    cut: Cut,
-) -> Tally
-    requires { (begun.place ≡ 0) × (length numbers.now ≤ 1024) × (length origins.now ≡ 768) }
-{
-    let fed = in_turns(Feeding { tally, ..begun }, answers, numbers, origins, cut);
-    feed_forged(feed_refused(fed, answers), answers).tally
-}
-
-// All lines in batches of the cut, with one more at the end for those that are left.
-fn in_turns(feeding: Feeding, answers: &[u8], numbers: &[f32], origins: &[u32], cut: Cut) -> Feeding
-    requires { (feeding.place ≤ length numbers.now / 4) × (length numbers.now ≤ 1024) × (length origins.now ≡ 768) }
-    ensures { result.place ≤ length numbers.now / 4 }
-{
-    let lines = numbers.len() / 4;
-    let mut now = feeding;
-    let mut turn = 0usize;
-    while turn < lines {
-        now = feed_next(now, answers, numbers, origins, cut);
-        turn += 1;
-    }
-    feed(now, answers, numbers, origins, lines)
-}
-
-// One batch of the cut, and what goes before it.
-fn feed_next(
-    feeding: Feeding,
-    answers: &[u8],
-    numbers: &[f32],
-    origins: &[u32],
-    cut: Cut,
-) -> Feeding
-    requires { (feeding.place ≤ length numbers.now / 4) × (length numbers.now ≤ 1024) × (length origins.now ≡ 768) }
-    ensures { result.place ≤ length numbers.now / 4 }
-{
-    match cut {
-        Cut::Single => feed(feeding, answers, numbers, origins, 1),
-        Cut::Drawn => feed_drawn(feeding, answers, numbers, origins),
-        Cut::Spaced => {
-            let spaced = feed(feeding, answers, numbers, origins, 0);
-            feed(spaced, answers, numbers, origins, 1)
+impl Feeding<'_> {
+    // All lines in batches of the cut, with one more at the end for those that are left.
+    fn feed_all(&mut self, cut: Cut) {
+        let lines = self.list.numbers.len() / 4;
+        for _ in 0..lines {
+            self.feed_next(cut);
         }
-        Cut::Refusing => feed(feed_refused(feeding, answers), answers, numbers, origins, 1),
+        self.feed(lines);
+    }
+
+    // One batch of the cut, and what goes before it.
+    fn feed_next(&mut self, cut: Cut) {
+        match cut {
+            Cut::Single => self.feed(1),
+            Cut::Drawn => self.feed_drawn(),
+            Cut::Spaced => {
+                self.feed(0);
+                self.feed(1)
+            }
+            Cut::Refusing => {
+                self.feed_refused();
+                self.feed(1)
+            }
+        }
+    }
+
+    // A batch of 0 to 5 lines, as drawn.
+    fn feed_drawn(&mut self) {
+        self.drawn = draw(self.drawn);
+        self.feed((self.drawn / 10923) as usize)
+    }
+
+    // A batch of the next `size` lines, or of those that are left: never refused. By its place and the record, every
+    // third brings no origins.
+    fn feed(&mut self, size: usize) {
+        let from = self.place;
+        let numbers = self.list.numbers;
+        let place = from + size.min(numbers.len() / 4 - from);
+        let batch = &numbers[4 * from..4 * place];
+        let judged = if (from + self.name as usize) % 3 == 0 {
+            self.session.batch(batch)
+        } else {
+            let origins = self.list.origins;
+            keep(&mut self.kept[from..place], origins, from);
+            self.session
+                .batch_with_origins(batch, &origins[3 * from..3 * place])
+        };
+        self.place = place;
+        self.compare(judged, Ok(()), place)
+    }
+
+    // Batches with each fault of a batch, without origins and with them.
+    fn feed_refused(&mut self) {
+        self.feed_miscounts();
+        self.feed_faults();
+        self.feed_refused_origins()
+    }
+
+    // Five numbers (2), and more lines than there is room for (4).
+    fn feed_miscounts(&mut self) {
+        let many = [f32::NAN; 1028];
+        self.refuse(&[f32::NAN; 5], Refusal::MissingOrLeftOver);
+        self.refuse(&many[0..4 * (257 - self.place)], Refusal::TooMany)
+    }
+
+    // Two lines, the second a NaN (6) or out of its band (7).
+    fn feed_faults(&mut self) {
+        let unknown = [0.0, 4096.0, 1.0, 0.0, f32::NAN, 0.0, 1.0, 0.0];
+        let steep = [0.0, 4096.0, 1.0, 0.0, 0.0, 0.0, 1.0, 1.0];
+        self.refuse(&unknown, self.told_of_two(Refusal::OutOfRange));
+        self.refuse(&steep, self.told_of_two(Refusal::OutOfBand))
+    }
+
+    // The same with origins: another count of them (2), and the right one beside a line at fault, whose origins must
+    // not be kept.
+    fn feed_refused_origins(&mut self) {
+        let two = [0.0, 4096.0, 1.0, 0.0, f32::NAN, 0.0, 1.0, 0.0];
+        self.feed_miscounted_origins();
+        self.feed_origins_alone();
+        self.refuse_with(
+            &two,
+            &[1, 2, 3, 4, 5, 6],
+            self.told_of_two(Refusal::OutOfRange),
+        )
+    }
+
+    // Too few and too many origins beside a line (2).
+    fn feed_miscounted_origins(&mut self) {
+        let one = [0.0, 4096.0, 1.0, 0.0];
+        self.refuse_with(&one, &[1, 2], Refusal::MissingOrLeftOver);
+        self.refuse_with(&one, &[1, 2, 3, 4], Refusal::MissingOrLeftOver)
+    }
+
+    // Origins beside no line, and one number beside more lines than there is room for: 2, told before room is looked for.
+    fn feed_origins_alone(&mut self) {
+        let many = [f32::NAN; 1028];
+        self.refuse_with(&[], &[1, 2, 3], Refusal::MissingOrLeftOver);
+        self.refuse_with(
+            &many[0..4 * (257 - self.place)],
+            &[1],
+            Refusal::MissingOrLeftOver,
+        )
+    }
+
+    // What is told of two lines with a fault: too many comes first, where there is no room for two.
+    fn told_of_two(&self, fault: Refusal) -> Refusal {
+        if self.place > 254 {
+            Refusal::TooMany
+        } else {
+            fault
+        }
+    }
+
+    // A session with more lines than it holds gets 4 whatever the batch: for numbers that are no whole lines, too, and a
+    // wrong count of origins beside them.
+    fn feed_forged(&mut self) {
+        self.session.count = Line::MOST + 1;
+        self.refuse(&[], Refusal::TooMany);
+        self.refuse(&[0.0; 5], Refusal::TooMany);
+        self.refuse_with(&[0.0; 5], &[0], Refusal::TooMany)
+    }
+
+    // A batch that must be refused.
+    fn refuse(&mut self, numbers: &[f32], refusal: Refusal) {
+        let count = self.session.count;
+        let judged = self.session.batch(numbers);
+        self.compare(judged, Err(refusal), count)
+    }
+
+    // The same for a batch that brings origins.
+    fn refuse_with(&mut self, numbers: &[f32], origins: &[u32], refusal: Refusal) {
+        let count = self.session.count;
+        let judged = self.session.batch_with_origins(numbers, origins);
+        self.compare(judged, Err(refusal), count)
+    }
+
+    // Compares what a call left: it was judged as expected, and the session has `count` lines and the origins that were
+    // fed, and stands as the answer at the place.
+    fn compare(&mut self, judged: Judged, expected: Judged, count: usize) {
+        let session = &self.session;
+        let good = judged == expected
+            && session.count == count
+            && session.origins == self.kept
+            && is_standing(
+                self.list.answers,
+                (28 * self.place) as u16,
+                session.phase,
+                session.failed,
+                session.probes,
+            );
+        self.tally = self.tally.with(good, self.name);
     }
 }
 
-// A batch of 0 to 5 lines, as drawn.
-fn feed_drawn(feeding: Feeding, answers: &[u8], numbers: &[f32], origins: &[u32]) -> Feeding
-    requires { (feeding.place ≤ length numbers.now / 4) × (length numbers.now ≤ 1024) × (length origins.now ≡ 768) }
-    ensures { result.place ≤ length numbers.now / 4 }
+// The origins of lines, as they are fed from a place on.
+fn keep(kept: &mut [Origin], origins: &[u32], from: usize)
+    requires { from ≤ 256 }
 {
-    let drawn = draw(feeding.drawn);
-    let next = Feeding { drawn, ..feeding };
-    feed(next, answers, numbers, origins, (drawn / 10923) as usize)
+    for (i, origin) in kept.iter_mut().enumerate() {
+        *origin = lines::origin_at(origins, from + i);
+    }
 }
 
 // The number behind the last one drawn, below 65,537.
@@ -186,281 +216,68 @@ fn draw(last: u32) -> u32
     (last % 65537 * 17364 + 1) % 65537
 }
 
-// A batch of the next `size` lines, or of those that are left: never refused. By its place and the record, every third
-// brings no origins.
-fn feed(feeding: Feeding, answers: &[u8], numbers: &[f32], origins: &[u32], size: usize) -> Feeding
-    requires { (feeding.place ≤ length numbers.now / 4) × (length numbers.now ≤ 1024) × (length origins.now ≡ 768) }
-    ensures { result.place ≤ length numbers.now / 4 }
-{
-    let from = feeding.place;
-    let place = place_behind(from, size, numbers.len() / 4);
-    if (from + feeding.name as usize) % 3 == 0 {
-        return feed_lines(feeding, answers, numbers, place);
+// Numbers of all sizes for the origins of 256 lines.
+fn drawn_origins(name: u32) -> [u32; 768] {
+    let mut origins = [0u32; 768];
+    let mut drawn = name % 65537;
+    for origin in origins.iter_mut() {
+        drawn = draw(drawn);
+        *origin = drawn * 65535;
     }
-    feed_lines_with(feeding, answers, numbers, origins, place)
+    origins
 }
 
-// The lines up to a place, which bring no origins.
-fn feed_lines(feeding: Feeding, answers: &[u8], numbers: &[f32], place: usize) -> Feeding
-    requires { (feeding.place ≤ place) × (place ≤ length numbers.now / 4) × (length numbers.now ≤ 1024) }
-    ensures { result.place ≡ place }
-{
-    let from = feeding.place;
-    let session = feeding.session;
-    let fed = session.batch(&numbers[4 * from..4 * place]);
-    let next = Feeding { place, ..feeding };
-    compared(next, fed, Judged::Fine, place, answers)
-}
-
-// The lines up to a place, each with its origin.
-fn feed_lines_with(
-    feeding: Feeding,
-    answers: &[u8],
-    numbers: &[f32],
-    origins: &[u32],
-    place: usize,
-) -> Feeding
-    requires { (feeding.place ≤ place) × (place ≤ length numbers.now / 4) × (length numbers.now ≤ 1024)
-        × (length origins.now ≡ 768) }
-    ensures { result.place ≡ place }
-{
-    let from = feeding.place;
-    let session = feeding.session;
-    let fed = session.batch_with_origins(
-        &numbers[4 * from..4 * place],
-        &origins[3 * from..3 * place],
-    );
-    let before = feeding.kept;
-    let kept = kept_with(before, origins, from, place);
-    let next = Feeding {
-        place,
-        kept,
-        ..feeding
+// The tally with the comparisons of a record. One with numbers left over, or more than its bytes hold, is bad, and one
+// whose session is refused.
+fn with_record(tally: Tally, head: &[u8], rest: &[u8], name: u32) -> Tally {
+    let count = words::word_at(head, 0) as usize;
+    if count > 4 * Line::MOST || count % 4 != 0 || 4 * count > rest.len() {
+        return tally.with(false, name);
+    }
+    let rigid = words::word_at(head, 4) as usize;
+    let Ok(session) = Session::start(vector_at(head, 12), number_at(head, 8), rigid) else {
+        return tally.with(false, name);
     };
-    compared(next, fed, Judged::Fine, place, answers)
-}
-
-// The origins with those of the lines from one place up to another.
-fn kept_with(
-    before: [Origin; Line::MOST],
-    origins: &[u32],
-    from: usize,
-    place: usize,
-) -> [Origin; Line::MOST]
-    requires { place ≤ 256 }
-{
-    let mut kept = before;
-    let mut i = from;
-    while i < place {
-        kept[i] = lines::origin_at(origins, i);
-        i += 1;
-    }
-    kept
-}
-
-// Whether all origins are the same, those behind the lines too.
-fn are_same(origins: [Origin; Line::MOST], kept: [Origin; Line::MOST]) -> bool {
-    let mut all = true;
-    let mut i = 0usize;
-    while i < Line::MOST {
-        all = all & is_same(origins[i], kept[i]);
-        i += 1;
-    }
-    all
-}
-
-fn is_same(a: Origin, b: Origin) -> bool {
-    (a.kind == b.kind) & (a.place == b.place) & (a.vertex == b.vertex)
-}
-
-// The place `size` lines behind another, or that behind the last line.
-fn place_behind(place: usize, size: usize, lines: usize) -> usize
-    requires { place ≤ lines }
-    ensures { (place ≤ result) × (result ≤ lines) }
-{
-    if size < lines - place {
-        place + size
-    } else {
-        lines
-    }
-}
-
-// Batches with each fault of a batch, without origins and with them.
-fn feed_refused(feeding: Feeding, answers: &[u8]) -> Feeding
-    requires { feeding.place ≤ 256 }
-    ensures { result.place ≡ feeding.place }
-{
-    let counted = feed_miscounts(feeding, answers);
-    let judged = feed_faults(counted, answers);
-    feed_refused_origins(judged, answers)
-}
-
-// Five numbers (2), and more lines than there is room for (4).
-fn feed_miscounts(feeding: Feeding, answers: &[u8]) -> Feeding
-    requires { feeding.place ≤ 256 }
-    ensures { result.place ≡ feeding.place }
-{
-    let nan = 0.0 / 0.0;
-    let five = [nan; 5];
-    let many = [nan; 1028];
-    let place = feeding.place;
-    let first = refused(feeding, answers, &five, 2);
-    refused(first, answers, &many[0..4 * (257 - place)], 4)
-}
-
-// Two lines, the second a NaN (6) or out of its band (7).
-fn feed_faults(feeding: Feeding, answers: &[u8]) -> Feeding
-    requires { feeding.place ≤ 256 }
-    ensures { result.place ≡ feeding.place }
-{
-    let nan = 0.0 / 0.0;
-    let unknown = [0.0, 4096.0, 1.0, 0.0, nan, 0.0, 1.0, 0.0];
-    let steep = [0.0, 4096.0, 1.0, 0.0, 0.0, 0.0, 1.0, 1.0];
-    let place = feeding.place;
-    let first = refused(feeding, answers, &unknown, told_of_two(place, 6));
-    refused(first, answers, &steep, told_of_two(place, 7))
-}
-
-// The same with origins: another count of them (2), and the right one beside a line at fault, whose origins must not be kept.
-fn feed_refused_origins(feeding: Feeding, answers: &[u8]) -> Feeding
-    requires { feeding.place ≤ 256 }
-    ensures { result.place ≡ feeding.place }
-{
-    let nan = 0.0 / 0.0;
-    let two = [0.0, 4096.0, 1.0, 0.0, nan, 0.0, 1.0, 0.0];
-    let six = [1u32, 2, 3, 4, 5, 6];
-    let place = feeding.place;
-    let counted = feed_miscounted_origins(feeding, answers);
-    let alone = feed_origins_alone(counted, answers);
-    refused_with(alone, answers, &two, &six, told_of_two(place, 6))
-}
-
-// Too few and too many origins beside a line (2).
-fn feed_miscounted_origins(feeding: Feeding, answers: &[u8]) -> Feeding
-    requires { feeding.place ≤ 256 }
-    ensures { result.place ≡ feeding.place }
-{
-    let one = [0.0, 4096.0, 1.0, 0.0];
-    let four = [1u32, 2, 3, 4];
-    let few = refused_with(feeding, answers, &one, &four[0..2], 2);
-    refused_with(few, answers, &one, &four, 2)
-}
-
-// Origins beside no line, and one number beside more lines than there is room for: 2, told before room is looked for.
-fn feed_origins_alone(feeding: Feeding, answers: &[u8]) -> Feeding
-    requires { feeding.place ≤ 256 }
-    ensures { result.place ≡ feeding.place }
-{
-    let nan = 0.0 / 0.0;
-    let many = [nan; 1028];
-    let three = [1u32, 2, 3];
-    let place = feeding.place;
-    let none = refused_with(feeding, answers, &many[0..0], &three, 2);
-    refused_with(none, answers, &many[0..4 * (257 - place)], &three[0..1], 2)
-}
-
-// The number that two lines with a fault get: 4 comes first, where there is no room for two.
-fn told_of_two(place: usize, number: u8) -> u8 {
-    if place > 254 { 4 } else { number }
-}
-
-// A session with more lines than it holds gets 4 whatever the batch.
-fn feed_forged(feeding: Feeding, answers: &[u8]) -> Feeding
-    requires { feeding.place ≤ 256 }
-{
-    let given = feeding.session;
-    let session = Session {
-        count: Line::MOST + 1,
-        ..given
+    let numbers = first_numbers(rest, count);
+    let origins = drawn_origins(name);
+    let list = List {
+        numbers: &numbers[0..count],
+        origins: &origins,
+        answers: &rest[4 * count..],
     };
-    let forged = Feeding { session, ..feeding };
-    let none = [0.0f32; 4];
-    let first = refused(forged, answers, &none[0..0], 4);
-    feed_forged_faults(first, answers)
-}
-
-// Numbers that are no whole lines, without origins and with a wrong count of them: 4 is told before 2.
-fn feed_forged_faults(forged: Feeding, answers: &[u8]) -> Feeding
-    requires { forged.place ≤ 256 }
-{
-    let five = [0.0f32; 5];
-    let one = [0u32; 1];
-    let first = refused(forged, answers, &five, 4);
-    refused_with(first, answers, &five, &one, 4)
-}
-
-// A batch that must be refused with the number.
-fn refused(feeding: Feeding, answers: &[u8], numbers: &[f32], number: u8) -> Feeding
-    requires { feeding.place ≤ 256 }
-    ensures { result.place ≡ feeding.place }
-{
-    let session = feeding.session;
-    let count = session.count;
-    let fed = session.batch(numbers);
-    compared(feeding, fed, Judged::Fault(number), count, answers)
-}
-
-// The same for a batch that brings origins.
-fn refused_with(
-    feeding: Feeding,
-    answers: &[u8],
-    numbers: &[f32],
-    origins: &[u32],
-    number: u8,
-) -> Feeding
-    requires { feeding.place ≤ 256 }
-    ensures { result.place ≡ feeding.place }
-{
-    let session = feeding.session;
-    let count = session.count;
-    let fed = session.batch_with_origins(numbers, origins);
-    compared(feeding, fed, Judged::Fault(number), count, answers)
-}
-
-// Goes on with what a call handed back, compared: it was judged as expected, and the session has `count` lines and the
-// origins that were fed, and stands as the answer at the place.
-fn compared(feeding: Feeding, fed: Fed, expected: Judged, count: usize, answers: &[u8]) -> Feeding
-    requires { feeding.place ≤ 256 }
-    ensures { result.place ≡ feeding.place }
-{
-    let judged = fed.judged;
-    let session = fed.session;
-    let phase = session.phase;
-    let failed = session.failed;
-    let origins = session.origins;
-    let kept = feeding.kept;
-    let good = same_judgement(judged, expected)
-        & (session.count == count)
-        & are_same(origins, kept)
-        & is_standing(
-            answers,
-            (28 * feeding.place) as u16,
-            phase,
-            failed,
-            session.probes,
-        );
-    let tally = feeding.tally;
-    Feeding {
+    let begun = Feeding {
+        list,
         session,
-        tally: tally.with(good, feeding.name),
-        ..feeding
-    }
+        kept: [Origin::UNKNOWN; Line::MOST],
+        place: 0,
+        drawn: name,
+        name,
+        tally,
+    };
+    with_cuts(begun)
 }
 
-// Whether the call was judged as expected.
-fn same_judgement(judged: Judged, expected: Judged) -> bool
-    ensures { result ≡ same_fault (fault_of judged) (fault_of expected) }
-{
-    match judged {
-        Judged::Fine => match expected {
-            Judged::Fine => true,
-            Judged::Fault(_) => false,
-        },
-        Judged::Fault(number) => match expected {
-            Judged::Fine => false,
-            Judged::Fault(other) => number == other,
-        },
+// The tally with the comparisons of a session as it was started, and of all cuts, each from there.
+fn with_cuts(begun: Feeding) -> Tally {
+    let mut feeding = begun;
+    feeding.compare(Ok(()), Ok(()), 0);
+    let begun = feeding;
+    feeding.feed(begun.list.numbers.len() / 4);
+    let mut tally = feeding.tally;
+    for cut in [Cut::Single, Cut::Drawn, Cut::Spaced, Cut::Refusing] {
+        tally = with_cut(begun, tally, cut);
     }
+    tally
+}
+
+// The tally with the comparisons of one cut, and of what is refused once all lines are fed.
+fn with_cut(begun: Feeding, tally: Tally, cut: Cut) -> Tally {
+    let mut feeding = begun;
+    feeding.tally = tally;
+    feeding.feed_all(cut);
+    feeding.feed_refused();
+    feeding.feed_forged();
+    feeding.tally
 }
 
 // How many bytes a head says are behind it: the list's numbers, and an answer for none and for each line.
@@ -489,6 +306,7 @@ fn walked(start: Walk) -> Walk {
     let mut head: [u8; 20] = [0; 20];
     // The longest rest: 256 lines, 44 bytes each, and an answer.
     let mut rest: [u8; 11292] = [0; 11292];
+    // kept: no plainer: a walk is over where its file is
     while walk.left > 0 {
         walk = turn(walk, &mut head, &mut rest);
     }

@@ -1,8 +1,10 @@
 -- Records of the set `edges`, by the definitions of the crate `obstacles`. Definitions only. Assumes nothing.
-use Rattle.std.specs.Prelude.{ℕ, ◌+◌, ◌*◌, zero, suc, Bool, true, ◌&&◌, List, eqb, leb, get_or, Float}
+use Rattle.std.specs.Prelude.{ℕ, ◌+◌, ◌*◌, zero, suc, Bool, true, ◌&&◌, List, [], eqb, leb, get_or, Result, Ok, Err, Float}
 use Rattle.std.specs.Float.{nan}
 use Rattle.words.specs.Words.{word_of}
-use Rattle.admission.specs.Faults.{Fault, fine, fault, fault_of}
+use Rattle.admission.specs.declared.refusal.Refusal.{Refusal}
+use Rattle.admission.specs.Refusals.{number_of}
+use Rattle.admission.specs.Faults.{Fault, fine, fault}
 use Rattle.obstacles.specs.declared.ObstacleLines.{ObstacleLines}
 use Rattle.obstacles.specs.Obstacles.{obstacle_call}
 use Rattle.obstacles.specs.Read.{answer_as}
@@ -23,8 +25,9 @@ unfoldable pub is_lines_or_refusal : ℕ → List ℕ → ℕ → List Float →
 is_lines_or_refusal answer s at xs n fine = leb n 64 && (eqb answer n && are_numbers s at xs (4 * n))
 is_lines_or_refusal answer s at xs n (fault r) = eqb answer (100 + r)
 
-unfoldable pub is_answer : ℕ → List ℕ → ℕ → ObstacleLines → Bool
-is_answer answer s at made = is_lines_or_refusal answer s at made.lines made.count (fault_of made.judged)
+unfoldable pub is_answer : ℕ → List ℕ → ℕ → Result ObstacleLines Refusal → Bool
+is_answer answer s at (Ok made) = is_lines_or_refusal answer s at made.lines made.count fine
+is_answer answer s at (Err r) = is_lines_or_refusal answer s at [] 0 (fault (number_of r))
 
 -- whether the record's answer is the one to the obstacle and the agent that its head and its numbers make
 unfoldable pub is_replayed : List ℕ → List ℕ → Bool

@@ -4,10 +4,10 @@
 // horizon; the numbers, two a vertex; then the lines, four numbers each.
 #![tactic(auto)]
 
-ghost use Rattle.std.specs.Prelude.{◌≡◌, ◌<◌, ◌≤◌};
+ghost use Rattle.std.specs.Prelude.{◌≡◌, ◌<◌, ◌≤◌, length};
 ghost use Rattle.replay_edges.specs.EdgesSet.{long_at, are_numbers, is_answer, is_replayed};
 
-use admission::{Head, Judged};
+use admission::{Head, Refusal};
 use edges::Agent;
 use obstacles::ObstacleLines;
 use replay_records::{Walk, agrees, first_numbers, number_at, vector_at};
@@ -16,13 +16,11 @@ use replay_records::{Walk, agrees, first_numbers, number_at, vector_at};
 fn line_count(answer: u32) -> usize
     ensures { result < 100 }
 {
-    if answer < 100 {
-        return answer as usize;
-    }
-    0
+    if answer < 100 { answer as usize } else { 0 }
 }
 
 // Whether the record's answer is the one that `obstacles` gives.
+#[tactic(auto, unfolding(crate::specs::EdgesSet::is_replayed))]
 fn is_replayed(head: &[u8], rest: &[u8]) -> bool
     ensures { result ≡ is_replayed head.now rest.now }
 {
@@ -42,7 +40,7 @@ fn is_replayed(head: &[u8], rest: &[u8]) -> bool
     let made = obstacles::get_lines_for_agent_to_obstacle(
         agent,
         kind as u8,
-        &numbers[0..count],
+        &numbers[..count],
         long_at(head, 12),
         number_at(head, 36),
         number_at(head, 40),
@@ -51,6 +49,8 @@ fn is_replayed(head: &[u8], rest: &[u8]) -> bool
 }
 
 // The two words at the place as one number, the high one first.
+// kept: no plainer: a place within a record, as the set has it
+#[tactic(auto, unfolding(crate::specs::EdgesSet::long_at))]
 fn long_at(bytes: &[u8], at: usize) -> usize
     requires { at < 65536 }
     ensures { result ≡ long_at bytes.now at }
@@ -60,33 +60,32 @@ fn long_at(bytes: &[u8], at: usize) -> usize
 }
 
 // Whether the lines, or the refusal, are the answer, with its lines at the place.
-fn is_answer(answer: u32, bytes: &[u8], at: usize, made: ObstacleLines) -> bool
+#[tactic(auto, unfolding(crate::specs::EdgesSet::is_answer, crate::specs::EdgesSet::is_lines_or_refusal))]
+fn is_answer(answer: u32, bytes: &[u8], at: usize, made: Result<ObstacleLines, Refusal>) -> bool
     requires { at < 65536 }
     ensures { result ≡ is_answer answer bytes.now at made }
 {
-    let judged = made.judged;
-    let lines = made.lines;
-    match judged {
-        Judged::Fine => {
-            if made.count > Head::MOST {
+    match made {
+        Ok(found) => {
+            if found.count > Head::MOST {
                 return false;
             }
-            (answer as usize == made.count) & are_numbers(bytes, at, lines, 4 * made.count)
+            let lines = found.lines;
+            answer as usize == found.count && are_numbers(bytes, at, &lines[..4 * found.count])
         }
-        Judged::Fault(number) => answer == 100 + number as u32,
+        Err(refusal) => answer == 100 + refusal.number() as u32,
     }
 }
 
-// Whether the first `count` numbers are those at the place, bit for bit but for the sign of a zero.
-fn are_numbers(bytes: &[u8], at: usize, numbers: [f32; 256], count: usize) -> bool
-    requires { (at < 65536) × (count ≤ 256) }
-    ensures { result ≡ are_numbers bytes.now at numbers count }
+// Whether the numbers are those at the place, bit for bit but for the sign of a zero.
+#[tactic(auto, unfolding(crate::specs::EdgesSet::are_numbers))]
+fn are_numbers(bytes: &[u8], at: usize, numbers: &[f32]) -> bool
+    requires { (at < 65536) × (length numbers.now ≤ 256) }
+    ensures { result ≡ are_numbers bytes.now at numbers.now (length numbers.now) }
 {
     let mut all = true;
-    let mut i = 0usize;
-    while i < count {
-        all = all & agrees(numbers[i], words::word_at(bytes, at + 4 * i));
-        i += 1;
+    for (i, number) in numbers.iter().enumerate() {
+        all &= agrees(*number, words::word_at(bytes, at + 4 * i));
     }
     all
 }
@@ -117,6 +116,7 @@ fn walked(start: Walk) -> Walk {
     let mut head: [u8; 44] = [0; 44];
     // The longest rest: 192 vertices and 99 lines.
     let mut rest: [u8; 3120] = [0; 3120];
+    // kept: no plainer: a walk is over where its file is
     while walk.left > 0 {
         walk = turn(walk, &mut head, &mut rest);
     }

@@ -5,37 +5,35 @@
 
 ghost use Rattle.std.specs.Prelude.{◌<◌};
 
-use admission::Judged;
-use dodgy_2d::SceneAnswer;
 use lines::Origin;
 use replay_records::Walk;
 use replay_standings::is_failed;
 
 // Whether failed line, cause and origin are those that the head has. A record that is not read, or is refused, is bad.
 fn is_replayed(head: &[u8], rest: &[u8]) -> bool {
-    let size = words::word_at(head, 0) as usize;
-    if size > rest.len() {
-        return false;
-    }
-    let read = scene_records::read_scene_version_1(&rest[0..size]);
-    let judged = read.judged;
-    if let Judged::Fault(_) = judged {
-        return false;
-    }
-    let scene = read.scene;
-    let answer = dodgy_2d::compute_avoiding_velocity(scene);
-    let SceneAnswer::Outcome(_, _, _, failed, _, _) = answer else {
+    let Some(record) = rest.get(..words::word_at(head, 0) as usize) else {
         return false;
     };
-    is_failed(words::word_at(head, 4), words::word_at(head, 8), failed)
-        & is_origin(head, answer.origin())
+    let Ok(scene) = scene_records::read_scene_version_1(record) else {
+        return false;
+    };
+    let Ok(answer) = dodgy_2d::compute_avoiding_velocity(scene) else {
+        return false;
+    };
+    is_failed(
+        words::word_at(head, 4),
+        words::word_at(head, 8),
+        answer.failed,
+    ) && answer.origin == origin_at(head)
 }
 
-// Whether the origin is that of the head's last three words.
-fn is_origin(head: &[u8], origin: Origin) -> bool {
-    (words::word_at(head, 12) == origin.kind)
-        & (words::word_at(head, 16) == origin.place)
-        & (words::word_at(head, 20) == origin.vertex)
+// The origin that the head's last three words tell.
+fn origin_at(head: &[u8]) -> Origin {
+    Origin {
+        kind: words::word_at(head, 12),
+        place: words::word_at(head, 16),
+        vertex: words::word_at(head, 20),
+    }
 }
 
 // One record more: read, and compared.
@@ -59,6 +57,7 @@ fn walked(start: Walk) -> Walk {
     let mut head: [u8; 24] = [0; 24];
     // The longest scene record.
     let mut rest: [u8; 2633] = [0; 2633];
+    // kept: no plainer: a walk is over where its file is
     while walk.left > 0 {
         walk = turn(walk, &mut head, &mut rest);
     }

@@ -6,7 +6,9 @@ ghost use Rattle.std.specs.Prelude.{◌≡◌, ◌<◌};
 ghost use Rattle.linear_programming.specs.Read.{outcome_of};
 ghost use Rattle.replay_lists.specs.ListsSet.{is_answer, is_replayed};
 
-use linear_programming::{Answer, FailedLine};
+use admission::Refusal;
+use common::Vec2;
+use linear_programming::Standing;
 use replay_records::{Walk, first_numbers, number_at, vector_at};
 use replay_standings::{is_standing, is_told};
 
@@ -27,14 +29,14 @@ fn is_replayed(head: &[u8], rest: &[u8]) -> bool
 }
 
 // Whether the answer is the one at the place. A refusal is told by its number and nothing else.
-fn is_answer(bytes: &[u8], at: u16, answer: Answer) -> bool
+fn is_answer(bytes: &[u8], at: u16, answer: Result<Standing, Refusal>) -> bool
     ensures { result ≡ is_answer bytes.now at (outcome_of answer) }
 {
     match answer {
-        Answer::Stands(phase, failed, probes) => is_standing(bytes, at, phase, failed, probes),
-        Answer::Refused(number) => {
-            let kind = 100 + number as u32;
-            is_told(bytes, at, kind, 0.0, 0.0, 0.0, FailedLine::NoLine, 0)
+        Ok(standing) => is_standing(bytes, at, standing.phase, standing.failed, standing.probes),
+        Err(refusal) => {
+            let kind = 100 + refusal.number() as u32;
+            is_told(bytes, at, kind, Vec2::ZERO, 0.0, None, 0)
         }
     }
 }
@@ -65,6 +67,7 @@ fn walked(start: Walk) -> Walk {
     let mut head: [u8; 20] = [0; 20];
     // The longest rest: 320 lines and an answer.
     let mut rest: [u8; 5148] = [0; 5148];
+    // kept: no plainer: a turn fills two buffers and leaves how the walk stands
     while walk.left > 0 {
         walk = turn(walk, &mut head, &mut rest);
     }

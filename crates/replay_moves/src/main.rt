@@ -4,21 +4,21 @@
 // whole buffer. The oracle makes both files.
 #![tactic(auto)]
 
-use scene_records::SceneWritten;
+use admission::Refusal;
 use std::io;
 use std::io::{ErrorKind, Read, Write};
 
 // What stands in a buffer before a move.
 const SENTINEL: u8 = 0xa5;
 
-fn told(written: SceneWritten) -> u16 {
+fn told(written: Result<usize, Refusal>) -> u16 {
     match written {
-        SceneWritten::Length(length) => (length % 0x1_0000) as u16,
-        SceneWritten::Refused(number) => 0xff00 + number as u16,
+        Ok(length) => (length % 0x1_0000) as u16,
+        Err(refusal) => 0xff00 + u16::from(refusal.number()),
     }
 }
 
-fn moved(head: &[u8], source: &[u8], buffer: &mut [u8]) -> SceneWritten {
+fn moved(head: &[u8], source: &[u8], buffer: &mut [u8]) -> Result<usize, Refusal> {
     if words::pair_at(head, 0) == 1 {
         return scene_moves::to_version_1(source, buffer);
     }
@@ -81,12 +81,10 @@ fn main(rt: HostRuntime) -> io::Result<()> {
     let mut output = io::writer(&rt);
     let mut head: [u8; 6] = [0; 6];
     let mut source: [u8; 4096] = [0; 4096];
-    let mut left = u64::MAX;
-    while left > 0 {
+    for _ in 0..u64::MAX {
         if !turn(&mut input, &mut output, &mut head, &mut source)? {
             return Ok(());
         }
-        left -= 1;
     }
     Ok(())
 }

@@ -131,17 +131,18 @@ pub fn read_full(file: &mut Option<File>, bytes: &mut [u8]) -> usize
         return 0;
     };
     let mut done = 0;
+    // kept: no plainer: each read brings as many bytes as it likes.
     while done < bytes.len() {
-        let n = file.read(&mut bytes[done..]).unwrap_or(0);
-        if n == 0 {
-            break;
+        match file.read(&mut bytes[done..]) {
+            Ok(0) | Err(_) => break,
+            Ok(n) => done += n,
         }
-        done += n;
     }
     done
 }
 
 // The number at the place.
+#[tactic(auto, unfolding(crate::specs::Answers::number_at))]
 pub fn number_at(bytes: &[u8], at: usize) -> f32
     ensures { result ≡ number_at bytes.now at }
 {
@@ -149,6 +150,7 @@ pub fn number_at(bytes: &[u8], at: usize) -> f32
 }
 
 // The vector at the place, x first.
+#[tactic(auto, unfolding(crate::specs::Answers::vector_at))]
 pub fn vector_at(bytes: &[u8], at: u16) -> Vec2
     ensures { result ≡ vector_at bytes.now at }
 {
@@ -159,6 +161,7 @@ pub fn vector_at(bytes: &[u8], at: u16) -> Vec2
 }
 
 // Whether the number is the answer at the place, bit for bit.
+#[tactic(auto, unfolding(crate::specs::Answers::is_number))]
 pub fn is_number(bytes: &[u8], at: usize, x: f32) -> bool
     ensures { result ≡ is_number bytes.now at x }
 {
@@ -166,13 +169,15 @@ pub fn is_number(bytes: &[u8], at: usize, x: f32) -> bool
 }
 
 // Whether the vector is the answer at the place, bit for bit in both components.
+#[tactic(auto, unfolding(crate::specs::Answers::is_vector))]
 pub fn is_vector(bytes: &[u8], at: u16, v: Vec2) -> bool
     ensures { result ≡ is_vector bytes.now at v }
 {
-    is_number(bytes, at as usize, v.x) & is_number(bytes, at as usize + 4, v.y)
+    is_number(bytes, at as usize, v.x) && is_number(bytes, at as usize + 4, v.y)
 }
 
 // Whether the flag is the answer at the place: 1 where it is true, else 0.
+#[tactic(auto, unfolding(crate::specs::Answers::is_flag))]
 pub fn is_flag(bytes: &[u8], at: usize, flag: bool) -> bool
     ensures { result ≡ is_flag bytes.now at flag }
 {
@@ -182,6 +187,7 @@ pub fn is_flag(bytes: &[u8], at: usize, flag: bool) -> bool
 
 // Whether the number is the one with the pattern by value: bit for bit, but for zeros, since Rust's `min` and `max`
 // leave open which of two zeros they take. A NaN is no answer.
+#[tactic(auto, unfolding(crate::specs::Answers::agrees_with))]
 pub fn agrees(x: f32, pattern: u32) -> bool
     ensures { result ≡ agrees_with x pattern }
 {
@@ -190,17 +196,13 @@ pub fn agrees(x: f32, pattern: u32) -> bool
 
 // The first `count` numbers, of a line list four a line, of an obstacle two a vertex, and then zeros. More than 1,280
 // are not asked for.
+#[tactic(auto, unfolding(crate::specs::Records::first_numbers))]
 pub fn first_numbers(bytes: &[u8], count: usize) -> [f32; 1280]
     ensures { count ≤ 1280 → take count result ≡ first_numbers bytes.now count }
 {
     let mut numbers: [f32; 1280] = [0.0; 1280];
-    let mut i = 0usize;
-    while i < count {
-        if i >= 1280 {
-            return numbers;
-        }
+    for i in 0..count.min(1280) {
         numbers[i] = number_at(bytes, 4 * i);
-        i += 1;
     }
     numbers
 }

@@ -3,27 +3,34 @@
 #![tactic(auto)]
 
 ghost use Rattle.std.specs.Prelude.{◌≡◌};
-ghost use Rattle.common.specs.Vectors.{vec};
 ghost use Rattle.one_line.specs.Read.{cause_of};
 ghost use Rattle.linear_programming.specs.Read.{phase_of, failed_of};
 ghost use Rattle.replay_standings.specs.Standings.{is_cause, is_failed, is_told, is_standing};
 
-use linear_programming::{FailedLine, Phase};
+use common::Vec2;
+use linear_programming::Phase;
 use one_line::Cause;
+use pass_2d::Failure;
 use replay_records::agrees;
 
 // Whether phase, failed line and probes are those of the answer at the place. A rigid failure's own index is the failed
 // line, too.
-pub fn is_standing(bytes: &[u8], at: u16, phase: Phase, failed: FailedLine, probes: u32) -> bool
+pub fn is_standing(
+    bytes: &[u8],
+    at: u16,
+    phase: Phase,
+    failed: Option<Failure>,
+    probes: u32,
+) -> bool
     ensures { result ≡ is_standing bytes.now at (phase_of phase) (failed_of failed) probes }
 {
     match phase {
-        Phase::Solving(x, y) => is_told(bytes, at, 0, x, y, 0.0, failed, probes),
-        Phase::Relaxing(x, y, penetration) => {
-            is_told(bytes, at, 1, x, y, penetration, failed, probes)
+        Phase::Solving(point) => is_told(bytes, at, 0, point, 0.0, failed, probes),
+        Phase::Relaxing(point, penetration) => {
+            is_told(bytes, at, 1, point, penetration, failed, probes)
         }
-        Phase::RigidFailure(k, x, y) => {
-            is_told(bytes, at, 2, x, y, 0.0, failed, probes)
+        Phase::RigidFailure(k, point) => {
+            is_told(bytes, at, 2, point, 0.0, failed, probes)
                 & (words::word_at(bytes, at as usize + 16) as usize == k)
         }
     }
@@ -34,17 +41,16 @@ pub fn is_told(
     bytes: &[u8],
     at: u16,
     kind: u32,
-    x: f32,
-    y: f32,
+    point: Vec2,
     penetration: f32,
-    failed: FailedLine,
+    failed: Option<Failure>,
     probes: u32,
 ) -> bool
-    ensures { result ≡ is_told bytes.now at kind (vec x y) penetration (failed_of failed) probes }
+    ensures { result ≡ is_told bytes.now at kind point penetration (failed_of failed) probes }
 {
     (words::word_at(bytes, at as usize) == kind)
-        & agrees(x, words::word_at(bytes, at as usize + 4))
-        & agrees(y, words::word_at(bytes, at as usize + 8))
+        & agrees(point.x, words::word_at(bytes, at as usize + 4))
+        & agrees(point.y, words::word_at(bytes, at as usize + 8))
         & agrees(penetration, words::word_at(bytes, at as usize + 12))
         & is_failed(
             words::word_at(bytes, at as usize + 16),
@@ -55,15 +61,12 @@ pub fn is_told(
 }
 
 // Whether the failed line and its cause are those of the two words, where FFFFFFFF stands for no line and 0 for no cause.
-pub fn is_failed(line: u32, word: u32, failed: FailedLine) -> bool
+pub fn is_failed(line: u32, word: u32, failed: Option<Failure>) -> bool
     ensures { result ≡ is_failed line word (failed_of failed) }
 {
     match failed {
-        FailedLine::NoLine => (line == 0xffff_ffff) & (word == 0),
-        FailedLine::At(failure) => {
-            let cause = failure.cause;
-            (line as usize == failure.index) & is_cause(word, cause)
-        }
+        None => (line == 0xffff_ffff) & (word == 0),
+        Some(failure) => (line as usize == failure.index) & is_cause(word, failure.cause),
     }
 }
 

@@ -7,8 +7,9 @@
 
 ghost use Rattle.std.specs.Prelude.{◌<◌};
 
+use admission::Refusal;
 use replay_records::{Walk, first_numbers, vector_at};
-use wall_check::WallCheck;
+use wall_check::Crossing;
 
 // The word at the place as a size.
 fn size_at(head: &[u8], at: usize) -> usize
@@ -22,21 +23,24 @@ fn rest_length(head: &[u8]) -> usize {
     4 * size_at(head, 28) + size_at(head, 20) + size_at(head, 24)
 }
 
-// Whether the head has this answer: what was told, and the first crossed edge with how many there are.
-fn is_told(head: &[u8], told: usize, obstacle: usize, vertex: usize, count: usize) -> bool {
-    (size_at(head, 32) == told)
-        & (size_at(head, 36) == obstacle)
-        & (size_at(head, 40) == vertex)
-        & (size_at(head, 44) == count)
-}
-
-// Whether the check is the answer that the head has.
-fn is_answer(head: &[u8], check: WallCheck) -> bool {
-    match check {
-        WallCheck::Crossed(obstacle, vertex, count) => is_told(head, 1, obstacle, vertex, count),
-        WallCheck::Clear => is_told(head, 0, 0, 0, 0),
-        WallCheck::Refused(number) => is_told(head, 100 + number as usize, 0, 0, 0),
-    }
+// Whether the check is the answer that the head has: what is told, and the first crossed edge with how many there are.
+fn is_answer(head: &[u8], check: Result<Option<Crossing>, Refusal>) -> bool {
+    let none = Crossing {
+        obstacle: 0,
+        vertex: 0,
+        count: 0,
+    };
+    let (told, first) = match check {
+        Ok(Some(crossing)) => (1, crossing),
+        Ok(None) => (0, none),
+        Err(refusal) => (100 + refusal.number() as usize, none),
+    };
+    let given = Crossing {
+        obstacle: size_at(head, 36),
+        vertex: size_at(head, 40),
+        count: size_at(head, 44),
+    };
+    size_at(head, 32) == told && given == first
 }
 
 // Whether the move is told as its record has it. A record that lends more than fits here is bad.
@@ -58,7 +62,7 @@ fn is_replayed(head: &[u8], rest: &[u8]) -> bool {
         size_at(head, 16),
         &rest[numbers_end..kinds_end],
         &rest[kinds_end..counts_end],
-        &vertices[0..numbers],
+        &vertices[..numbers],
     );
     is_answer(head, check)
 }
@@ -84,6 +88,7 @@ fn walked(start: Walk) -> Walk {
     let mut head: [u8; 48] = [0; 48];
     // More than 192 vertices and 16 obstacles, so that records at fault have room.
     let mut rest: [u8; 2048] = [0; 2048];
+    // kept: no plainer: a walk is over where its file is
     while walk.left > 0 {
         walk = turn(walk, &mut head, &mut rest);
     }

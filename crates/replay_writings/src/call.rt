@@ -5,9 +5,10 @@
 // and the whole buffer.
 ghost use Rattle.std.specs.Prelude.{◌≤◌, ◌<◌};
 
+use admission::Refusal;
 use common::Vec2;
 use edges::Agent;
-use scene_records::{Cart, SceneWritten};
+use scene_records::Cart;
 
 // What stands in a buffer before the writer is called.
 pub(crate) const SENTINEL: u8 = 0xa5;
@@ -47,27 +48,21 @@ fn cart_in(head: &[u8]) -> Cart {
 fn numbers_at(bytes: &[u8], at: usize, count: usize) -> [f32; 512]
     requires { (at ≤ 4096) × (count ≤ 512) }
 {
-    let mut numbers: [f32; 512] = [0.0; 512];
-    let mut i = 0usize;
-    while i < count {
+    let mut numbers = [0.0; 512];
+    for i in 0..count {
         numbers[i] = words::number(words::word_at(bytes, at + 4 * i));
-        i += 1;
     }
     numbers
 }
 
 // What was told, in front of the buffer.
-fn put_told(answer: &mut [u8], written: SceneWritten) {
-    match written {
-        SceneWritten::Length(length) => {
-            words::put_pair(answer, 0, 0);
-            words::put_pair(answer, 2, (length % 0x1_0000) as u16);
-        }
-        SceneWritten::Refused(number) => {
-            words::put_pair(answer, 0, number as u16);
-            words::put_pair(answer, 2, 0);
-        }
-    }
+fn put_told(answer: &mut [u8], written: Result<usize, Refusal>) {
+    let (refusal, length) = match written {
+        Ok(length) => (0, length),
+        Err(refusal) => (refusal.number(), 0),
+    };
+    words::put_pair(answer, 0, u16::from(refusal));
+    words::put_pair(answer, 2, (length % 0x1_0000) as u16);
 }
 
 // Makes the call, and answers how many bytes the answer has: 0 for a call that has more than fits here.
@@ -77,19 +72,10 @@ pub(crate) fn answer_call(head: &[u8], rest: &[u8], answer: &mut [u8]) -> usize 
     let vertices = size_at(head, 12);
     let lines = size_at(head, 14);
     let end = 4 + size_at(head, 15);
-    if behind_counts > rest.len() {
+    if behind_counts > rest.len() || behind_counts > 2048 {
         return 0;
     }
-    if behind_counts > 2048 {
-        return 0;
-    }
-    if vertices > 512 {
-        return 0;
-    }
-    if lines > 512 {
-        return 0;
-    }
-    if end > answer.len() {
+    if vertices > 512 || lines > 512 || end > answer.len() {
         return 0;
     }
     let vertex_numbers = numbers_at(rest, behind_counts, vertices);

@@ -52,12 +52,10 @@ fn main(rt: HostRuntime) -> io::Result<()> {
     let mut output = io::writer(&rt);
     let mut head: [u8; 64] = [0; 64];
     let mut rest: [u8; 4096] = [0; 4096];
-    let mut left = u64::MAX;
-    while left > 0 {
+    for _ in 0..u64::MAX {
         if !turn(&mut input, &mut output, &mut head, &mut rest)? {
             return Ok(());
         }
-        left -= 1;
     }
     Ok(())
 }

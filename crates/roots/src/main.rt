@@ -2,7 +2,7 @@
 // four bytes each, the highest first.
 #![tactic(auto)]
 
-ghost use Rattle.std.specs.Prelude.{◌≡◌, ◌≤◌, length};
+ghost use Rattle.std.specs.Prelude.{◌≡◌};
 ghost use Rattle.std.specs.Float.{binary32};
 ghost use Rattle.std.specs.Float.Ieee.{of_bits};
 ghost use Rattle.arithmetic.specs.Root.{sqrt_of};
@@ -22,42 +22,30 @@ fn is_root(vector: &[u8]) -> bool
     words::has_pattern(arithmetic::sqrt(x), words::word_at(vector, 4))
 }
 
-// The tally with the vector at the start of `rest` counted in, by the pattern of its number. Bytes too few for a vector
-// are a bad one.
-fn counted(rest: &[u8], t: Tally) -> Tally {
-    let name = words::word_at(rest, 0);
-    if rest.len() < 8 {
-        return t.with(false, name);
-    }
-    t.with(is_root(rest), name)
+// The tally with the vector counted in, by the pattern of its number. Bytes too few for a vector are a bad one.
+fn counted(vector: &[u8], t: Tally) -> Tally {
+    let name = words::word_at(vector, 0);
+    t.with(vector.len() == 8 && is_root(vector), name)
 }
 
 // The tally with the vectors of a chunk counted in.
-fn all_counted(chunk: &[u8], t: Tally) -> Tally
-    requires { length chunk.now ≤ 65536 }
-{
-    let mut tally = t;
-    let mut at: usize = 0;
-    while at < chunk.len() {
-        tally = counted(&chunk[at..], tally);
-        at += 8;
+fn all_counted(chunk: &[u8], mut tally: Tally) -> Tally {
+    for vector in chunk.chunks(8) {
+        tally = counted(vector, tally);
     }
     tally
 }
 
 // The tally of a file, read in chunks that are full of whole vectors, but for the last.
-fn tally_of(file: Option<File>) -> Tally {
-    let mut file = file;
+fn tally_of(mut file: Option<File>) -> Tally {
     let mut tally = Tally::NONE;
     let mut chunk = [0u8; 65536];
-    let mut turns = u64::MAX;
-    while turns > 0 {
+    for _ in 0..u64::MAX {
         let n = replay_records::read_full(&mut file, &mut chunk);
         if n == 0 {
-            return tally;
+            break;
         }
         tally = all_counted(&chunk[0..n], tally);
-        turns -= 1;
     }
     tally
 }

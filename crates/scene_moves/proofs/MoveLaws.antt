@@ -1,19 +1,19 @@
 -- Laws of the moves between the versions: there and back gives the same bytes from either side, the moved record is
 -- read to the same scene, and a refusal leaves the buffer as it was. Assumes nothing.
-use Prim.Native.Nat.{ℕ, ◌+◌, ◌-◌, ◌*◌, ◌≤◌, ◌<◌, ◌^◌}
+use Prim.Native.Nat.{ℕ, ◌+◌, ◌-◌, ◌*◌}
 use native.Mathlib.Omega.{arith}
 use mathlib.Core.Path.{◌≡◌, refl, sym, ap, ◌∙◌}
-use mathlib.Core.Bool.{Bool, true, false, ◌&&◌}
+use mathlib.Core.Bool.{true}
 use mathlib.Core.List.{List, [], ◌∷◌, ◌++◌, map, append_assoc}
 use lib.Dec.{eqb, leb, lit<}
 use lib.ListN.{length, take, drop, length-append}
 use lib.Seq.{take_at, drop_at}
 use borrow.Author.Tests.{eqb-true, eq-eqb}
 use Rattle.arithmetic.proofs.Choice.{and_left, and_right}
-use Rattle.admission.specs.Faults.{Fault, fine, fault, must, ◌⊳◌}
+use Rattle.admission.specs.Faults.{fault, must}
 use Rattle.admission.proofs.FaultLaws.{no-fault, unless-case}
 use Rattle.fields.specs.Bytes.{big_endian, each, AllBytes}
-use Rattle.fields.specs.Got.{Got, refused, got, then, guard}
+use Rattle.fields.specs.Got.{Got, refused, got}
 use Rattle.fields.proofs.ByteLaws.{length-big-endian}
 use Rattle.fields.proofs.Backs.{Every}
 use Rattle.fields.proofs.ChainLaws.{apart, then-got, guard-got, got_same}
@@ -21,12 +21,12 @@ use Rattle.scene_records.specs.declared.Version.{Version}
 use Rattle.scene_records.specs.declared.Version.TheVariants.{One, Two}
 use Rattle.dodgy_2d.specs.declared.Scene.{Scene}
 use Rattle.scene_records.specs.Records.{scene_in_version1}
-use Rattle.scene_records.specs.SceneBytes.{cart_bytes, obstacle_bytes, line_bytes}
+use Rattle.scene_records.specs.SceneBytes.{line_bytes}
 use Rattle.scene_records.specs.Versions.{byte_of, NumberedLine, number_of, SceneParts, parts_in, Numbered, blank_words, scene_in}
 use Rattle.scene_records.proofs.WrittenParts.{length-each, length-line}
 use Rattle.scene_records.proofs.VersionLaws.{zero_numbered, version-1-same, numbered_of, parts-read}
 use Rattle.scene_writer.specs.Writing.{Written, written, laid_scene}
-use Rattle.scene_moves.specs.Moves.{number_bytes, number_size, line_size, moved_lines, lines_start, moved_length, moved_bytes, all_zero, keeps, moved, laid_move, moved_into}
+use Rattle.scene_moves.specs.Moves.{number_bytes, number_size, line_size, moved_lines, lines_start, moved_bytes, all_zero, keeps, moved, laid_move, moved_into}
 use Rattle.scene_moves.proofs.PutMoves.{number-long}
 use Rattle.scene_moves.proofs.VersionParts.{numbered_line_bytes, middle_bytes, versioned_body, versioned_bytes, length-numbered, parts-taken, GoodNumber, GoodNumbered, GoodRecord, record-good, record-is-bytes, record-read}
 

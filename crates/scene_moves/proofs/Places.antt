@@ -1,8 +1,8 @@
 -- Where the fields of a record that was read stand: the lines are last, behind 41 bytes at least. Assumes nothing.
-use Prim.Native.Nat.{ℕ, zero, suc, ◌+◌, ◌-◌, ◌*◌, ◌≤◌}
+use Prim.Native.Nat.{ℕ, zero, suc, ◌+◌, ◌*◌, ◌≤◌}
 use native.Mathlib.Omega.{arith}
 use native.Mathlib.Nat.{mul-suc, mul-zero, le_trans}
-use mathlib.Core.Path.{◌≡◌, refl, sym, ◌∙◌}
+use mathlib.Core.Path.{◌≡◌, sym, ◌∙◌}
 use mathlib.Core.Bool.{Bool}
 use mathlib.Core.List.{List}
 use lib.ListN.{length}
@@ -13,7 +13,7 @@ use Rattle.common.specs.Vectors.{reach}
 use Rattle.edges.specs.Edges.{OuterVertex}
 use Rattle.obstacles.specs.Doubled.{none_before, on_vertex}
 use Rattle.lines.specs.declared.Line.{Line}
-use Rattle.fields.specs.Got.{Got, got, word, many}
+use Rattle.fields.specs.Got.{Got, got, many}
 use Rattle.fields.proofs.ChainLaws.{then-got, cons-got, got_same}
 use Rattle.fields.proofs.Spans.{word_fits}
 use Rattle.scene_records.specs.declared.Cart.{Cart}

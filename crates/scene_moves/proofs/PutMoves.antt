@@ -3,11 +3,11 @@ use Prim.Native.Nat.{ℕ, zero, suc, ◌+◌, ◌-◌, ◌*◌, ◌≤◌, ◌<�
 use native.Mathlib.Omega.{arith}
 use native.Mathlib.Nat.{mul-suc, mul-zero, zero-add, add-zero, sub-zero}
 use mathlib.Core.Path.{◌≡◌, refl, sym, ap, ◌∙◌}
-use mathlib.Core.List.{List, [], ◌∷◌, ◌++◌, append_assoc, append-nil}
-use lib.ListN.{length, take, drop, length-append, length-drop, drop_of_length-le}
-use lib.Seq.{sets, sets-eq, drop-drop, length-take-le, take-length}
+use mathlib.Core.List.{List, [], ◌∷◌, ◌++◌, append_assoc}
+use lib.ListN.{length, take, drop, length-append, length-drop}
+use lib.Seq.{sets, sets-eq, drop-drop, length-take-le}
 use Rattle.fields.specs.Bytes.{big_endian}
-use borrow.Rule.Slice.PartMut.{put_mid, post_of}
+use borrow.Rule.Slice.PartMut.{put_mid}
 use Rattle.words.specs.Words.{word_bytes}
 use Rattle.fields.proofs.ByteLaws.{length-big-endian}
 use Rattle.fields.proofs.WordLaws.{word-stored}
@@ -66,16 +66,11 @@ line-long v w r h =
 
 -- ---- one line put
 
-pub numbered-put : (b m c r : List ℕ) (at : ℕ) → m ≡ sets b at (word_bytes 0) → c ≡ sets m (at + 4) (take 16 r) →
-    c ≡ sets b at (line_moved One Two r)
+pub numbered-put : (b m c r : List ℕ) (at : ℕ) → m ≡ sets b at (word_bytes 0) → c ≡ sets m (at + 4) r →
+    c ≡ sets b at (number_bytes Two 0 ++ r)
 unfolding number_bytes
 numbered-put b m c r at e f =
-    rw (sets-append b at (big_endian 4 0) (take 16 r), length-big-endian 4 0, ← word-stored 0, ← e) f
-
-pub unnumbered-put : (b c s : List ℕ) (at from : ℕ) → c ≡ sets b at (take 16 (drop (from + 4) s)) →
-    c ≡ sets b at (line_moved Two One (drop from s))
-unfolding number_bytes
-unnumbered-put b c s at from e = rw (drop-drop 4 from s) e
+    rw (sets-append b at (big_endian 4 0) r, length-big-endian 4 0, ← word-stored 0, ← e) f
 
 -- ---- line behind line
 
@@ -83,7 +78,11 @@ one_more : (v : Version) (i : ℕ) → line_size v * (i + 1) ≡ line_size v * i
 one_more One i = omega arith
 one_more Two i = omega arith
 
-room-left : (v : Version) (i n : ℕ) → i < n → line_size v * i + line_size v ≤ line_size v * n
+pub lines-few : (v : Version) (n : ℕ) → line_size v * n ≤ 20 * n
+lines-few One n = omega arith
+lines-few Two n = omega arith
+
+pub room-left : (v : Version) (i n : ℕ) → i < n → line_size v * i + line_size v ≤ line_size v * n
 room-left One i n h = omega arith
 room-left Two i n h = omega arith
 

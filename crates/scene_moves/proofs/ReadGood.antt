@@ -1,10 +1,9 @@
 -- Law: what a record was read to is admitted, part by part. Assumes nothing.
-use Prim.Native.Nat.{ℕ, zero, suc, ◌+◌}
-use mathlib.Core.Path.{◌≡◌, refl, sym}
+use Prim.Native.Nat.{ℕ, zero, suc}
+use mathlib.Core.Path.{◌≡◌, refl}
 use mathlib.Core.Bool.{Bool, true, false}
 use mathlib.Core.List.{List}
 use lib.Dec.{T}
-use lib.ListN.{length}
 use lib.Ieee.{Float, binary32, fits, of_bits}
 use lib.Ieee.Bits.{of_bits-fits}
 use Rattle.admission.specs.Faults.{within}
@@ -18,7 +17,7 @@ use Rattle.fields.proofs.Backs.{Every}
 use Rattle.fields.proofs.ChainLaws.{then-got, cons-got, got_same}
 use Rattle.scene_records.specs.declared.Cart.{Cart}
 use Rattle.scene_records.specs.Steps.{number, vector}
-use Rattle.scene_records.specs.Parts.{cart, vertex, vertices_at, Obstacle, size_of, obstacle, obstacles, neighbour}
+use Rattle.scene_records.specs.Parts.{cart, vertex, vertices_at, Obstacle, obstacle, obstacles, neighbour}
 use Rattle.scene_records.proofs.Taken.{number-taken, vector-taken, cart-taken, vertex-taken, obstacle-taken, line_taken}
 use Rattle.scene_records.proofs.WrittenParts.{Good, GoodVector, GoodCart, GoodVertex, GoodObstacle, GoodLine, on_total}
 

@@ -9,7 +9,7 @@ use lib.Dec.{lit<}
 use lib.ListN.{length, drop, length-drop, length-append}
 use lib.Seq.{drop-length}
 use Rattle.fields.specs.Bytes.{big_endian, each, AllBytes}
-use Rattle.fields.specs.Got.{got, word, many}
+use Rattle.fields.specs.Got.{got, word}
 use Rattle.fields.proofs.ByteLaws.{length-big-endian}
 use Rattle.fields.proofs.ChainLaws.{then-got, got_same}
 use Rattle.fields.proofs.Spans.{Span, join, word_fits, word-span, many-span}

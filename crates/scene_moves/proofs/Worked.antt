@@ -5,7 +5,7 @@ use mathlib.Core.List.{List, [], ◌∷◌, ◌++◌}
 use lib.ListN.{drop, replicate}
 use Rattle.admission.specs.Faults.{fine, fault, within, inside}
 use Rattle.fields.specs.Bytes.{big_endian_from, big_endian_number, big_endian}
-use Rattle.fields.specs.Got.{Got, refused, got, word, many}
+use Rattle.fields.specs.Got.{refused, got, word, many}
 use Rattle.lines.proofs.Computed.{computed}
 use Rattle.scene_records.specs.declared.Version.TheVariants.{One, Two}
 use Rattle.scene_records.specs.Steps.{version, count, number, vector, ended}

@@ -49,9 +49,12 @@ all_zero [] = true
 all_zero (n ∷ ns) = eqb n 0 && all_zero ns
 
 -- whether no number is lost on the way to the version
+abbrev pub keeps_all : Version → List ℕ → Bool
+keeps_all One ns = all_zero ns
+keeps_all Two ns = true
+
 abbrev pub keeps : Version → SceneParts → Bool
-keeps One p = all_zero (map number_of p.neighbours)
-keeps Two p = true
+keeps v p = keeps_all v (map number_of p.neighbours)
 
 -- "11, after all other checks of the record, for a move back that would lose a number"
 unfoldable pub moved : Version → Version → List ℕ → Got (List ℕ)

@@ -1,7 +1,7 @@
 -- The constants of scene records: the longest rest is what the counts allow, so that the limit is met exactly. Assumes nothing.
-use Prim.Native.Nat.{ℕ, ◌+◌, ◌*◌}
+use Prim.Native.Nat.{◌+◌, ◌*◌}
 use mathlib.Core.Path.{◌≡◌, refl}
-use mathlib.Core.List.{List, [], ◌∷◌}
+use mathlib.Core.List.{[], ◌∷◌}
 use Rattle.admission.specs.Heads.{most_together}
 use Rattle.dodgy_2d.specs.Scenes.{most_obstacles, most_neighbours}
 use Rattle.scene_records.specs.Steps.{scene_version}

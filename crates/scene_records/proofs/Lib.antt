@@ -1,11 +1,9 @@
--- The laws of `scene_records`: of the cursor and the steps that it takes; of records and the bytes of scenes, there and
--- back; and of the answer.
-pub mod Cursors
+-- The laws of `scene_records`: of the steps that the code takes; of records and the bytes of scenes, there and back; and
+-- of the answer.
+pub mod Chains
 pub mod Taken
-pub mod FieldLaws
 pub mod StoredLaws
 pub mod WallLaws
-pub mod RecordLaws
 pub mod RowLaws
 pub mod VersionLaws
 pub mod SceneParts

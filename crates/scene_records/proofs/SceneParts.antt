@@ -2,22 +2,20 @@
 use Prim.Native.Nat.{ℕ, ◌*◌, ◌≤◌}
 use native.Mathlib.Omega.{arith}
 use native.Mathlib.Nat.{zero-add}
-use mathlib.Core.Path.{◌≡◌, refl, ap}
+use mathlib.Core.Path.{◌≡◌, refl}
 use mathlib.Core.List.{List, [], ◌∷◌, ◌++◌, map, append_assoc}
 use lib.ListN.{length, take, drop, length-map}
 use lib.Seq.{sets, sets-eq, take_at, drop_at}
 use lib.Ieee.{Float}
-use Rattle.common.specs.declared.Vec2.{Vec2}
 use Rattle.lines.specs.declared.Line.{Line}
 use Rattle.lines.specs.Lines.{lines_of, four_of, numbers_of}
 use Rattle.lines.proofs.Rows.{lines-append}
-use Rattle.obstacles.specs.Vertices.{vertices_of}
 use Rattle.obstacles.specs.Read.{blank_numbers}
 use Rattle.lines.proofs.Numbers.{lines-back, numbers-long}
 use Rattle.dodgy_2d.specs.Scenes.{heads_of, heads_in, neighbours_in}
 use Rattle.fields.specs.Bytes.{each}
 use Rattle.scene_records.specs.declared.Cart.{Cart}
-use Rattle.scene_records.specs.Parts.{coordinates, Obstacle, size_of, kind_of, numbers_in, blank_bytes, blank_vertices}
+use Rattle.scene_records.specs.Parts.{Obstacle, size_of, kind_of, numbers_in, blank_bytes, blank_vertices}
 use Rattle.scene_records.specs.Records.{scene_of}
 use Rattle.scene_records.specs.SceneBytes.{with_vertices, obstacles_in}
 use Rattle.scene_records.proofs.WallLaws.{length-coordinates, vertices-back}

@@ -2,7 +2,7 @@
 use Prim.Native.Nat.{ℕ, zero, suc, ◌-◌, ◌≤◌, ◌<◌}
 use native.Mathlib.Omega.{arith}
 use mathlib.Core.Path.{◌≡◌, refl, sym, ap, ◌∙◌}
-use mathlib.Core.Bool.{Bool, true, false, ◌||◌}
+use mathlib.Core.Bool.{Bool, true, false}
 use mathlib.Core.Logic.{⊎_elim}
 use mathlib.Core.List.{List, [], ◌∷◌, map}
 use lib.Dec.{eqb, leb}
@@ -14,17 +14,16 @@ use Rattle.lines.specs.declared.Line.{Line}
 use Rattle.dodgy_2d.specs.declared.Scene.{Scene}
 use Rattle.fields.specs.Got.{Got, refused, got, then, guard, word, many}
 use Rattle.scene_records.specs.declared.Cart.{Cart}
-use Rattle.scene_records.specs.declared.Cursor.{Cursor}
-use Rattle.scene_records.specs.declared.SceneRead.{SceneRead}
+use Rattle.std.specs.Prelude.{Result, Ok, Err}
+use Rattle.admission.specs.declared.refusal.Refusal.{Refusal}
 use Rattle.scene_records.specs.declared.NumberedScene.{NumberedScene}
 use Rattle.scene_records.specs.declared.Version.{Version}
 use Rattle.scene_records.specs.declared.Version.TheVariants.{One, Two}
-use Rattle.scene_records.specs.Steps.{from, told, version, count, ended}
+use Rattle.scene_records.specs.Steps.{version, count, ended}
 use Rattle.scene_records.specs.Parts.{cart, Obstacle, obstacles, neighbour, neighbours}
-use Rattle.scene_records.specs.Records.{scene_of, fields_in, announced, scene_in_version1, longest_rest, read_as}
+use Rattle.scene_records.specs.Records.{fields_in, announced, scene_in_version1, longest_rest, read_as}
 use Rattle.scene_records.specs.Versions.{byte_of, longest_either, longest_of, is_either, version_of, line_number, NumberedLine, numbered, numbered_line, numbered_lines, either_version, fields_with, behind_version, record_with, line_of, number_of, Numbered, blank_words, scene_made, scene_in, scene_in_version, SceneParts, parts_made, parts_in, numbered_as}
 use Rattle.fields.proofs.ChainLaws.{apart, then-got, guard-got, got_same}
-use Rattle.scene_records.proofs.Cursors.{then-told, linked}
 use Rattle.scene_records.proofs.Taken.{numbered-taken, record-taken}
 
 -- ---- "A version 1 reader answers 1 to a version 2 record, or 4 if the length is over its own limit, and shows nothing of it."
@@ -109,24 +108,43 @@ record-zero : (s : List ℕ) → zero_numbered (scene_in_version1 s) ≡ then (a
 unfolding scene_in_version1
 record-zero s = then-zero (announced longest_rest s) _ _ λ u a. fields-zero s a
 
+number_same : {A : Type 0} (n r : ℕ) → ◌≡◌ {A = Got A} (refused n) (refused r) → n ≡ r
+number_same n r e = cc
+
 -- ---- what the code hands over of a version 1 record
 
-abbrev shown_of : NumberedScene → SceneRead
-shown_of r = record { judged = r.judged; scene = r.scene }
+abbrev shown_of : Result NumberedScene Refusal → Result Scene Refusal
+shown_of (Ok r) = Ok r.scene
+shown_of (Err e) = Err e
 
 shown : (g : Got Scene) → shown_of (numbered_as (zero_numbered g)) ≡ read_as g
 shown (refused r) = refl
 shown (got c at) = refl
 
-pub version-1-given : (s : List ℕ) (c d : Cursor) (r : NumberedScene) → told c (tt {0}) ≡ announced longest_rest s →
-    told d (tt {0}) ≡ from c (version 1 s)
-    → r ≡ numbered_as (from d (fields_with scene_made One s)) → shown_of r ≡ read_as (scene_in_version1 s)
-version-1-given s c d r read_length read-version e =
-    let behind : (u : Unit {0}) → ℕ → Got Numbered = λ u a. then (version 1 s a) λ w b. fields_with scene_made One s b in
-    let here : from d (fields_with scene_made One s) ≡ zero_numbered (scene_in_version1 s) =
-    sym (linked (version 1 s) _ c d (tt {0}) read-version) ∙ sym (then-told c (tt {0}) behind)
-    ∙ ap (λ (g : Got (Unit {0})). then g behind) read_length ∙ sym (record-zero s) in
-    ap shown_of (e ∙ ap numbered_as here) ∙ shown (scene_in_version1 s)
+module _ (s : List ℕ) (a b : ℕ) where
+  abbrev fields : Got Numbered
+  fields = fields_with scene_made One s b
+
+  behind-version : got (tt {0}) a ≡ announced longest_rest s → got (tt {0}) b ≡ version 1 s a →
+      fields ≡ zero_numbered (scene_in_version1 s)
+  behind-version read_length read-version =
+      let behind : (u : Unit {0}) → ℕ → Got Numbered = λ u a. then (version 1 s a) λ w b. fields_with scene_made One s b in
+      ap (λ (g : Got (Unit {0})). then g λ w b. fields_with scene_made One s b) read-version
+      ∙ ap (λ (g : Got (Unit {0})). then g behind) read_length ∙ sym (record-zero s)
+
+  pub version-1-given : (r : Result NumberedScene Refusal) → got (tt {0}) a ≡ announced longest_rest s →
+      got (tt {0}) b ≡ version 1 s a → r ≡ numbered_as fields → shown_of r ≡ read_as (scene_in_version1 s)
+  version-1-given r read_length read-version e =
+      ap shown_of (e ∙ ap numbered_as (behind-version read_length read-version)) ∙ shown (scene_in_version1 s)
+
+  zero-refused : (n : ℕ) (g : Got Scene) → zero_numbered g ≡ refused n → g ≡ refused n
+  zero-refused n (refused r) e = ap refused (number_same r n e)
+  zero-refused n (got c at) e = apart n (record { scene = c; numbers = blank_words }) at (sym e)
+
+  pub version-1-refused : (n : ℕ) → got (tt {0}) a ≡ announced longest_rest s → got (tt {0}) b ≡ version 1 s a →
+      fields ≡ refused n → scene_in_version1 s ≡ refused n
+  version-1-refused n read_length read-version e =
+      zero-refused n (scene_in_version1 s) (sym (behind-version read_length read-version) ∙ e)
 
 -- ---- a version 1 record under the reader of both: read, or refused, as by 01's, and every number is 0
 
@@ -189,9 +207,6 @@ module _ (s : List ℕ) (x : Numbered) (m : ℕ) where
       next v (rw (p, read-b, byte, (got_same last).1) z)
 
 -- ---- whatever is made of the fields, they are read alike
-
-number_same : {A : Type 0} (n r : ℕ) → ◌≡◌ {A = Got A} (refused n) (refused r) → n ≡ r
-number_same n r e = cc
 
 refused-alike : {A B C : Type 0} (r : ℕ) (g : Got A) (k : A → ℕ → Got B) (h : A → ℕ → Got C) →
     ((a : A) (m : ℕ) → k a m ≡ refused r → h a m ≡ refused r) → then g k ≡ refused r → then g h ≡ refused r

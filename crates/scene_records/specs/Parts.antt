@@ -17,8 +17,6 @@ use Rattle.dodgy_2d.specs.Scenes.{most_obstacles}
 use Rattle.fields.specs.Bytes.{each}
 use Rattle.fields.specs.Got.{Got, refused, got, then, guard, word, many}
 use Rattle.scene_records.specs.declared.Cart.{Cart}
-use Rattle.scene_records.specs.declared.HeadRead.{HeadRead}
-use Rattle.scene_records.specs.declared.Cursor.TheVariants as cursor
 use Rattle.scene_records.specs.Steps.{number, vector}
 
 -- ---- the cart
@@ -48,10 +46,6 @@ head s total at =
     guard (room_for total c) 4 (
     guard (not (is_empty_open k c)) 5 (
     got (head_of k c) b)))
-
-abbrev pub head_as : Got Head → HeadRead
-head_as (refused r) = record { kind = 0; count = 0; next = cursor.Fault r }
-head_as (got h at) = record { kind = h.kind; count = h.count; next = cursor.At at }
 
 -- 02, T-11: "14, at the second vertex of the pair after its own check for 6"
 unfoldable pub vertex : List ℕ → OuterVertex → ℕ → Got Vec2

@@ -1,8 +1,9 @@
 -- 01, "Records": a whole scene record, and the scene that it is read to. Definitions only. Assumes nothing.
-use Rattle.std.specs.Prelude.{ℕ, ◌-◌, List, length, leb, eqb, Float}
+use Rattle.std.specs.Prelude.{ℕ, ◌-◌, List, length, leb, eqb, Float, Result, Ok, Err}
 use Rattle.std.proofs.lemmas.List.Edits.{sets}
 use Rattle.arithmetic.specs.Binary32.{0ᶠ}
-use Rattle.admission.specs.Faults.{fine, fault, judged_as}
+use Rattle.admission.specs.declared.refusal.Refusal.{Refusal}
+use Rattle.admission.specs.Refusals.{refusal_of}
 use Rattle.common.specs.Vectors.{zero_vector}
 use Rattle.lines.specs.declared.Line.{Line}
 use Rattle.lines.specs.Lines.{four_of}
@@ -12,7 +13,6 @@ use Rattle.dodgy_2d.specs.Scenes.{most_obstacles, most_neighbours}
 use Rattle.fields.specs.Bytes.{each}
 use Rattle.fields.specs.Got.{Got, refused, got, then, guard, word}
 use Rattle.scene_records.specs.declared.Cart.{Cart}
-use Rattle.scene_records.specs.declared.SceneRead.{SceneRead}
 use Rattle.scene_records.specs.Steps.{scene_version, version, count, ended}
 use Rattle.scene_records.specs.Parts.{cart, cart_of, Obstacle, obstacles, neighbours, Walls, walls, walls_with, blank_bytes, blank_vertices}
 
@@ -72,7 +72,7 @@ announced most s = then (word 2 s 0) λ n a. guard (leb n most) 4 (guard (eqb n 
 unfoldable pub scene_in_version1 : List ℕ → Got Scene
 scene_in_version1 s = then (announced longest_rest s) λ u a. fields_in s a
 
--- what the code hands over: the scene; or the fault, with a blank scene beside it
-abbrev pub read_as : Got Scene → SceneRead
-read_as (refused r) = record { judged = judged_as (fault r); scene = blank_scene }
-read_as (got c at) = record { judged = judged_as fine; scene = c }
+-- what the code hands over: the scene, or the refusal
+abbrev pub read_as : Got Scene → Result Scene Refusal
+read_as (refused r) = Err (refusal_of r)
+read_as (got c at) = Ok c

@@ -1,36 +1,34 @@
 -- 01, "Refusal numbers": "fields left to right, each first for missing bytes (2), then its own rule". The fields of one
--- number, and what the code's cursor says. Definitions only. Assumes nothing.
-use Rattle.std.specs.Prelude.{ℕ, Bool, true, false, List, leb, eqb, length, Float}
+-- number, and what a step of the code tells. Definitions only. Assumes nothing.
+use Rattle.std.specs.Prelude.{◌≡◌, ℕ, Bool, List, leb, eqb, length, Float, Result, Ok, Err}
 use Rattle.std.specs.Float.{binary32}
 use Rattle.std.specs.Float.Ieee.{of_bits}
 use Rattle.arithmetic.specs.Binary32.{finite}
 use Rattle.admission.specs.Faults.{within, inside}
+use Rattle.admission.specs.declared.refusal.Refusal.{Refusal}
+use Rattle.admission.specs.Refusals.{number_of}
 use Rattle.common.specs.declared.Vec2.{Vec2}
 use Rattle.common.specs.Vectors.{vec}
 use Rattle.fields.specs.Got.{Got, refused, got, then, guard, word}
-use Rattle.scene_records.specs.declared.Cursor.{Cursor}
-use Rattle.scene_records.specs.declared.Cursor.TheVariants as cursor
-use Rattle.scene_records.specs.declared.Rule.{Rule}
-use Rattle.scene_records.specs.declared.Rule.TheVariants as rule
-use Rattle.scene_records.specs.declared.CountRead.{CountRead}
+use Rattle.scene_records.specs.declared.steps.Rule.{Rule}
+use Rattle.scene_records.specs.declared.steps.Rule.TheVariants as rule
 
--- ---- the cursor
+-- ---- what a step of the code tells
 
--- a step taken where the cursor stands; a fault stays
-unfoldable pub from : {A : Type 0} → Cursor → (ℕ → Got A) → Got A
-from (cursor.At at) step = step at
-from (cursor.Fault r) step = refused r
+-- a value that was read and the place behind it; or the refusal's number
+abbrev pub read_of : {A : Type 0} → Result (A × ℕ) Refusal → Got A
+read_of (Ok read) = got read.0 read.1
+read_of (Err r) = refused (number_of r)
 
--- a value that was read up to the cursor, which means nothing behind a fault
-unfoldable pub told : {A : Type 0} → Cursor → A → Got A
-told (cursor.At at) a = got a at
-told (cursor.Fault r) a = refused r
+-- a value that was stored up to the place, which means nothing behind a refusal
+abbrev pub told : {A : Type 0} → Result ℕ Refusal → A → Got A
+told (Ok at) a = got a at
+told (Err r) a = refused (number_of r)
 
--- the cursor where the rule passes, else the fault
-abbrev pub held : Bool → ℕ → Cursor → Cursor
-held passes r (cursor.Fault n) = cursor.Fault n
-held true r (cursor.At at) = cursor.At at
-held false r (cursor.At at) = cursor.Fault r
+-- a refusal that is handed over is the one that is told
+abbrev pub RefusedAs : {A B : Type 0} → Result A Refusal → Got B → Type 0
+RefusedAs (Ok a) g = Unit {0}
+RefusedAs (Err r) g = g ≡ refused (number_of r)
 
 abbrev pub rule_of : Rule → Float → Bool
 rule_of (rule.Within bound) = within bound
@@ -49,10 +47,6 @@ version asked s at = then (word 1 s at) λ v a. guard (eqb v asked) 1 (got tt a)
 -- "a count is over its limit": 4
 unfoldable pub count : ℕ → List ℕ → ℕ → Got ℕ
 count most s at = then (word 1 s at) λ n a. guard (leb n most) 4 (got n a)
-
-abbrev pub count_as : Got ℕ → CountRead
-count_as (refused r) = record { value = 0; next = cursor.Fault r }
-count_as (got n at) = record { value = n; next = cursor.At at }
 
 -- "a number not finite or out of range": 6
 unfoldable pub number : (Float → Bool) → List ℕ → ℕ → Got Float

@@ -1,8 +1,9 @@
 -- 02, T-07: scene records of both versions, read field by field to a scene and its neighbours' numbers. Definitions
 -- only. Assumes nothing.
-use Rattle.std.specs.Prelude.{ℕ, ◌-◌, ◌*◌, Bool, cond, ◌||◌, List, map, leb, eqb, length, replicate, Float}
+use Rattle.std.specs.Prelude.{ℕ, ◌-◌, ◌*◌, Bool, cond, ◌||◌, List, map, leb, eqb, length, replicate, Float, Result, Ok, Err}
 use Rattle.std.proofs.lemmas.List.Edits.{sets}
-use Rattle.admission.specs.Faults.{fine, fault, judged_as}
+use Rattle.admission.specs.declared.refusal.Refusal.{Refusal}
+use Rattle.admission.specs.Refusals.{refusal_of}
 use Rattle.lines.specs.declared.Line.{Line}
 use Rattle.lines.specs.Lines.{four_of}
 use Rattle.obstacles.specs.Read.{blank_numbers}
@@ -16,7 +17,7 @@ use Rattle.scene_records.specs.declared.NumberedScene.{NumberedScene}
 use Rattle.scene_records.specs.declared.Version.TheVariants.{One, Two}
 use Rattle.scene_records.specs.Steps.{scene_version, version, count, ended}
 use Rattle.scene_records.specs.Parts.{cart, Obstacle, obstacles, neighbour}
-use Rattle.scene_records.specs.Records.{scene_of, longest_rest, announced, blank_scene}
+use Rattle.scene_records.specs.Records.{scene_of, longest_rest, announced}
 
 -- ---- the versions
 
@@ -121,10 +122,10 @@ scene_in s = then (announced longest_either s) λ u a. then (either_version s a)
 abbrev pub scene_in_version : Version → List ℕ → Got Numbered
 scene_in_version v s = record_with scene_made v s
 
--- what the code hands over: the scene and its numbers; or the fault, with a blank scene and zeros beside it
-abbrev pub numbered_as : Got Numbered → NumberedScene
-numbered_as (refused r) = record { judged = judged_as (fault r); scene = blank_scene; numbers = blank_words }
-numbered_as (got x at) = record { judged = judged_as fine; scene = x.scene; numbers = x.numbers }
+-- what the code hands over: the scene and its numbers, or the refusal
+abbrev pub numbered_as : Got Numbered → Result NumberedScene Refusal
+numbered_as (refused r) = Err (refusal_of r)
+numbered_as (got x at) = Ok (record { scene = x.scene; numbers = x.numbers })
 
 -- ---- as the code stores them: lines and numbers from the index i on
 

@@ -1,184 +1,111 @@
-// Steps of reading: each goes on from a cursor, and behind a fault does nothing.
-ghost use Rattle.std.specs.Prelude.{◌≡◌, ◌+◌, ◌-◌, ◌<◌, leb};
+// Steps of reading: each takes the bytes from a place on, and tells the value and the place behind it.
+ghost use Rattle.std.specs.Prelude.{◌≡◌, ◌≤◌, ◌<◌, IfOk};
 ghost use Rattle.fields.specs.Got.{word};
-ghost use Rattle.scene_records.specs.Steps.{from, told, held, rule_of, number, vector, version, count, count_as, ended};
-ghost use Rattle.scene_records.specs.Versions.{longest_of, is_either, version_of, either_version};
+ghost use Rattle.scene_records.specs.Steps.{read_of, told, rule_of, number, vector, version, count, ended};
+ghost use Rattle.scene_records.specs.Versions.{byte_of, either_version};
 
-use crate::{
-    ByteRead, CountRead, Cursor, NumberRead, NumberedScene, Rule, SceneRead, VectorRead, Version,
-    VersionRead, WordRead,
-};
+use crate::{Read, Version};
+use admission::Refusal;
 use common::Vec2;
 
-// A byte as a size.
-pub(crate) fn wide(byte: u8) -> usize
-    ensures { (result ≡ byte) × (result < 256) }
-{
-    byte as usize
+// What a number is held to.
+#[derive(Clone, Copy)]
+pub(crate) enum Rule {
+    Within(f32),
+    Inside(f32, f32),
+    Finite,
 }
 
-// The cursor, if the rule passes; else the fault. An earlier fault stays.
-pub(crate) fn held_to(passes: bool, number: u8, cursor: Cursor) -> Cursor
-    ensures { result ≡ held passes number cursor }
-{
-    if let Cursor::Fault(first) = cursor {
-        return Cursor::Fault(first);
-    }
-    if passes {
-        return cursor;
-    }
-    Cursor::Fault(number)
-}
-
-pub(crate) fn byte_at(bytes: &[u8], cursor: Cursor) -> ByteRead
-    ensures { told result.next result.value ≡ from cursor (word 1 bytes.now) }
-{
-    let Cursor::At(at) = cursor else {
-        return ByteRead {
-            value: 0,
-            next: cursor,
-        };
-    };
-    if at < bytes.len() {
-        return ByteRead {
-            value: bytes[at],
-            next: Cursor::At(at + 1),
-        };
-    }
-    ByteRead {
-        value: 0,
-        next: Cursor::Fault(2),
+impl Rule {
+    fn passes(self, x: f32) -> bool
+        ensures { result ≡ rule_of self x }
+    {
+        match self {
+            Rule::Within(bound) => admission::is_within(bound, x),
+            Rule::Inside(low, high) => admission::is_inside(low, high, x),
+            Rule::Finite => arithmetic::is_finite(x),
+        }
     }
 }
 
-// Behind the version byte, where it is the one that is asked for.
-pub(crate) fn version_at(bytes: &[u8], cursor: Cursor, asked: u8) -> Cursor
-    ensures { told result (tt {0}) ≡ from cursor (version asked bytes.now) }
+#[tactic(auto, using(crate::proofs::Chains::fields))]
+pub(crate) fn byte_at(bytes: &[u8], at: usize) -> Read<u8>
+    ensures { read_of result ≡ word 1 bytes.now at }
 {
-    let byte = byte_at(bytes, cursor);
-    let next = byte.next;
-    held_to(byte.value == asked, 1, next)
+    Refusal::MissingOrLeftOver.unless(at < bytes.len())?;
+    Ok((bytes[at], at + 1))
 }
 
-fn is_either(byte: u8) -> bool
-    ensures { result ≡ is_either byte }
+// Behind the version byte, where it is that of the version.
+#[tactic(auto, using(crate::proofs::Chains::chain), unfolding(crate::specs::Steps::version))]
+pub(crate) fn version_at(bytes: &[u8], at: usize, asked: Version) -> Result<usize, Refusal>
+    ensures { told result (tt {0}) ≡ version (byte_of asked) bytes.now at }
 {
-    if byte == SceneRead::VERSION {
-        return true;
-    }
-    byte == NumberedScene::VERSION
+    let (byte, at) = byte_at(bytes, at)?;
+    Refusal::OtherVersion.unless(byte == asked.byte())?;
+    Ok(at)
 }
 
-fn version_of(byte: u8) -> Version
-    ensures { result ≡ version_of byte }
+// Which of the two versions it is.
+#[tactic(auto, using(crate::proofs::Chains::chain), unfolding(crate::specs::Versions::either_version))]
+pub(crate) fn either_version_at(bytes: &[u8], at: usize) -> Read<Version>
+    ensures { read_of result ≡ either_version bytes.now at }
 {
-    if byte == NumberedScene::VERSION {
-        return Version::Two;
-    }
-    Version::One
-}
-
-// Which of the two versions it is, and behind it.
-pub(crate) fn either_version_at(bytes: &[u8], cursor: Cursor) -> VersionRead
-    ensures { told result.next result.value ≡ from cursor (either_version bytes.now) }
-{
-    let byte = byte_at(bytes, cursor);
-    let next = byte.next;
-    VersionRead {
-        value: version_of(byte.value),
-        next: held_to(is_either(byte.value), 1, next),
-    }
-}
-
-// Whether a record of so many bytes is within its version's longest.
-pub(crate) fn rest_fits(length: usize, version: Version) -> bool
-    ensures { result ≡ leb (length - 2) (longest_of version) }
-{
-    match version {
-        Version::One => length <= SceneRead::LONGEST_REST + 2,
-        Version::Two => length <= NumberedScene::LONGEST_REST + 2,
+    let (byte, at) = byte_at(bytes, at)?;
+    match byte {
+        1 => Ok((Version::One, at)),
+        2 => Ok((Version::Two, at)),
+        _ => Err(Refusal::OtherVersion),
     }
 }
 
 // A word of four bytes, of any value.
-pub(crate) fn word_at(bytes: &[u8], cursor: Cursor) -> WordRead
-    ensures { told result.next result.value ≡ from cursor (word 4 bytes.now) }
+#[tactic(auto, using(crate::proofs::Chains::fields))]
+pub(crate) fn word_at(bytes: &[u8], at: usize) -> Read<u32>
+    ensures { read_of result ≡ word 4 bytes.now at }
 {
-    let Cursor::At(at) = cursor else {
-        return WordRead {
-            value: 0,
-            next: cursor,
-        };
-    };
-    if admission::fits_behind(bytes.len(), at, 4) {
-        return WordRead {
-            value: words::word_at(bytes, at),
-            next: Cursor::At(at + 4),
-        };
-    }
-    WordRead {
-        value: 0,
-        next: Cursor::Fault(2),
-    }
+    Refusal::MissingOrLeftOver.unless(admission::fits_behind(bytes.len(), at, 4))?;
+    Ok((words::word_at(bytes, at), at + 4))
 }
 
 // A count of one byte that is at most `most`.
-pub(crate) fn count_at(bytes: &[u8], cursor: Cursor, most: usize) -> CountRead
-    ensures { result ≡ count_as (from cursor (count most bytes.now)) }
+#[tactic(auto, using(crate::proofs::Chains::chain), unfolding(crate::specs::Steps::count))]
+pub(crate) fn count_at(bytes: &[u8], at: usize, most: usize) -> Read<usize>
+    ensures reads { read_of result ≡ count most bytes.now at }
+    ensures few { IfOk result (λ read. read.0 ≤ most) }
 {
-    let byte = byte_at(bytes, cursor);
-    let value = wide(byte.value);
-    let next = byte.next;
-    let next = held_to(value <= most, 4, next);
-    match next {
-        Cursor::At(_) => CountRead { value, next },
-        Cursor::Fault(_) => CountRead { value: 0, next },
-    }
+    let (byte, at) = byte_at(bytes, at)?;
+    let count = usize::from(byte);
+    Refusal::TooMany.unless(count <= most)?;
+    Ok((count, at))
 }
 
-// Behind the last field, where the record ends.
-pub(crate) fn end_at(bytes: &[u8], cursor: Cursor) -> Cursor
-    ensures { told result (tt {0}) ≡ from cursor (ended bytes.now) }
+// The record's end, which is here.
+#[tactic(auto, using(crate::proofs::Chains::chain), unfolding(crate::specs::Steps::ended))]
+pub(crate) fn end_at(bytes: &[u8], at: usize) -> Result<usize, Refusal>
+    ensures { told result (tt {0}) ≡ ended bytes.now at }
 {
-    let Cursor::At(at) = cursor else {
-        return cursor;
-    };
-    held_to(at == bytes.len(), 2, cursor)
-}
-
-fn passes(rule: Rule, x: f32) -> bool
-    ensures { result ≡ rule_of rule x }
-{
-    match rule {
-        Rule::Within(bound) => admission::is_within(bound, x),
-        Rule::Inside(low, high) => admission::is_inside(low, high, x),
-        Rule::Finite => arithmetic::is_finite(x),
-    }
+    Refusal::MissingOrLeftOver.unless(at == bytes.len())?;
+    Ok(at)
 }
 
 // A number of four bytes. A NaN passes no rule.
-pub(crate) fn number_at(bytes: &[u8], cursor: Cursor, rule: Rule) -> NumberRead
-    ensures { told result.next result.value ≡ from cursor (number (rule_of rule) bytes.now) }
+#[tactic(auto, using(crate::proofs::Chains::chain), unfolding(crate::specs::Steps::number))]
+pub(crate) fn number_at(bytes: &[u8], at: usize, rule: Rule) -> Read<f32>
+    ensures { read_of result ≡ number (rule_of rule) bytes.now at }
 {
-    let word = word_at(bytes, cursor);
-    let value = words::number(word.value);
-    let next = word.next;
-    NumberRead {
-        value,
-        next: held_to(passes(rule, value), 6, next),
-    }
+    let (word, at) = word_at(bytes, at)?;
+    let value = words::number(word);
+    Refusal::OutOfRange.unless(rule.passes(value))?;
+    Ok((value, at))
 }
 
 // Two numbers, each judged for itself.
-pub(crate) fn vector_at(bytes: &[u8], cursor: Cursor, rule: Rule) -> VectorRead
-    ensures { told result.next result.value ≡ from cursor (vector (rule_of rule) bytes.now) }
+#[tactic(auto, using(crate::proofs::Chains::chain), unfolding(crate::specs::Steps::vector))]
+pub(crate) fn vector_at(bytes: &[u8], at: usize, rule: Rule) -> Read<Vec2>
+    ensures { read_of result ≡ vector (rule_of rule) bytes.now at }
 {
-    let x = number_at(bytes, cursor, rule);
-    let next = x.next;
-    let y = number_at(bytes, next, rule);
-    let next = y.next;
-    VectorRead {
-        value: Vec2::new(x.value, y.value),
-        next,
-    }
+    let (x, at) = number_at(bytes, at, rule)?;
+    let (y, at) = number_at(bytes, at, rule)?;
+    Ok((Vec2::new(x, y), at))
 }

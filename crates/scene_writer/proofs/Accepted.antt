@@ -1,5 +1,5 @@
 -- What holds of lent parts that pass: they are as long as the counts say, and so is their record. Assumes nothing.
-use Prim.Native.Nat.{ℕ, zero, suc, ◌+◌, ◌*◌, ◌≤◌, ◌<◌}
+use Prim.Native.Nat.{ℕ, zero, suc, ◌+◌, ◌*◌, ◌≤◌}
 use native.Mathlib.Omega.{arith}
 use native.Mathlib.Nat.{zero-add}
 use mathlib.Core.Path.{◌≡◌, refl, sym, ap, ◌∙◌}
@@ -8,9 +8,9 @@ use lib.Dec.{leb}
 use lib.ListN.{length, drop, length-drop, length-append}
 use lib.Seq.{sets, sets-eq}
 use lib.Ieee.{Float}
-use borrow.Author.Tests.{leb-true, le-leb, lt-leb}
+use borrow.Author.Tests.{leb-true}
 use Rattle.arithmetic.specs.Binary32.{finite}
-use Rattle.admission.specs.Faults.{fine, fault, ◌⊳◌, within}
+use Rattle.admission.specs.Faults.{fine, fault, must, within}
 use Rattle.admission.proofs.FaultLaws.{⊳-fine, must-fine}
 use Rattle.lines.specs.Lines.{lines_of}
 use Rattle.lines.specs.LineFaults.{line_reach}
@@ -180,16 +180,20 @@ module _ (c : Cart) (n : ℕ) (ks cs : List ℕ) (xs : List Float) (m : ℕ) (ls
     its-size : length (lent_bytes c ks cs xs ls) ≡ size
     its-size = record-size c n ks cs xs m ls (passed c n ks cs xs m ls (sym e)).fits ∙ sym sized
 
-    pub told-short : length buffer < size → written (fault 10) 0 buffer ≡ written_scene c n ks cs xs m ls buffer
-    unfolding written_scene laid_scene
-    told-short h = rw (← e, lt-leb (length (lent_bytes c ks cs xs ls)) (length buffer) (rw its-size h))
+    asked : must (leb size (length buffer)) 10 ≡ must (leb (length (lent_bytes c ks cs xs ls)) (length buffer)) 10
+    asked = ap (λ (k : ℕ). must (leb k (length buffer)) 10) (sym its-size)
 
-    pub told-written : (w : List ℕ) → size ≤ length buffer →
+    pub told-short : (r : ℕ) → fault r ≡ must (leb size (length buffer)) 10 → written (fault r) 0 buffer
+        ≡ written_scene c n ks cs xs m ls buffer
+    unfolding written_scene laid_scene
+    told-short r h = rw (← e, ← (h ∙ asked)) refl
+
+    pub told-written : (w : List ℕ) → fine ≡ must (leb size (length buffer)) 10 →
         w ≡ sets buffer 0 (record_bytes c (lent_obstacles ks cs xs) (lines_of ls)) → written fine size w
         ≡ written_scene c n ks cs xs m ls buffer
     unfolding written_scene laid_scene
     told-written w h put =
-        let room : length (lent_bytes c ks cs xs ls) ≤ length buffer = rw its-size h in
-        rw (← e, le-leb (length (lent_bytes c ks cs xs ls)) (length buffer) room)
+        let room : length (lent_bytes c ks cs xs ls) ≤ length buffer = leb-true _ _ (must-fine _ 10 (sym (h ∙ asked))) in
+        rw (← e, ← (h ∙ asked))
         (ap (λ (k : ℕ). written fine k w) (sym its-size) ∙ ap (written fine (length (lent_bytes c ks cs xs ls))) (put
         ∙ put-lent room))

@@ -4,25 +4,27 @@ use mathlib.Core.Path.{◌≡◌, refl, sym, ap, ◌∙◌}
 use mathlib.Core.List.{List}
 use Rattle.arithmetic.proofs.Agree.{agree}
 use Rattle.admission.specs.Faults.{Fault, fine, fault}
-use Rattle.scene_records.specs.declared.SceneWritten.{SceneWritten}
-use Rattle.scene_records.specs.declared.SceneWritten.TheVariants as scene-written
+use Rattle.std.specs.Prelude.{Result, Ok, Err}
+use Rattle.admission.specs.declared.refusal.Refusal.{Refusal}
+use Rattle.admission.specs.Refusals.{refusal_of}
+use Rattle.admission.proofs.FaultLaws.{refusal-back}
 use Rattle.scene_writer.specs.Writing.{Written, written_of}
 
 -- the answer, from what is told and the size
-answer_in : Fault → ℕ → SceneWritten
-answer_in fine n = scene-written.Length n
-answer_in (fault r) n = scene-written.Refused r
+answer_in : Fault → ℕ → Result ℕ Refusal
+answer_in fine n = Ok n
+answer_in (fault r) n = Err (refusal_of r)
 
-answer_back : (s : SceneWritten) (l : List ℕ) → answer_in (written_of s l).told (written_of s l).size ≡ s
+answer_back : (s : Result ℕ Refusal) (l : List ℕ) → answer_in (written_of s l).told (written_of s l).size ≡ s
 unfolding answer_in
-answer_back (scene-written.Length n) l = refl
-answer_back (scene-written.Refused r) l = refl
+answer_back (Ok n) l = refl
+answer_back (Err r) l = ap Err (refusal-back r)
 
-contents-back : (s : SceneWritten) (l : List ℕ) → (written_of s l).contents ≡ l
-contents-back (scene-written.Length n) l = refl
-contents-back (scene-written.Refused r) l = refl
+contents-back : (s : Result ℕ Refusal) (l : List ℕ) → (written_of s l).contents ≡ l
+contents-back (Ok n) l = refl
+contents-back (Err r) l = refl
 
-pub scene-writings-agree : {one other : SceneWritten} {held kept : List ℕ} {promised : Written} →
+pub scene-writings-agree : {one other : Result ℕ Refusal} {held kept : List ℕ} {promised : Written} →
     written_of one held ≡ promised → written_of other kept ≡ promised → (one ≡ other) × (held ≡ kept)
 scene-writings-agree {one} {other} {held} {kept} p q =
     let same = agree p q in (

@@ -8,3 +8,4 @@ pub mod WrittenIsRead
 pub mod ReadIsWritten
 pub mod Agreement
 pub mod Computed
+pub mod Judging

@@ -7,11 +7,12 @@ use lib.Dec.{leb}
 use lib.ListN.{drop}
 use lib.Seq.{drop-drop}
 use lib.Ieee.{Float}
-use borrow.Author.Tests.{le-leb, lt-leb, leb-true}
+use borrow.Author.Tests.{leb-true}
 use Rattle.admission.specs.Faults.{Fault, fine, fault, must, ◌⊳◌}
 use Rattle.admission.proofs.FaultLaws.{⊳-fine, must-fine}
 use Rattle.dodgy_2d.specs.Scenes.{most_neighbours}
 use Rattle.scene_writer.specs.Writing.{lent_line_fault, lent_lines_fault, neighbours_fault}
+use Rattle.scene_writer.proofs.Judging.{first-told, second-told}
 
 -- ---- the lines from the i-th of n on
 
@@ -41,13 +42,13 @@ module _ (xs : List Float) (n i : ℕ) where
 -- ---- the whole
 
 module _ (xs : List Float) (n : ℕ) where
-  pub too_many : most_neighbours < n → fault 4 ≡ neighbours_fault n xs
+  pub too_many : (r : ℕ) → fault r ≡ must (leb n most_neighbours) 4 → neighbours_fault n xs ≡ fault r
   unfolding neighbours_fault
-  too_many h = rw (lt-leb n most_neighbours h)
+  too_many r e = first-told (must (leb n most_neighbours) 4) (lent_lines_fault n xs) r e
 
-  pub few : n ≤ most_neighbours → neighbours_fault n xs ≡ lent_lines_fault n xs
+  pub few : fine ≡ must (leb n most_neighbours) 4 → neighbours_fault n xs ≡ lent_lines_fault n xs
   unfolding neighbours_fault
-  few h = rw (le-leb n most_neighbours h)
+  few e = second-told (must (leb n most_neighbours) 4) (lent_lines_fault n xs) e
 
   pub few-passed : neighbours_fault n xs ≡ fine → (n ≤ 64) × (lent_lines_fault n xs ≡ fine)
   unfolding neighbours_fault

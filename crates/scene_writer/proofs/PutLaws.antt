@@ -1,7 +1,6 @@
 -- Bytes put one behind the other. Assumes nothing.
-use Prim.Native.Nat.{ℕ, zero, suc, ◌+◌, ◌-◌, ◌*◌, ◌≤◌, ◌<◌}
+use Prim.Native.Nat.{ℕ, zero, suc, ◌+◌, ◌*◌, ◌≤◌, ◌<◌}
 use native.Mathlib.Omega.{arith}
-use native.Mathlib.Nat.{add-zero, sub-zero, mul-zero}
 use native.Mathlib.Numerals.{add-one}
 use mathlib.Core.Path.{◌≡◌, refl, sym, ap, ◌∙◌}
 use mathlib.Core.List.{List, [], ◌∷◌, ◌++◌, append_assoc}
@@ -42,31 +41,24 @@ pub ◌then◌ : {l m w : List ℕ} {at mid end : ℕ} {a b : List ℕ} → Puts
 abbrev pub run : List Float → ℕ → ℕ → List ℕ
 run v from n = each number_bytes (take n (drop from v))
 
-run-cons : (v : List Float) (from n : ℕ) → from < length v →
-    run v from (suc n) ≡ number_bytes (get_or v from nan) ++ run v (from + 1) n
-unfolding each
-run-cons v from n h = rw (add-one, drop-cons v from nan)
+module _ (v : List Float) (at : ℕ) where
+  abbrev left : ℕ → List ℕ
+  left k = each number_bytes (drop k v)
 
-module _ (v : List Float) (from n at : ℕ) where
-  pub turn-start : (b : List ℕ) → sets b at (run v from n) ≡ sets b (at + 4 * 0) (run v (from + 0) (n - 0))
-  turn-start b = simp (mul-zero, add-zero, sub-zero)
-
-  pub turn_end : (b : List ℕ) (k : ℕ) → n ≤ k → b ≡ sets b (at + 4 * k) (run v (from + k) (n - k))
+  left-cons : (k : ℕ) → k < length v → left k ≡ number_bytes (get_or v k nan) ++ left (k + 1)
   unfolding each
-  turn_end b k h =
-      let e : n - k ≡ 0 = omega arith in
-      rw e
+  left-cons k h = rw (add-one, drop-cons v k nan)
 
-  pub turn-next : (b c : List ℕ) (k : ℕ) → k < n → from + n ≤ length v →
-      c ≡ sets b (at + 4 * k) (number_bytes (get_or v (from + k) nan))
-      → sets b (at + 4 * k) (run v (from + k) (n - k)) ≡ sets c (at + 4 * (k + 1)) (run v (from + (k + 1)) (n - (k + 1)))
-  turn-next b c k h l e =
-      let q : n - k ≡ suc (n - (k + 1)) = omega arith in
-      let p : from + (k + 1) ≡ from + k + 1 = omega arith in
-      let r : at + 4 * (k + 1) ≡ at + 4 * k + length (number_bytes (get_or v (from + k) nan)) =
-      omega (arith, length-number (get_or v (from + k) nan)) in
-      rw (q, run-cons v (from + k) (n - (k + 1)) (omega arith), p, r, e)
-      (sets-append b (at + 4 * k) (number_bytes (get_or v (from + k) nan)) (run v (from + k + 1) (n - (k + 1))))
+  pub numbers-done : (b : List ℕ) (k : ℕ) → length v ≤ k → b ≡ sets b (at + 4 * k) (left k)
+  unfolding each
+  numbers-done b k h = rw (drop_of_length-le v h) refl
+
+  pub numbers-next : (b c : List ℕ) (k : ℕ) → k < length v → c ≡ sets b (at + 4 * k) (number_bytes (get_or v k nan)) →
+      sets b (at + 4 * k) (left k) ≡ sets c (at + 4 * (k + 1)) (left (k + 1))
+  numbers-next b c k h e =
+      let r : at + 4 * (k + 1) ≡ at + 4 * k + length (number_bytes (get_or v k nan)) =
+      omega (arith, length-number (get_or v k nan)) in
+      rw (left-cons k h, r, e) (sets-append b (at + 4 * k) (number_bytes (get_or v k nan)) (left (k + 1)))
 
 -- ---- vectors, the cart
 

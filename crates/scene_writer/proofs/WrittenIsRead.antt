@@ -9,7 +9,7 @@ use lib.Seq.{length-take-le, take-length}
 use lib.Ieee.{Float}
 use Rattle.arithmetic.specs.Binary32.{0ᶠ}
 use Rattle.arithmetic.proofs.Lists.{All, all_drop}
-use Rattle.admission.specs.Faults.{fine, must, ◌⊳◌, inside}
+use Rattle.admission.specs.Faults.{fine, must, inside}
 use Rattle.admission.specs.Heads.{is_kind, room_for, is_empty_open}
 use Rattle.admission.proofs.FaultLaws.{⊳-fine, must-fine}
 use Rattle.common.specs.Vectors.{longest}

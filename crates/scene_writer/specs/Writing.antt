@@ -1,6 +1,6 @@
 -- 02, T-01: what is refused of a scene's parts that are lent as numbers, and what writing them leaves in a lent buffer.
 -- Definitions only. Assumes nothing.
-use Rattle.std.specs.Prelude.{ℕ, zero, suc, ◌*◌, List, ◌++◌, leb, length, take, drop, get_or, Float}
+use Rattle.std.specs.Prelude.{ℕ, zero, suc, ◌*◌, List, ◌++◌, leb, length, take, drop, get_or, Float, Result, Ok, Err}
 use Rattle.std.proofs.lemmas.List.Edits.{sets}
 use Rattle.std.specs.Float.{nan}
 use Rattle.arithmetic.specs.Binary32.{0ᶠ, finite}
@@ -15,8 +15,8 @@ use Rattle.dodgy_2d.specs.declared.Scene.{Scene}
 use Rattle.dodgy_2d.specs.Scenes.{most_neighbours, heads_of}
 use Rattle.layouts.specs.Layouts.{layout_fault, vertex_total, left_fault}
 use Rattle.scene_records.specs.declared.Cart.{Cart}
-use Rattle.scene_records.specs.declared.SceneWritten.{SceneWritten}
-use Rattle.scene_records.specs.declared.SceneWritten.TheVariants as scene-written
+use Rattle.admission.specs.declared.refusal.Refusal.{Refusal}
+use Rattle.admission.specs.Refusals.{number_of}
 use Rattle.scene_records.specs.Parts.{Obstacle, walls, blank_bytes, blank_vertices}
 use Rattle.scene_records.specs.Records.{scene_with}
 use Rattle.scene_records.specs.SceneBytes.{with_vertices, record_bytes}
@@ -92,9 +92,9 @@ pub record Written : Type 0 where
 abbrev pub written : Fault → ℕ → List ℕ → Written
 written f n l = record { told = f; size = n; contents = l }
 
-abbrev pub written_of : SceneWritten → List ℕ → Written
-written_of (scene-written.Length n) l = written fine n l
-written_of (scene-written.Refused r) l = written (fault r) 0 l
+abbrev pub written_of : Result ℕ Refusal → List ℕ → Written
+written_of (Ok n) l = written fine n l
+written_of (Err r) l = written (fault (number_of r)) 0 l
 
 -- the parts' fault, "then 10, which here means a buffer shorter than the record"; without one the record stands at the
 -- buffer's start, and behind it what stood there

@@ -4,8 +4,6 @@ use Rattle.std.proofs.Common.{◌≡◌, ℕ, ◌+◌, ◌/◌, ◌≤◌, true,
 use lib.ListN.{length-map}
 use lib.Seq.{sets, sets-eq}
 use lib.Ieee.{Float}
-use Rattle.lines.specs.declared.Line.{Line}
-use Rattle.lines.specs.declared.Origin.{Origin}
 use Rattle.lines.specs.Lines.{most_lines, lines_of}
 use Rattle.linear_programming.specs.Whole.{Outcome}
 use Rattle.admission.specs.Faults.{fine, must}
@@ -15,7 +13,7 @@ use Rattle.linear_programming.specs.Resume.{resumed_call}
 use Rattle.admission.proofs.FaultLaws.{⊳-fine, must-fine}
 use Rattle.lines.proofs.Rows.{lines_long}
 use Rattle.session.specs.declared.Session.{Session}
-use Rattle.session.specs.Batches.{origins_for, fitting, origins_fault, batch_fault, settled_on, settled, worked}
+use Rattle.session.specs.Batches.{fitting, origins_fault, batch_fault, stored_in, worked}
 
 -- the length of an array of structs in a struct's field stands under a map in what is known of the parameter
 pub unmap : {A B : Type 0} (f : A → B) (l : List A) (n : ℕ) → length (map f l) ≡ n → length l ≡ n
@@ -75,13 +73,8 @@ module _ (s : Session) (xs : List Float) (os : List ℕ) (size : length s.lines
         take-stored s.lines (lines_of xs) s.count (length (lines_of xs)) refl (omega arith),
       )
 
-  pub worked-right : (lines : List Line) (origins : List Origin) (n : ℕ) (o : Outcome) →
-      lines ≡ sets s.lines s.count (lines_of xs) →
-      origins ≡ sets s.origins s.count (origins_for (length xs / 4) os) → n ≡ s.count + length xs / 4 →
-      o ≡ resumed_call s.rigid s.wish s.limit lines n s.count (phase_of s.phase) (failed_of s.failed) →
-      settled_on s lines origins n o ≡ settled s (lines_of xs) os (worked s (lines_of xs))
-  worked-right lines origins n o e g k h =
-      let m : n ≡ s.count + length (lines_of xs) = k ∙ ap (λ (i : ℕ). s.count + i) (sym (lines_long xs)) in
-      let p : origins ≡ sets s.origins s.count (origins_for (length (lines_of xs)) os) = g
-      ∙ ap (λ (i : ℕ). sets s.origins s.count (origins_for i os)) (sym (lines_long xs)) in
-      rw (h, e, p, m, all_lines)
+  -- what the solve over all lines tells is what the new ones tell
+  pub worked-right : {t : Session} {o : Outcome} → t ≡ stored_in s (lines_of xs) os →
+      o ≡ resumed_call s.rigid s.wish s.limit t.lines t.count s.count (phase_of s.phase) (failed_of s.failed) →
+      worked s (lines_of xs) ≡ o
+  worked-right e h = sym (h ∙ rw e all_lines)

@@ -1,103 +1,96 @@
 -- What the code of a change rests on: indices judged, counted and found, turn by turn, and the call's parts. Assumes nothing.
-use Rattle.std.proofs.Common.{◌≡◌, ℕ, zero, suc, ◌+◌, ◌-◌, ◌<◌, ◌≤◌, Bool, true, false, ltb, leb, List, [], ◌∷◌, ◌++◌, length, get_or, take, drop, set, sym, refl, ap, ◌∙◌, append_assoc, append-nil, add-zero, add-one, arith, length-set, drop_of_length-le, length-take-le, take_all, drop-cons, ltb-true, le-ltb, lt-ltb, le-leb, leb-true}
+use Rattle.std.proofs.Common.{◌≡◌, ℕ, suc, ◌+◌, ◌-◌, ◌<◌, ◌≤◌, Bool, true, false, ◌&&◌, cond, ltb, leb, List, [], ◌∷◌, ◌++◌, length, get_or, take, drop, set, sym, refl, ◌∙◌, append_assoc, append-nil, add-one, arith, drop_of_length-le, length-take-le, take_all, drop-cons, ltb-true, le-leb, leb-true}
+use Rattle.std.specs.List.{count_by}
+use Rattle.std.proofs.lemmas.List.Recursion.{is_count_by}
 use lib.Ieee.{Float}
 use borrow.Author.Tests.{lt-leb}
 use Rattle.arithmetic.specs.Binary32.{when◌then◌else◌}
 use Rattle.lines.specs.declared.Origin.{Origin}
 use Rattle.lines.specs.Lines.{most_lines}
 use Rattle.lines.specs.Origins.{unknown}
-use Rattle.lines.proofs.Fold.{left-next, left-none, taken-most, take_set_next}
-use Rattle.admission.specs.Faults.{Fault, fine, fault, must, fault_of}
-use Rattle.admission.specs.declared.Judged.{Judged}
-use Rattle.admission.specs.declared.Judged.TheVariants as judged
+use Rattle.lines.proofs.Fold.{taken-most, take_set_next}
+use Rattle.admission.specs.Faults.{Fault, fine, must, ◌⊳◌}
 use Rattle.admission.proofs.FaultLaws.{⊳-fine, must-fine}
 use Rattle.session.specs.declared.Session.{Session}
-use Rattle.session.specs.declared.Fed.{Fed}
-use Rattle.session.specs.declared.Changed.{Changed}
-use Rattle.session.specs.Withdrawals.{or_given, then_fed, fresh_as, without, without_all, left_of}
+use Rattle.session.specs.Calls.{Fed}
+use Rattle.session.specs.Withdrawals.{refused_by, or_given, then_fed, fresh_as, without_all, left_of}
 use Rattle.session.specs.Changes.{ascending_fault, change_fault, below_in, lowered_by, changed_as, is_of, index_if, indices_from, indices_of, withdrawing, origin_changed_as}
-use Rattle.session.proofs.WithdrawalWork.{without-few}
+use Rattle.session.specs.Batches.{fed_with}
+use Rattle.session.proofs.WithdrawalWork.{without-few, then-refused, then-given}
 
 -- ---- indices judged
 
 module _ (count low : ℕ) (is : List ℕ) (k : ℕ) where
-  pub ascending-on : k < length is → low ≤ get_or is k 0 → get_or is k 0 < count →
-      ascending_fault count low (drop k is) ≡ ascending_fault count (get_or is k 0 + 1) (drop (k + 1) is)
+  -- one index more is judged, and none is left
+  pub ascending-next : k < length is → {b : Bool} → b ≡ (leb low (get_or is k 0) && ltb (get_or is k 0) count) →
+      ascending_fault count low (drop k is)
+      ≡ (must b 15 ⊳ ascending_fault count (get_or is k 0 + 1) (drop (k + 1) is))
   unfolding ascending_fault
-  ascending-on h above below = rw (
-    drop-cons is k 0 h,
-    le-leb low (get_or is k 0) above,
-    lt-ltb (get_or is k 0) count below,
-    add-one k,
-  ) refl
-
-  pub ascending-low : k < length is → get_or is k 0 < low → ascending_fault count low (drop k is) ≡ fault 15
-  unfolding ascending_fault
-  ascending-low h under = rw (drop-cons is k 0 h, lt-leb low (get_or is k 0) under) refl
-
-  pub ascending-high : k < length is → low ≤ get_or is k 0 → count ≤ get_or is k 0 → ascending_fault count low (drop k is) ≡ fault 15
-  unfolding ascending_fault
-  ascending-high h above over = rw (drop-cons is k 0 h, le-leb low (get_or is k 0) above, le-ltb (get_or is k 0) count over) refl
+  ascending-next h {b} e = rw (drop-cons is k 0 h, add-one k, e) (both (leb low (get_or is k 0)) (ltb (get_or is k 0) count)
+      (ascending_fault count (get_or is k 0 + 1) (drop (suc k) is)))
+    where
+      both : (a b : Bool) (f : Fault) → (must a 15 ⊳ must b 15 ⊳ f) ≡ (must (a && b) 15 ⊳ f)
+      both true b f = refl
+      both false b f = refl
 
   pub ascending-done : length is ≤ k → ascending_fault count low (drop k is) ≡ fine
   unfolding ascending_fault
   ascending-done h = rw (drop_of_length-le is h)
 
+-- what the code tests of an index
+module _ (low i count : ℕ) where
+  pub tested-above : {b : Bool} → low ≤ i → b ≡ ltb i count → b ≡ (leb low i && ltb i count)
+  tested-above h e = rw (le-leb low i h) e
+
+  pub tested-below : {b : Bool} → i < low → b ≡ leb low i → b ≡ (leb low i && ltb i count)
+  tested-below h e = rw (lt-leb low i h) (e ∙ lt-leb low i h)
+
+  pub tested-true : true ≡ (leb low i && ltb i count) → i < count
+  tested-true e = go (leb low i) (ltb i count) refl (sym e)
+    where
+      go : (a b : Bool) → ltb i count ≡ b → (a && b) ≡ true → i < count
+      go true true f g = ltb-true i count f
+      go true false f g = absurd (cc)
+      go false b f g = absurd (cc)
+
 -- ---- indices below the rigid count
 
-pub below_on : (rigid : ℕ) (is : List ℕ) (k : ℕ) → k < length is → below_in rigid (drop k is)
-    ≡ (when ltb (get_or is k 0) rigid then 1 else 0) + below_in rigid (drop (k + 1) is)
-unfolding below_in
-below_on rigid is k h = rw (drop-cons is k 0 h, add-one k) refl
+below-counted : (rigid : ℕ) (is : List ℕ) → below_in rigid is ≡ count_by (λ i. ltb i rigid) is
+unfolding below_in when◌then◌else◌
+below-counted rigid = is_count_by (below_in rigid) (λ i. ltb i rigid) refl (λ i is. step (ltb i rigid) (below_in rigid is))
+  where
+    step : (b : Bool) (n : ℕ) → (when b then 1 else 0) + n ≡ cond b (1 + n) n
+    step true n = refl
+    step false n = omega arith
 
-pub at_most_one : (b : Bool) → (when b then 1 else 0) ≤ 1
-unfolding when◌then◌else◌
-at_most_one true = omega arith
-at_most_one false = omega arith
-
-pub below-done : (rigid : ℕ) (is : List ℕ) (k : ℕ) → length is ≤ k → below_in rigid (drop k is) ≡ 0
-unfolding below_in
-below-done rigid is k h = rw (drop_of_length-le is h)
-
-module _ (is : List ℕ) (rigid : ℕ) {b : ℕ} (e : b ≡ below_in rigid is) where
-  pub lowered-under : rigid < b → 0 ≡ lowered_by is rigid
-  unfolding lowered_by
-  lowered-under h = rw (← e) (omega arith)
-
-  pub lowered-over : rigid - b ≡ lowered_by is rigid
-  unfolding lowered_by
-  lowered-over = ap (λ (n : ℕ). rigid - n) e
+pub lowered-counted : (is : List ℕ) (rigid : ℕ) {n r : ℕ} → n ≡ count_by (λ i. ltb i rigid) is → r ≡ rigid - n → r ≡ lowered_by is rigid
+unfolding lowered_by
+lowered-counted is rigid e h = rw (below-counted rigid is, ← e) h
 
 -- ---- indices found
 
-module _ (kind place : ℕ) (os : List Origin) (count i : ℕ) (size : count ≤ length os) where
-  pub found-on : i < count → indices_from kind place i (drop i (take count os))
-      ≡ index_if (is_of kind place (get_or os i unknown)) i ++ indices_from kind place (i + 1) (drop (i + 1) (take count os))
+module _ (kind place : ℕ) (os : List Origin) (i : ℕ) where
+  found-on : i < length os → indices_from kind place i (drop i os)
+      ≡ index_if (is_of kind place (get_or os i unknown)) i ++ indices_from kind place (i + 1) (drop (i + 1) os)
   unfolding indices_from
-  found-on h = rw (left-next os count i size unknown h) refl
+  found-on h = rw (drop-cons os i unknown h, add-one i) refl
 
-  pub found-done : count ≤ i → indices_from kind place i (drop i (take count os)) ≡ []
+  -- one origin more that is looked for, or is not; and none left
+  pub found-next : i < length os → true ≡ is_of kind place (get_or os i unknown) → (all f : List ℕ) (n : ℕ) → n < length f →
+      all ≡ take n f ++ indices_from kind place i (drop i os) →
+      all ≡ take (n + 1) (set f n i) ++ indices_from kind place (i + 1) (drop (i + 1) os)
+  unfolding index_if when◌then◌else◌
+  found-next h e all f n room g = g ∙ rw (found-on h, ← e, take_set_next f n room i)
+      (sym (append_assoc (take n f) (i ∷ []) (indices_from kind place (i + 1) (drop (i + 1) os))))
+
+  pub found-not : i < length os → false ≡ is_of kind place (get_or os i unknown) → (all p : List ℕ) →
+      all ≡ p ++ indices_from kind place i (drop i os) → all ≡ p ++ indices_from kind place (i + 1) (drop (i + 1) os)
+  unfolding index_if when◌then◌else◌
+  found-not h e all p g = g ∙ rw (found-on h, ← e) refl
+
+  pub found_all : length os ≤ i → (all p : List ℕ) → all ≡ p ++ indices_from kind place i (drop i os) → p ≡ all
   unfolding indices_from
-  found-done h = rw (left-none os count i size h)
-
-  -- one origin more, and none left, of those that are looked for
-  pub found-next : i < count → {w : Bool} → w ≡ is_of kind place (get_or os i unknown) → (all p q : List ℕ) →
-      all ≡ p ++ indices_from kind place i (drop i (take count os)) →
-      q ≡ p ++ index_if w i → all ≡ q ++ indices_from kind place (i + 1) (drop (i + 1) (take count os))
-  found-next h {w} e all p q g f =
-      g ∙ rw (found-on h, f, e) (sym (append_assoc p (index_if (is_of kind place (get_or os i unknown)) i)
-      (indices_from kind place (i + 1) (drop (i + 1) (take count os)))))
-
-  pub found_all : count ≤ i → (all p : List ℕ) → all ≡ p ++ indices_from kind place i (drop i (take count os)) → p ≡ all
-  found_all h all p g = sym (g ∙ rw (found-done h) (append-nil p))
-
-pub noted : (l : List ℕ) (n i : ℕ) → n < length l → take (n + 1) (set l n i) ≡ take n l ++ index_if true i
-unfolding index_if when◌then◌else◌
-noted l n i h = take_set_next l n h i
-
-pub not_noted : (l : List ℕ) (n i : ℕ) → take n l ≡ take n l ++ index_if false i
-unfolding index_if when◌then◌else◌
-not_noted l n i = sym (append-nil (take n l))
+  found_all h all p g = sym (g ∙ rw (drop_of_length-le os h) (append-nil p))
 
 -- ---- the call
 
@@ -139,36 +132,26 @@ left-all l count is e =
     take_all (count - length is) (without_all is (take count l)) (without-all-few is 0 count (take count l) a.1
     (omega arith) (taken-most count l (omega arith))).1
 
-module _ (s : Session) (is : List ℕ) (xs : List Float) (os : List ℕ) where
-  pub change-refused : {r : ℕ} → fault r ≡ change_fault s.count is → {j : Judged} → j ≡ judged.Fault r →
-      record { judged = j; session = s } ≡ changed_as s is xs os
-  unfolding changed_as
-  change-refused e j = rw (← e, j)
+module _ (s : Session) (is : List ℕ) (xs : List Float) (os : List ℕ) (e : fine ≡ change_fault s.count is) where
+  -- the fresh session over what is left, as the code says it
+  abbrev fresh : Fed
+  fresh = fresh_as s.wish s.limit (lowered_by is s.rigid) (left_of is s.count s.lines) (left_of is s.count s.origins)
 
-  pub changed-right : fine ≡ change_fault s.count is → {rigid : ℕ} {t u r : Fed} → rigid ≡ lowered_by is s.rigid →
-      t ≡ fresh_as s.wish s.limit rigid (left_of is s.count s.lines) (left_of is s.count s.origins) →
-      u ≡ then_fed t xs os → r ≡ or_given s u → r ≡ changed_as s is xs os
+  changed-left : changed_as s is xs os ≡ or_given s (then_fed fresh xs os)
   unfolding changed_as
-  changed-right e l h f k = rw (
-    ← e,
-    ← l,
-    ← left-all s.lines s.count is e,
-    ← left-all s.origins s.count is e,
-    ← h,
-    ← f,
-  ) k
+  changed-left = rw (← e, left-all s.lines s.count is e, left-all s.origins s.count is e)
 
--- a change of a session of more than 256 lines, whatever is named
-pub origin-over : (s : Session) (kind place : ℕ) (xs : List Float) (os : List ℕ) → most_lines < s.count →
-    record { withdrawn = 0; fed = record { judged = judged.Fault 4; session = s } } ≡ origin_changed_as s kind place xs os
-unfolding origin_changed_as changed_as change_fault
-origin-over s kind place xs os h = rw (lt-leb s.count most_lines h)
+  pub changed-refused : {n : ℕ} → refused_by s n ≡ or_given s fresh → changed_as s is xs os ≡ refused_by s n
+  changed-refused f = changed-left ∙ then-refused s fresh xs os f
+
+  pub changed-given : {t : Session} → record { judged = fine; session = t } ≡ or_given s fresh →
+      changed_as s is xs os ≡ or_given s (fed_with t xs os)
+  changed-given f = changed-left ∙ then-given s fresh xs os f
 
 -- a change of the lines that were found
-pub origin-right : (s : Session) (kind place : ℕ) (xs : List Float) (os : List ℕ) (b : List ℕ) (n m : ℕ) → m ≡ n →
-    take n b ≡ indices_of s kind place → n ≤ length b →
-    {f : Fed} {r : Changed} → f ≡ changed_as s (take m b) xs os → r ≡ withdrawing n f → r ≡ origin_changed_as s kind place xs os
+pub origin-right : (s : Session) (kind place : ℕ) (xs : List Float) (os b : List ℕ) (n : ℕ) → n ≤ length b →
+    take n b ≡ indices_of s kind place → origin_changed_as s kind place xs os ≡ withdrawing n (changed_as s (take n b) xs os)
 unfolding origin_changed_as
-origin-right s kind place xs os b n m e g h f k =
+origin-right s kind place xs os b n h e =
     let long : length (take n b) ≡ n = length-take-le n b h in
-    k ∙ rw (← g, long) (ap (withdrawing n) (f ∙ ap (λ (j : ℕ). changed_as s (take j b) xs os) e))
+    rw (← e, long) refl

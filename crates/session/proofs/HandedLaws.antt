@@ -19,12 +19,12 @@ use Rattle.linear_programming.proofs.Agreement.{phase-there, failed-there}
 use Rattle.linear_programming.proofs.ResumeLaws.{resumed-whole}
 use Rattle.linear_programming.proofs.WholeProbes.{whole-fits}
 use Rattle.session.specs.declared.Session.{Session}
-use Rattle.session.specs.declared.Fed.{Fed}
+use Rattle.session.specs.Calls.{Fed}
 use Rattle.session.specs.Sessions.{lines_in, origins_in, outcome_in, blank_lines, blank_origins}
-use Rattle.session.specs.Batches.{origins_for, fitting, origins_fault, batch_fault, settled, worked, fed_with, fed_as}
-use Rattle.session.specs.Handed.{Handed, told_by, Continues, ContinuesWith}
+use Rattle.session.specs.Batches.{origins_for, fitting, origins_fault, batch_fault, settled, worked, fed_with}
+use Rattle.session.specs.Handed.{Handed, told_by, ContinuesWith}
 use Rattle.session.proofs.StoreLaws.{origins-many}
-use Rattle.session.proofs.BatchWork.{take-stored, drop-stored, Fitting, batch-fits}
+use Rattle.session.proofs.BatchWork.{take-stored, drop-stored, batch-fits}
 
 module _ (s : Session) (h : Handed s) where
   -- what was judged of the lines that stand

@@ -1,5 +1,5 @@
 -- The laws of `session`: of a batch's work, of a withdrawal's, of a change's, of met lines counted, of sessions that
--- are handed out, and of a start.
+-- are handed out, of a start, and that any two outcomes agree.
 pub mod StoreLaws
 pub mod BatchWork
 pub mod WithdrawalWork
@@ -7,3 +7,4 @@ pub mod ChangeWork
 pub mod MeetingWork
 pub mod HandedLaws
 pub mod StartLaws
+pub mod Agreement

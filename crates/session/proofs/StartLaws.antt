@@ -12,7 +12,7 @@ use Rattle.admission.specs.Faults.{within, inside}
 use Rattle.linear_programming.specs.Admit.{wish_fault, judged_list, list_call}
 use Rattle.linear_programming.proofs.Agreement.{phase-there, failed-there}
 use Rattle.linear_programming.proofs.Computed.{computed}
-use Rattle.session.specs.declared.Fed.{Fed}
+use Rattle.session.specs.Calls.{Fed}
 use Rattle.session.specs.Sessions.{blank_lines, blank_origins, blank_session, started_by, started_as}
 use Rattle.session.specs.Handed.{Handed, Begins}
 

@@ -1,7 +1,6 @@
 -- A loop that stores a list behind the first n places: one element more, and no element left; and the origins that it
 -- stores. Assumes nothing.
-use Rattle.std.proofs.Common.{◌≡◌, ℕ, suc, ◌+◌, ◌*◌, ◌/◌, ◌%◌, ◌<◌, ◌≤◌, Bool, true, false, eqb, List, [], ◌∷◌, length, get_or, drop, set, sym, refl, ◌∙◌, add-one, arith, drop_of_length-le, drop-cons, eq-eqb, ne_eqb, eqb-true}
-use mathlib.Core.Bool.{false≢true}
+use Rattle.std.proofs.Common.{◌≡◌, ℕ, suc, ◌+◌, ◌*◌, ◌<◌, ◌≤◌, true, false, eqb, List, [], ◌∷◌, length, get_or, drop, set, refl, ◌∙◌, add-one, arith, drop_of_length-le, drop-cons, ne_eqb, eqb-true}
 use lib.ListN.{length-replicate, get_or-replicate}
 use lib.Seq.{sets}
 use Rattle.lines.specs.Origins.{unknown, origins_of}
@@ -17,19 +16,6 @@ module _ {A : Type 0} (l m : List A) (n i : ℕ) where
 
   pub store-done : length m ≤ i → sets l (n + i) (drop i m) ≡ l
   store-done h = rw (drop_of_length-le m h)
-
--- ---- three numbers a line
-
-module _ (m n : ℕ) where
-  pub not_three : (m % 3 ≡ 0 → ⊥) → eqb m (3 * n) ≡ false
-  not_three h = ne_eqb m (3 * n) (λ z. h (omega arith))
-
-  pub three-each : m % 3 ≡ 0 → eqb (m / 3) n ≡ eqb m (3 * n)
-  three-each h = go (eqb (m / 3) n) refl
-    where
-      go : (b : Bool) → eqb (m / 3) n ≡ b → eqb (m / 3) n ≡ eqb m (3 * n)
-      go true e = e ∙ sym (eq-eqb m (3 * n) (let f = eqb-true (m / 3) n e in omega arith))
-      go false e = e ∙ sym (ne_eqb m (3 * n) (λ z. false≢true (sym e ∙ eq-eqb (m / 3) n (omega arith))))
 
 -- ---- the origins of n lines: as many, and each the one that is brought, or unknown
 

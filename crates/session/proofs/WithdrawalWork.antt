@@ -3,7 +3,6 @@
 use Rattle.std.proofs.Common.{◌≡◌, ℕ, zero, suc, ◌+◌, ◌-◌, ◌*◌, ◌%◌, ◌<◌, ◌≤◌, Bool, true, false, ltb, leb, List, [], ◌∷◌, ◌++◌, length, get_or, take, drop, sym, refl, ap, ◌∙◌, add-one, arith, drop_of_length-le, length-take-le, take_all, drop-cons, get_or-take, ltb-false, ltb-true, le-ltb, lt-ltb, leb-true}
 use lib.Ieee.{Float}
 use Rattle.arithmetic.specs.Binary32.{when◌then◌else◌}
-use Rattle.common.specs.declared.Vec2.{Vec2}
 use Rattle.lines.specs.declared.Line.{Line}
 use Rattle.lines.specs.declared.Origin.{Origin}
 use Rattle.lines.specs.Lines.{most_lines, lines_of, numbers_of}
@@ -11,15 +10,13 @@ use Rattle.lines.specs.Origins.{origin, origins_of}
 use Rattle.lines.proofs.Fold.{take_next, taken-most}
 use Rattle.lines.proofs.Rows.{lines-take}
 use Rattle.lines.proofs.Numbers.{numbers-back}
-use Rattle.admission.specs.Faults.{fine, fault, must, fault_of}
-use Rattle.admission.specs.declared.Judged.{Judged}
-use Rattle.admission.specs.declared.Judged.TheVariants as judged
+use Rattle.admission.specs.Faults.{Fault, fine, fault, must}
 use Rattle.admission.proofs.FaultLaws.{⊳-fine, must-fine}
 use Rattle.session.specs.declared.Session.{Session}
-use Rattle.session.specs.declared.Fed.{Fed}
-use Rattle.session.specs.Sessions.{started_as}
+use Rattle.session.specs.Calls.{Fed}
 use Rattle.session.specs.Batches.{fed_with}
-use Rattle.session.specs.Withdrawals.{or_given, then_fed, started_with, fresh_as, threes_of, without, without_all, left_of, source_of, source_in, lowered, withdrawal_fault, withdrawn_as}
+use Rattle.session.specs.Withdrawals.{refused_by, or_given, then_fed, fresh_as, threes_of, without, without_all, left_of, source_of, source_in, lowered, withdrawal_fault, withdrawn_as}
+use Rattle.session.specs.Changes.{below_in, lowered_by}
 
 -- ---- which element comes to stand where
 
@@ -165,22 +162,32 @@ laid-origins b n m os f h e =
     let size : length (take m b) ≡ m = length-take-le m b h in
     sym (threes-back (take m b) (omega arith)) ∙ ap threes_of (rw f (origins-take b n) ∙ e)
 
--- ---- what a call handed back, fed a batch
+-- ---- a session that was made, or the one that stands beside its refusal
 
-module _ (f : Fed) (xs : List Float) (os : List ℕ) where
-  pub not-fed : {r : ℕ} → f.judged ≡ judged.Fault r → f ≡ then_fed f xs os
-  not-fed j = rw (ap fault_of j) (λ i. record { judged = j i; session = f.session })
+module _ (s : Session) (f : Fed) where
+  given-judged : (or_given s f).judged ≡ f.judged
+  given-judged = go f.judged refl
+    where
+      go : (j : Fault) → f.judged ≡ j → (or_given s f).judged ≡ f.judged
+      go fine e = rw e refl
+      go (fault n) e = rw e refl
 
-  pub fed_then : {t : Fed} → f.judged ≡ judged.Fine → t ≡ fed_with f.session xs os → t ≡ then_fed f xs os
-  fed_then j h = rw j h
+  given-refused : {n : ℕ} → refused_by s n ≡ or_given s f → f.judged ≡ fault n
+  given-refused e = sym (ap (λ (r : Fed). r.judged) e ∙ given-judged)
 
--- a start fed the numbers that were laid out is the fresh session over what is left
-pub refilled : (wish : Vec2) (limit : Float) (rigid : ℕ) {f r : Fed} (b : List Float) (m : ℕ) (ls : List Line)
-    (t : List ℕ) (k : ℕ) (os : List Origin) →
-    take m b ≡ numbers_of ls → take k t ≡ threes_of os → f ≡ started_as wish limit rigid →
-    r ≡ then_fed f (take m b) (take k t) → r ≡ fresh_as wish limit rigid ls os
-unfolding started_with
-refilled wish limit rigid b m ls t k os x y e h = rw (← x, ← y, ← e) h
+  given-fine : {t : Session} → record { judged = fine; session = t } ≡ or_given s f → f ≡ record { judged = fine; session = t }
+  given-fine e =
+      let j : f.judged ≡ fine = sym (ap (λ (r : Fed). r.judged) e ∙ given-judged) in
+      ap (λ (k : Fault). record { judged = k; session = f.session }) j ∙ sym (rw j at e)
+
+  -- and fed a batch
+  pub then-refused : {n : ℕ} (xs : List Float) (os : List ℕ) → refused_by s n ≡ or_given s f →
+      or_given s (then_fed f xs os) ≡ refused_by s n
+  then-refused xs os e = rw (given-refused e) refl
+
+  pub then-given : {t : Session} (xs : List Float) (os : List ℕ) → record { judged = fine; session = t } ≡ or_given s f →
+      or_given s (then_fed f xs os) ≡ or_given s (fed_with t xs os)
+  then-given xs os e = rw (given-fine e) refl
 
 -- ---- the call
 
@@ -191,16 +198,20 @@ below-count count i e =
     let k = ⊳-fine (must (leb count most_lines) 4) (sym e) in
     (ltb-true i count (must-fine (ltb i count) 15 k.1), leb-true count most_lines (must-fine (leb count most_lines) 4 k.0))
 
-module _ (s : Session) (i : ℕ) where
-  pub withdrawal-refused : {r : ℕ} → fault r ≡ withdrawal_fault s.count i → {j : Judged} → j ≡ judged.Fault r →
-      record { judged = j; session = s } ≡ withdrawn_as s i
-  unfolding withdrawn_as
-  withdrawal-refused e j = rw (← e, j)
+-- one index lowers the rigid count as several do
+pub lowered-by-one : (i rigid : ℕ) → lowered_by (i ∷ []) rigid ≡ lowered i rigid
+unfolding lowered_by below_in lowered when◌then◌else◌
+lowered-by-one i rigid = go (ltb i rigid) refl
+  where
+    go : (b : Bool) → ltb i rigid ≡ b → lowered_by (i ∷ []) rigid ≡ lowered i rigid
+    go true e = rw e (omega arith)
+    go false e = rw e (omega arith)
 
-  pub withdrawn-right : fine ≡ withdrawal_fault s.count i → {rigid : ℕ} {t r : Fed} → rigid ≡ lowered i s.rigid →
-      t ≡ fresh_as s.wish s.limit rigid (left_of (i ∷ []) s.count s.lines)
-      (left_of (i ∷ []) s.count s.origins) → r ≡ or_given s t → r ≡ withdrawn_as s i
+module _ (s : Session) (i : ℕ) (e : fine ≡ withdrawal_fault s.count i) where
+  -- what is left without one line, as the code for several says it
+  pub withdrawn-left : withdrawn_as s i ≡ or_given s (fresh_as s.wish s.limit (lowered_by (i ∷ []) s.rigid)
+      (left_of (i ∷ []) s.count s.lines) (left_of (i ∷ []) s.count s.origins))
   unfolding withdrawn_as
-  withdrawn-right e l h k =
+  withdrawn-left =
       let b = below-count s.count i e in
-      rw (← e, ← l, ← left_one s.lines s.count i b.0, ← left_one s.origins s.count i b.0, ← h) k
+      rw (← e, lowered-by-one i s.rigid, left_one s.lines s.count i b.0, left_one s.origins s.count i b.0)

@@ -8,12 +8,12 @@ use Rattle.lines.specs.LineFaults.{lines_fault}
 use Rattle.lines.specs.declared.Origin.{Origin}
 use Rattle.lines.specs.Origins.{unknown, origins_of}
 use Rattle.linear_programming.specs.Whole.{Outcome, stands, refusal}
-use Rattle.admission.specs.Faults.{Fault, fine, fault, must, ◌⊳◌, fits_behind, judged_as}
+use Rattle.admission.specs.Faults.{Fault, fine, fault, must, ◌⊳◌, fits_behind}
 use Rattle.linear_programming.specs.Admit.{◌⟫◌, fours}
 use Rattle.linear_programming.specs.Resume.{resumed}
 use Rattle.linear_programming.specs.Read.{phase_of, phase_as, failed_of, failed_as}
 use Rattle.session.specs.declared.Session.{Session}
-use Rattle.session.specs.declared.Fed.{Fed}
+use Rattle.session.specs.Calls.{Fed}
 use Rattle.session.specs.Sessions.{lines_in}
 
 -- "three whole numbers a line .. kept as they stand"; "Without them each line's origin is unknown": the origins of n lines
@@ -39,11 +39,25 @@ batch_fault count xs os =
     ⊳ must (fits_behind most_lines count (length (lines_of xs))) 4
     ⊳ lines_fault (lines_of xs)
 
+-- a batch's lines and origins stored behind those that stand, and nothing of them worked
+abbrev pub stored_in : Session → List Line → List ℕ → Session
+stored_in s lines os = record {
+  lines = sets s.lines s.count lines;
+  origins = sets s.origins s.count (origins_for (length lines) os);
+  count = s.count + length lines;
+  rigid = s.rigid;
+  wish = s.wish;
+  limit = s.limit;
+  phase = s.phase;
+  failed = s.failed;
+  probes = s.probes;
+}
+
 -- the lines and origins behind those that stand, as the solve leaves them; or the session as it was. Probes are added
 -- modulo 2 ^ 32: only a session that was not handed out can come there
 abbrev pub settled_on : Session → List Line → List Origin → ℕ → Outcome → Fed
 settled_on s lines origins count (stands ph f n) = record {
-  judged = judged_as fine;
+  judged = fine;
   session = record {
     lines = lines;
     origins = origins;
@@ -56,7 +70,7 @@ settled_on s lines origins count (stands ph f n) = record {
     probes = (s.probes + n) % 2 ^ 32;
   };
 }
-settled_on s lines origins count (refusal r) = record { judged = judged_as (fault r); session = s }
+settled_on s lines origins count (refusal r) = record { judged = fault r; session = s }
 
 abbrev pub settled : Session → List Line → List ℕ → Outcome → Fed
 settled s lines os o =

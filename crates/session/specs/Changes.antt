@@ -4,10 +4,9 @@ use Rattle.std.specs.Prelude.{ℕ, ◌+◌, ◌-◌, Bool, ◌&&◌, ltb, List, 
 use Rattle.arithmetic.specs.Binary32.{when◌then◌else◌}
 use Rattle.lines.specs.declared.Origin.{Origin}
 use Rattle.lines.specs.Lines.{most_lines}
-use Rattle.admission.specs.Faults.{Fault, fine, must, ◌⊳◌, unless_fault, fault_of}
+use Rattle.admission.specs.Faults.{Fault, fine, must, ◌⊳◌, unless_fault}
 use Rattle.session.specs.declared.Session.{Session}
-use Rattle.session.specs.declared.Fed.{Fed}
-use Rattle.session.specs.declared.Changed.{Changed}
+use Rattle.session.specs.Calls.{Fed, Changed}
 use Rattle.session.specs.Sessions.{lines_in, origins_in}
 use Rattle.session.specs.Withdrawals.{refused_by, or_given, then_fed, fresh_as, without_all}
 
@@ -56,7 +55,7 @@ indices_of s kind place = indices_from kind place 0 (origins_in s)
 
 -- a call's answer, and how many lines it withdrew: none where it is refused
 abbrev pub withdrawing : ℕ → Fed → Changed
-withdrawing n r = record { withdrawn = unless_fault (λ (_ : ℕ). 0) (fault_of r.judged) n; fed = r }
+withdrawing n r = record { withdrawn = unless_fault (λ (_ : ℕ). 0) r.judged n; fed = r }
 
 unfoldable pub origin_changed_as : Session → ℕ → ℕ → List Float → List ℕ → Changed
 origin_changed_as s kind place xs os = withdrawing (length (indices_of s kind place)) (changed_as s (indices_of s kind place) xs os)

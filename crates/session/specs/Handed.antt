@@ -4,10 +4,10 @@ use Rattle.std.specs.Prelude.{◌≡◌, ℕ, ◌≤◌, List, [], ◌++◌, len
 use Rattle.common.specs.declared.Vec2.{Vec2}
 use Rattle.lines.specs.Lines.{most_lines, lines_of}
 use Rattle.linear_programming.specs.Whole.{Outcome}
-use Rattle.admission.specs.Faults.{fine, fault, fault_of}
+use Rattle.admission.specs.Faults.{fine, fault}
 use Rattle.linear_programming.specs.Admit.{◌⟫◌, fours, judged_list, list_call}
 use Rattle.session.specs.declared.Session.{Session}
-use Rattle.session.specs.declared.Fed.{Fed}
+use Rattle.session.specs.Calls.{Fed}
 use Rattle.session.specs.Sessions.{lines_in, origins_in, outcome_in, blank_lines, blank_origins}
 use Rattle.session.specs.Batches.{origins_for, origins_fault}
 
@@ -23,7 +23,7 @@ pub record Handed (s : Session) : Type 0 where
 
 -- what a call tells: how its session stands, or the number of its refusal
 abbrev pub told_by : Fed → Outcome
-told_by r = fault_of r.judged ⟫ outcome_in r.session
+told_by r = r.judged ⟫ outcome_in r.session
 
 -- a start tells what the single call over no lines tells, and hands a session out
 pub record Begins (wish : Vec2) (limit : Float) (rigid : ℕ) (r : Fed) : Type 0 where
@@ -37,10 +37,10 @@ pub record ContinuesWith (s : Session) (xs : List Float) (os : List ℕ) (r : Fe
   pub handed : Handed r.session
   pub tells : told_by r ≡ (fours xs ⟫ (origins_fault (length (lines_of xs)) os ⟫ judged_list s.rigid s.wish s.limit
       (lines_in s ++ lines_of xs)))
-  pub grows : fault_of r.judged ≡ fine → lines_in r.session ≡ lines_in s ++ lines_of xs
-  pub remembers : fault_of r.judged ≡ fine → origins_in r.session ≡ origins_in s ++ origins_for (length (lines_of xs)) os
+  pub grows : r.judged ≡ fine → lines_in r.session ≡ lines_in s ++ lines_of xs
+  pub remembers : r.judged ≡ fine → origins_in r.session ≡ origins_in s ++ origins_for (length (lines_of xs)) os
   pub aims : (r.session.rigid ≡ s.rigid) × (r.session.wish ≡ s.wish) × (r.session.limit ≡ s.limit)
-  pub untouched : (n : ℕ) → fault_of r.judged ≡ fault n → r.session ≡ s
+  pub untouched : (n : ℕ) → r.judged ≡ fault n → r.session ≡ s
 
 -- a batch that brings no origins
 abbrev pub Continues : Session → List Float → Fed → Type 0

@@ -1,4 +1,5 @@
 -- The definitions that the contracts of `session` cite.
+pub mod Calls
 pub mod Sessions
 pub mod Batches
 pub mod Withdrawals

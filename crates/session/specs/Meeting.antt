@@ -10,8 +10,7 @@ use Rattle.admission.specs.Faults.{unless_fault}
 use Rattle.linear_programming.specs.Whole.{Phase, solving, relaxing, rigid_failure}
 use Rattle.linear_programming.specs.Read.{phase_of}
 use Rattle.session.specs.declared.Session.{Session}
-use Rattle.session.specs.declared.Unmet.{Unmet}
-use Rattle.session.specs.declared.Unmet.TheVariants as unmet
+use Rattle.session.specs.Calls.{Unmet, At, Nothing, Refused}
 use Rattle.session.specs.Batches.{batch_fault}
 
 -- 01, "A line is met if determinant(direction, point now − line point) > 0": the 2D pass's own test. Exactly 0 is not
@@ -33,7 +32,7 @@ point_now (rigid_failure k p) = p
 
 -- the index that line k of a batch gets in a session of `count` lines, where it is one of the `n` lines of the batch
 unfoldable pub named : ℕ → ℕ → ℕ → Unmet
-named count n k = when nat_lt k n then unmet.At (count + k) else unmet.Nothing
+named count n k = when nat_lt k n then At (count + k) else Nothing
 
 -- "a line that the point at its arrival did not strictly meet, and the session can name the first":
 -- by the index that it gets in the session, as a withdrawal and the failed line count;
@@ -41,5 +40,5 @@ named count n k = when nat_lt k n then unmet.At (count + k) else unmet.Nothing
 -- and only for numbers that a batch would take, else what refuses these
 unfoldable pub unmet_as : Session → List Float → Unmet
 unmet_as s xs =
-    unless_fault unmet.Refused (batch_fault s.count xs [])
+    unless_fault Refused (batch_fault s.count xs [])
     (named s.count (length (lines_of xs)) (first_unmet (point_now (phase_of s.phase)) (lines_of xs)))

@@ -1,6 +1,6 @@
 -- A session, and how one starts (01, "What must change shape"; the order of a line list's faults without lines).
 -- Definitions only. Assumes nothing.
-use Rattle.std.specs.Prelude.{ℕ, List, [], take, replicate, Float}
+use Rattle.std.specs.Prelude.{ℕ, Result, List, [], take, replicate, Float}
 use Rattle.arithmetic.specs.Binary32.{0ᶠ}
 use Rattle.common.specs.declared.Vec2.{Vec2}
 use Rattle.common.specs.Vectors.{zero_vector}
@@ -9,11 +9,12 @@ use Rattle.lines.specs.Lines.{line, most_lines}
 use Rattle.lines.specs.declared.Origin.{Origin}
 use Rattle.lines.specs.Origins.{unknown}
 use Rattle.linear_programming.specs.Whole.{solving, no_line, Outcome, stands, refusal}
-use Rattle.admission.specs.Faults.{fine, fault, judged_as}
+use Rattle.admission.specs.Faults.{fine, fault}
 use Rattle.linear_programming.specs.Admit.{list_call}
 use Rattle.linear_programming.specs.Read.{phase_of, phase_as, failed_of, failed_as}
 use Rattle.session.specs.declared.Session.{Session}
-use Rattle.session.specs.declared.Fed.{Fed}
+use Rattle.admission.specs.declared.refusal.Refusal.{Refusal}
+use Rattle.session.specs.Calls.{Fed, made_of}
 
 -- the lines that stand, the origin of each, and how they stand
 abbrev pub lines_in : Session → List Line
@@ -45,10 +46,14 @@ blank_session = record {
   probes = 0;
 }
 
+-- what a start's answer says: a blank session stands beside a refusal
+abbrev pub started_of : Result Session Refusal → Fed
+started_of r = made_of blank_session r
+
 -- a session with no lines that stands as told; a blank one beside a refusal
 abbrev pub started_by : Vec2 → Float → ℕ → Outcome → Fed
 started_by wish limit rigid (stands ph f n) = record {
-  judged = judged_as fine;
+  judged = fine;
   session = record {
     lines = blank_lines;
     origins = blank_origins;
@@ -61,7 +66,7 @@ started_by wish limit rigid (stands ph f n) = record {
     probes = n;
   };
 }
-started_by wish limit rigid (refusal r) = record { judged = judged_as (fault r); session = blank_session }
+started_by wish limit rigid (refusal r) = record { judged = fault r; session = blank_session }
 
 -- as the single call over no lines
 unfoldable pub started_as : Vec2 → Float → ℕ → Fed

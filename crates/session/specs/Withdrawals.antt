@@ -5,9 +5,9 @@ use Rattle.common.specs.declared.Vec2.{Vec2}
 use Rattle.lines.specs.declared.Line.{Line}
 use Rattle.lines.specs.declared.Origin.{Origin}
 use Rattle.lines.specs.Lines.{most_lines, numbers_of}
-use Rattle.admission.specs.Faults.{Fault, fault, must, ◌⊳◌, unless_fault, fault_of, judged_as}
+use Rattle.admission.specs.Faults.{Fault, fault, must, ◌⊳◌, unless_fault}
 use Rattle.session.specs.declared.Session.{Session}
-use Rattle.session.specs.declared.Fed.{Fed}
+use Rattle.session.specs.Calls.{Fed}
 use Rattle.session.specs.Sessions.{lines_in, origins_in, started_as}
 use Rattle.session.specs.Batches.{fed_with}
 
@@ -15,15 +15,15 @@ use Rattle.session.specs.Batches.{fed_with}
 
 -- a refused call hands back the session that it was given
 abbrev pub refused_by : Session → ℕ → Fed
-refused_by s r = record { judged = judged_as (fault r); session = s }
+refused_by s r = record { judged = fault r; session = s }
 
 -- a call's answer, with the session that was given beside a refusal
 abbrev pub or_given : Session → Fed → Fed
-or_given s r = unless_fault (refused_by s) (fault_of r.judged) r
+or_given s r = unless_fault (refused_by s) r.judged r
 
 -- what a call left, fed a batch where it was taken
 abbrev pub then_fed : Fed → List Float → List ℕ → Fed
-then_fed r xs os = unless_fault (refused_by r.session) (fault_of r.judged) (fed_with r.session xs os)
+then_fed r xs os = unless_fault (refused_by r.session) r.judged (fed_with r.session xs os)
 
 -- a start, and one batch
 unfoldable pub started_with : Vec2 → Float → ℕ → List Float → List ℕ → Fed

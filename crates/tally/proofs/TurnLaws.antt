@@ -12,13 +12,14 @@ use Rattle.kept.proofs.KeptLaws.{kept_there, kept-stays}
 use Rattle.answer_logs.specs.Logs.{most_records}
 use Rattle.answer_logs.specs.Parts.{Wholes, reached, stopped, wholes_from}
 use Rattle.answer_logs.proofs.CutLaws.{few-left}
+use Rattle.std.specs.Prelude.{Ok, Err}
 use Rattle.daily_tally.specs.declared.DayTally.{DayTally}
-use Rattle.daily_tally.specs.declared.Walked.TheVariants as walked
 use Rattle.daily_tally.specs.declared.Progress.{Progress}
-use Rattle.daily_tally.specs.Steps.{going, stopped_at, progress, advanced}
+use Rattle.daily_tally.specs.declared.RefusedAt.{RefusedAt}
+use Rattle.daily_tally.specs.Steps.{told_beside, Advance, going, stopped_at, progress, advance_of, advanced}
 use Rattle.tally.specs.declared.Stage.TheVariants as stage
 use Rattle.tally.specs.declared.Reading.{Reading}
-use Rattle.tally.specs.Turns.{held, ended_over, went_on, read_as, read_over, Follows, at-end, brought}
+use Rattle.tally.specs.Turns.{Turned, turned_of, held, ended_over, read_as, read_over, Follows, at-end, brought}
 
 -- a step uses no more bytes than there are
 used-by : (left place : ℕ) (s : List ℕ) (t : DayTally) (w : Wholes) → wholes_from left place s ≡ w →
@@ -31,42 +32,34 @@ used-within : (most place : ℕ) (s : List ℕ) (t : DayTally) → (advanced mos
 unfolding advanced
 used-within most place s t = used-by (most - place) place s t (wholes_from (most - place) place s) refl
 
-module _ (input : List ℕ) (there : ℕ) (before : Reading) (fits : there ≤ length input) (p : Progress) (e : p
-    ≡ advanced most_records (take (there - 0) input) before.place before.tally) where
-  step : Progress
-  step = advanced most_records (take there input) before.place before.tally
+module _ (input : List ℕ) (there : ℕ) (before : Reading) (fits : there ≤ length input) where
+  unfoldable pub step : Advance
+  step = advanced most_records (take (there - 0) input) before.place before.tally
 
-  same : p ≡ step
-  unfolding step
-  same = rw sub-zero at e
-
-  read_as_lem : read_over input there before ≡ went_on input there before p p.walked
+  read_as_lem : (a : Advance) → a ≡ step → read_as input there a ≡ read_over input there before
   unfolding read_over step
-  read_as_lem = ap (read_as input there before) (sym same)
+  read_as_lem a e = ap (read_as input there) (rw sub-zero at e)
 
-  pub refused-read : (n at : ℕ) → p.walked ≡ walked.Refused n at →
-      held (record {
-        stage = stage.Ended (walked.Refused n at);
-        kept = before.kept;
-        place = before.place;
-        tally = p.tally;
-      }) input ≡ read_over input there before
-  refused-read n at w = sym (read_as_lem ∙ ap (went_on input there before p) w)
+  pub refused-read : (r : RefusedAt) → advance_of (Err r) ≡ step → held (turned_of (stage.Ended (Err r))) input
+      ≡ read_over input there before
+  unfolding told_beside
+  refused-read r e = read_as_lem (advance_of (Err r)) e
 
-  pub whole-read : p.walked ≡ walked.Whole → (k : ℕ) (out : List ℕ) → kept k out ≡ kept_over p.used there input →
-      held (record { stage = stage.Open; kept = k; place = p.place; tally = p.tally }) out ≡ read_over input there before
+  pub whole-read : (p : Progress) → advance_of (Ok p) ≡ step → (k : ℕ) (out : List ℕ) → kept k out ≡ kept_over p.used there input →
+      held (turned_of (stage.Open (record { kept = k; place = p.place; tally = p.tally }))) out ≡ read_over input there before
   unfolding step
-  whole-read w k out moved =
+  whole-read p e k out moved =
       let used : p.used ≤ there = omega (
         arith,
-        ap (λ (x : Progress). x.used) same,
-        used-within most_records before.place (take there input) before.tally,
+        ap (λ (x : Advance). x.used) e,
+        used-within most_records before.place (take (there - 0) input) before.tally,
+        ap (λ (n : ℕ). length (take n input)) (sub-zero there),
         length-take-le there input fits,
       ) in
       let m = moved ∙ kept_there p.used there input used fits in
-      rw (ap (λ (x : Kept). x.count) m, ap (λ (x : Kept). x.contents) m) (sym (read_as_lem ∙ ap (went_on input there before p) w))
+      rw (ap (λ (x : Kept). x.count) m, ap (λ (x : Kept). x.contents) m) (read_as_lem (advance_of (Ok p)) e)
 
-module _ (input part after : List ℕ) (before next : Reading) (h : before.kept ≤ length input) where
+module _ (input part after : List ℕ) (before : Reading) (next : Turned) (h : before.kept ≤ length input) where
   -- what the input holds when something was read behind what is kept
   abbrev filled : List ℕ
   filled = put_mid before.kept (length input - before.kept) input part

@@ -4,134 +4,92 @@
 #![tactic(auto)]
 
 ghost use Rattle.std.specs.Prelude.{◌≡◌, ◌≤◌, length};
-ghost use Rattle.tally.specs.Turns.{held, ended_over, read_over, Follows};
+ghost use Rattle.tally.specs.Turns.{turned_of, held, ended_over, read_over, Follows};
 
-use daily_tally::{DayTally, Walked};
+use daily_tally::{DayTally, Progress, RefusedAt};
 use std::io;
 use std::io::Read;
-
-// Whether there may be more to read, the walk has ended, or a read has failed.
-#[derive(Clone, Copy)]
-enum Stage {
-    Open,
-    Ended(Walked),
-    Failed,
-}
 
 // What is kept from turn to turn: how many bytes wait at the input's start, the place of the next record, and the figures.
 #[derive(Clone, Copy)]
 struct Reading {
-    stage: Stage,
     kept: usize,
     place: u64,
     tally: DayTally,
 }
 
-fn begin() -> Reading {
-    let start = daily_tally::start();
-    let tally = start.tally;
-    Reading {
-        stage: Stage::Open,
-        kept: start.used,
-        place: start.place,
-        tally,
-    }
+// What a turn comes to: there may be more to read, the walk has ended, or a read has failed.
+// kept: no plainer: three ways on, of which a refusal is no error of the reading.
+#[derive(Clone, Copy)]
+enum Stage {
+    Open(Reading),
+    Ended(Result<DayTally, RefusedAt>),
+    Failed,
 }
 
-// The end of the input: bytes that are left are a record cut short.
-fn end(rest: &[u8], before: Reading) -> Reading
-    ensures { result ≡ ended_over rest.now before }
-{
-    let sum = before.tally;
-    let told = daily_tally::finish(rest, before.place, sum);
-    let walked = told.walked;
-    let tally = told.tally;
+fn begin() -> Reading {
+    let Progress { used, place, tally } = daily_tally::start();
     Reading {
-        stage: Stage::Ended(walked),
+        kept: used,
+        place,
         tally,
-        ..before
     }
 }
 
 // Tallies what the input's first bytes hold, and keeps what is left of them for the next read.
-fn tally_read(input: &mut [u8], there: usize, before: Reading) -> Reading
+fn tally_read(input: &mut [u8], there: usize, before: Reading) -> Stage
     requires { there ≤ length input.old }
-    ensures { held result input.new ≡ read_over input.old there before }
+    ensures { held (turned_of result) input.new ≡ read_over input.old there before }
 {
-    let sum = before.tally;
-    let progress = daily_tally::advance(&input[0..there], before.place, sum);
-    let tally = progress.tally;
-    let walked = progress.walked;
-    if let Walked::Refused(number, place) = walked {
-        return Reading {
-            stage: Stage::Ended(Walked::Refused(number, place)),
-            tally,
-            ..before
-        };
-    }
-    Reading {
-        stage: Stage::Open,
-        kept: kept::keep(input, progress.used, there),
-        place: progress.place,
-        tally,
+    match daily_tally::advance(&input[0..there], before.place, before.tally) {
+        Ok(progress) => Stage::Open(Reading {
+            kept: kept::keep(input, progress.used, there),
+            place: progress.place,
+            tally: progress.tally,
+        }),
+        Err(refused) => Stage::Ended(Err(refused)),
     }
 }
 
-// One read, behind the bytes that wait.
-fn turn<R: Input + Eprint>(rt: &R, input: &mut [u8], before: Reading) -> Reading
-    ensures { Follows before input.old result input.new }
+// One read, behind the bytes that wait. At the input's end, bytes that are left are a record cut short.
+fn turn<R: Input + Eprint>(rt: &R, input: &mut [u8], before: Reading) -> Stage
+    ensures { Follows before input.old (turned_of result) input.new }
 {
     let kept = before.kept;
     if input.len() < kept {
-        return before;
+        return Stage::Open(before);
     }
     let mut reader = rt.reader();
     let got = match reader.read(&mut input[kept..]) {
         Ok(got) => got,
         Err(error) => {
             troubles::tell(rt, "tally: standard input", error);
-            return Reading {
-                stage: Stage::Failed,
-                ..before
-            };
+            return Stage::Failed;
         }
     };
     if got == 0 {
-        return end(&input[0..kept], before);
+        return Stage::Ended(daily_tally::finish(&input[0..kept], before.place, before.tally));
     }
     let there = kept + got;
     tally_read(input, there, before)
 }
 
-// Turn behind turn until one ends it. The count only bounds the loop.
-fn turns<R: Input + Eprint>(rt: &R, input: &mut [u8]) -> Reading {
+// Turn behind turn until one ends it: what the walk told, where no read has failed. The count only bounds the loop.
+fn turns<R: Input + Eprint>(rt: &R, input: &mut [u8]) -> Option<Result<DayTally, RefusedAt>> {
     let mut reading = begin();
-    let mut left = u64::MAX;
-    while left > 0 {
-        reading = turn(rt, input, reading);
-        let stage = reading.stage;
-        let Stage::Open = stage else {
-            return reading;
-        };
-        left -= 1;
+    for _ in 0..u64::MAX {
+        match turn(rt, input, reading) {
+            Stage::Open(next) => reading = next,
+            Stage::Ended(told) => return Some(told),
+            Stage::Failed => return None,
+        }
     }
-    reading
-}
-
-fn write(rt: &impl Print, text: &str) -> io::Result<()> {
-    rt.print(text)
-}
-
-fn write_number(rt: &impl Print, n: u64) -> io::Result<()> {
-    rt.print(n)
+    None
 }
 
 // One line of the page: what is counted, and the figure.
 fn line(rt: &impl Print, meaning: &str, figure: u64) -> io::Result<()> {
-    write(rt, meaning)?;
-    write(rt, ": ")?;
-    write_number(rt, figure)?;
-    write(rt, "\n")
+    println!(rt; "{meaning}: {figure}")
 }
 
 fn tell_outcomes(rt: &impl Print, of: [u64; 6]) -> io::Result<()> {
@@ -182,40 +140,31 @@ fn tell_refusals(rt: &impl Print, of: [u64; 16]) -> io::Result<()> {
 }
 
 fn tell_figures(rt: &impl Print, tally: DayTally) -> io::Result<()> {
-    let outcomes = tally.outcomes;
-    let refusals = tally.refusals;
-    tell_outcomes(rt, outcomes)?;
-    tell_refusals(rt, refusals)?;
+    tell_outcomes(rt, tally.outcomes)?;
+    tell_refusals(rt, tally.refusals)?;
     line(rt, "probes, their sum", tally.probes)?;
     line(rt, "probes, the largest of one answer", tally.largest)?;
     line(rt, "answers that name a failed line", tally.failed)
 }
 
-fn tell_refused(rt: &impl Print, number: u8, place: u64) -> io::Result<()> {
-    write(rt, "refused ")?;
-    write_number(rt, number as u64)?;
-    write(rt, " at ")?;
-    write_number(rt, place)?;
-    write(rt, "\n")
+fn tell_refused(rt: &impl Print, refused: RefusedAt) -> io::Result<()> {
+    let number = refused.refusal.number();
+    let place = refused.place;
+    println!(rt; "refused {number} at {place}")
 }
 
-fn tell<R: Print + Eprint>(rt: &R, walked: Walked, tally: DayTally) {
-    let told = match walked {
-        Walked::Whole => tell_figures(rt, tally),
-        Walked::Refused(number, place) => tell_refused(rt, number, place),
+fn tell<R: Print + Eprint>(rt: &R, told: Result<DayTally, RefusedAt>) {
+    let written = match told {
+        Ok(tally) => tell_figures(rt, tally),
+        Err(refused) => tell_refused(rt, refused),
     };
-    if let Err(error) = told {
-        troubles::tell(rt, "tally: standard output", error);
-    }
+    let _ = troubles::told(rt, "tally: standard output", written);
 }
 
 // Each read asks for 64 KiB behind a record cut short, of which at most 17 bytes are there.
 fn main(rt: HostRuntime) {
     let mut input = [0u8; 65553];
-    let reading = turns(&rt, &mut input);
-    let stage = reading.stage;
-    let tally = reading.tally;
-    if let Stage::Ended(walked) = stage {
-        tell(&rt, walked, tally);
+    if let Some(told) = turns(&rt, &mut input) {
+        tell(&rt, told);
     }
 }

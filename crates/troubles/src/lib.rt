@@ -3,6 +3,7 @@
 #![tactic(auto)]
 
 ghost use Rattle.std.specs.Prelude.{◌≡◌, IsUtf8, MatchResult};
+ghost use Rattle.std.specs.Result.{result_ok};
 
 use std::env::FillError;
 use std::fmt::InlineText;
@@ -24,31 +25,40 @@ pub fn tell(rt: &impl Eprint, what: &str, error: Error) {
     let _ = eprintln!(rt; "{what}: {text}");
 }
 
+// What was tried: its value, or none where it failed, which is told.
+pub fn told<T>(rt: &impl Eprint, what: &str, tried: io::Result<T>) -> Option<T>
+    ensures { result ≡ result_ok tried }
+{
+    match tried {
+        Ok(value) => Some(value),
+        Err(error) => {
+            tell(rt, what, error);
+            None
+        }
+    }
+}
+
 // The text of an error without the system's number of it, which stands behind in brackets.
 fn reason(text: &str) -> &str {
-    match text.split_once(" (os error ") {
-        Some((reason, _)) => reason,
-        None => text,
-    }
+    text.split_once(" (os error ")
+        .map_or(text, |(reason, _)| reason)
 }
 
 // Argument `i`, put into a buffer. One that is missing, that is longer than the buffer, or that is no text, is an
 // error; a file's name can be given as text alone.
 pub fn argument<'a, R: Env>(rt: &R, i: usize, buffer: &'a mut [u8]) -> io::Result<&'a str> {
-    let n = match rt.arg(i, buffer) {
-        Ok(n) => n,
-        Err(FillError::NotPresent) => return Err(Error::from_raw_os_error(INVALID)),
-        Err(FillError::TooLong) => return Err(Error::from_raw_os_error(TOO_LONG)),
-    };
-    text(&buffer[0..n])
+    let n = rt.arg(i, buffer).map_err(|error| {
+        Error::from_raw_os_error(match error {
+            FillError::NotPresent => INVALID,
+            FillError::TooLong => TOO_LONG,
+        })
+    })?;
+    text(&buffer[..n])
 }
 
 // Bytes as text, where they are UTF-8.
 pub fn text(bytes: &[u8]) -> io::Result<&str>
     ensures { MatchResult result (λ s. (s.now ≡ bytes.now) × IsUtf8 bytes.now) (λ e. IsUtf8 bytes.now → ⊥) }
 {
-    match str::from_utf8(bytes) {
-        Ok(text) => Ok(text),
-        Err(_) => Err(Error::from_raw_os_error(NO_TEXT)),
-    }
+    str::from_utf8(bytes).map_err(|_| Error::from_raw_os_error(NO_TEXT))
 }

@@ -2,12 +2,12 @@
 #![tactic(auto)]
 
 ghost use Rattle.std.specs.Prelude.{◌≡◌};
-ghost use Rattle.verdict.specs.Tallies.{more_of, first_of, with_of, is_good};
+ghost use Rattle.verdict.specs.Tallies.{with_of, is_good};
 
-use std::io;
+use std::{fmt, io};
 
 // How many vectors were good and how many bad, and the name of the first bad one, which says nothing while none is bad.
-#[derive(Clone, Copy)]
+#[derive(Clone, Copy, Debug, PartialEq, Eq)]
 pub struct Tally {
     pub good: u64,
     pub bad: u64,
@@ -24,23 +24,25 @@ impl Tally {
 
     // The tally with one vector more. Its name is kept if it is the first bad one. A count at the last u64 stays there,
     // and never comes round to 0.
+    #[tactic(auto, unfolding(crate::specs::Tallies::with_of, crate::specs::Tallies::more_of, crate::specs::Tallies::first_of))]
     pub fn with(self, good: bool, name: u32) -> Tally
         ensures { result ≡ with_of self good name }
     {
         if good {
             return Tally {
-                good: more(self.good),
+                good: self.good.saturating_add(1),
                 ..self
             };
         }
         Tally {
-            good: self.good,
-            bad: more(self.bad),
-            first: first_of(self, name),
+            bad: self.bad.saturating_add(1),
+            first: if self.bad == 0 { name } else { self.first },
+            ..self
         }
     }
 
     // Whether there were vectors, and none was bad.
+    #[tactic(auto, unfolding(crate::specs::Tallies::is_good))]
     pub fn is_good(self) -> bool
         ensures { result ≡ is_good self }
     {
@@ -54,41 +56,27 @@ impl Tally {
     pub fn tell(self, rt: &impl Print, set: &[u8]) -> bool
         ensures { result ≡ is_good self }
     {
-        let _ = tell_line(self, rt, set);
+        let _ = self.tell_line(rt, set);
         self.is_good()
     }
-}
 
-// The set's line.
-fn tell_line(t: Tally, rt: &impl Print, set: &[u8]) -> io::Result<()> {
-    rt.write_all(set)?;
-    if t.is_good() {
-        let good = t.good;
-        return println!(rt; ": ok {good}");
+    // The set's line.
+    fn tell_line(self, rt: &impl Print, set: &[u8]) -> io::Result<()> {
+        rt.write_all(set)?;
+        println!(rt; ": {self}")
     }
-    tell_bad(t, rt)
 }
 
-// What follows the set's name in the line of a tally that is not good.
-fn tell_bad(t: Tally, rt: &impl Print) -> io::Result<()> {
-    if t.bad == 0 {
-        return println!(rt; ": bad, no vectors");
+// What follows the set's name in its line.
+impl fmt::Display for Tally {
+    fn fmt<W: fmt::Write>(&self, f: &mut fmt::Formatter<W>) -> fmt::Result {
+        let Tally { good, bad, first } = *self;
+        if self.is_good() {
+            return write!(f, "ok {good}");
+        }
+        if bad == 0 {
+            return write!(f, "bad, no vectors");
+        }
+        write!(f, "bad {bad}, the first is {first:08x}")
     }
-    let bad = t.bad;
-    let first = t.first;
-    println!(rt; ": bad {bad}, the first is {first:08x}")
-}
-
-// One more than n, or n at the last u64.
-fn more(n: u64) -> u64
-    ensures { result ≡ more_of n }
-{
-    if n < u64::MAX { n + 1 } else { n }
-}
-
-// The name of the first bad vector, where one more of this name is bad.
-fn first_of(t: Tally, name: u32) -> u32
-    ensures { result ≡ first_of t name }
-{
-    if t.bad == 0 { name } else { t.first }
 }

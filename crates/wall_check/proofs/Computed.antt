@@ -3,17 +3,15 @@
 use mathlib.Core.Path.{◌≡◌, refl}
 use mathlib.Core.Bool.{false}
 use mathlib.Core.List.{[], ◌∷◌}
+use Rattle.std.specs.Prelude.{Some, None}
 use lib.Ieee.{Float, nan, inf}
 use Rattle.arithmetic.specs.Binary32.{bits, 0ᶠ, 1ᶠ}
 use Rattle.common.specs.declared.Vec2.{Vec2}
 use Rattle.common.specs.Vectors.{vec}
-use Rattle.common.specs.declared.Times.TheVariants as times
 use Rattle.common.specs.Meetings.{times_of}
 use Rattle.obstacles.proofs.Computed.{computed}
 use Rattle.layouts.proofs.Computed.{layouts_computed, alternating}
-use Rattle.wall_check.specs.declared.WallCheck.{WallCheck}
-use Rattle.wall_check.specs.declared.WallCheck.TheVariants as check
-use Rattle.wall_check.specs.Crossings.{are_within, crosses, walls_from, own_walls, walls_of, crossed_in, found_in, move_fault, checked_move}
+use Rattle.wall_check.specs.Crossings.{WallCheck, crossed, clear, refused, are_within, crosses, walls_from, own_walls, walls_of, crossed_in, found_in, move_fault, checked_move}
 
 unfoldable pub checks_computed : Unit {0}
 unfolding computed layouts_computed times_of are_within crosses walls_from own_walls walls_of crossed_in found_in move_fault checked_move
@@ -54,8 +52,8 @@ pub ends :
     ∷ over_wall at_rest (vec 2ᶠ 0ᶠ)
     ∷ over_wall (vec -2ᶠ 1ᶠ) (vec 2ᶠ 1ᶠ)
     ∷ [])
-    ≡ (check.Crossed 0 0 1 ∷ check.Crossed 0 0 1 ∷ check.Clear ∷ check.Crossed 0 0 1 ∷ check.Clear ∷ check.Clear
-    ∷ check.Clear ∷ [])
+    ≡ (crossed 0 0 1 ∷ crossed 0 0 1 ∷ clear ∷ crossed 0 0 1 ∷ clear ∷ clear
+    ∷ clear ∷ [])
 unfolding checks_computed
 ends = refl
 
@@ -67,13 +65,13 @@ pub turned :
     ∷ over_wall (vec 0ᶠ 1ᶠ) (vec 0ᶠ -1ᶠ)
     ∷ over_wall (vec -1ᶠ 0ᶠ) (vec -1ᶠ 1ᶠ)
     ∷ [])
-    ≡ (check.Crossed 0 0 1 ∷ check.Crossed 0 0 1 ∷ check.Crossed 0 0 1 ∷ check.Crossed 0 0 1 ∷ check.Crossed 0 0 1 ∷ [])
+    ≡ (crossed 0 0 1 ∷ crossed 0 0 1 ∷ crossed 0 0 1 ∷ crossed 0 0 1 ∷ crossed 0 0 1 ∷ [])
 unfolding checks_computed
 turned = refl
 
 -- 192 edges at once: three closed obstacles whose vertices are (0,0) and (1,0) by turns
 pub most-crossed : checked_move (vec halfᶠ -1ᶠ) (vec halfᶠ 1ᶠ) 3 (1 ∷ 1 ∷ 1 ∷ []) (64 ∷ 64 ∷ 64 ∷ []) (alternating 96)
-    ≡ check.Crossed 0 0 192
+    ≡ crossed 0 0 192
 unfolding checks_computed
 most-crossed = refl
 
@@ -84,7 +82,7 @@ pub edges-counted :
     ∷ checked_move (vec 0ᶠ 2ᶠ) (vec 4ᶠ 2ᶠ) 1 (1 ∷ []) (4 ∷ []) (1ᶠ ∷ 1ᶠ ∷ 3ᶠ ∷ 1ᶠ ∷ 3ᶠ ∷ 3ᶠ ∷ 1ᶠ ∷ 3ᶠ ∷ [])
     ∷ checked_move at_rest (vec 0ᶠ 2ᶠ) 2 (1 ∷ 2 ∷ []) (0 ∷ 2 ∷ []) (-1ᶠ ∷ 1ᶠ ∷ 1ᶠ ∷ 1ᶠ ∷ [])
     ∷ [])
-    ≡ (check.Crossed 0 0 2 ∷ check.Crossed 0 0 2 ∷ check.Crossed 0 1 2 ∷ check.Crossed 1 0 1 ∷ [])
+    ≡ (crossed 0 0 2 ∷ crossed 0 0 2 ∷ crossed 0 1 2 ∷ crossed 1 0 1 ∷ [])
 unfolding checks_computed
 edges-counted = refl
 
@@ -94,7 +92,7 @@ pub edges_none :
     ∷ checked_move at_rest (vec 0ᶠ 2ᶠ) 1 (2 ∷ []) (1 ∷ []) (0ᶠ ∷ 1ᶠ ∷ [])
     ∷ checked_move at_rest (vec 0ᶠ 2ᶠ) 0 [] [] []
     ∷ [])
-    ≡ (check.Clear ∷ check.Clear ∷ check.Clear ∷ [])
+    ≡ (clear ∷ clear ∷ clear ∷ [])
 unfolding checks_computed
 edges_none = refl
 
@@ -106,7 +104,7 @@ pub computed-determinant :
     ∷ 0ᶠ ∷ bits 0x1A00_0000 ∷ [])
     ∷ checked_move at_rest (vec (bits 1) 0ᶠ) 1 (2 ∷ []) (2 ∷ []) (bits 0xC780_0000 ∷ -1ᶠ ∷ bits 0xC780_0000 ∷ 1ᶠ ∷ [])
     ∷ [])
-    ≡ (check.Clear ∷ check.Crossed 0 0 1 ∷ check.Clear ∷ [])
+    ≡ (clear ∷ crossed 0 0 1 ∷ clear ∷ [])
 unfolding checks_computed
 computed-determinant = refl
 
@@ -118,13 +116,13 @@ pub times-told :
     ∷ times_of at_rest (vec 2ᶠ 2ᶠ) (vec -1ᶠ 1ᶠ) (vec 1ᶠ 1ᶠ)
     ∷ times_of at_rest (vec 2ᶠ 0ᶠ) (vec -1ᶠ 1ᶠ) (vec 1ᶠ 1ᶠ)
     ∷ [])
-    ≡ (times.At (vec halfᶠ halfᶠ) ∷ times.At (vec 1ᶠ halfᶠ) ∷ times.At (vec (bits 0x3F80_0001) halfᶠ)
-    ∷ times.At (vec halfᶠ 1ᶠ) ∷ times.Parallel ∷ [])
+    ≡ (Some (vec halfᶠ halfᶠ) ∷ Some (vec 1ᶠ halfᶠ) ∷ Some (vec (bits 0x3F80_0001) halfᶠ)
+    ∷ Some (vec halfᶠ 1ᶠ) ∷ None ∷ [])
 unfolding checks_computed
 times-told = refl
 
 -- the port answers for any input: a NaN determinant is not 0
-pub times-of-any : times_of (vec (inf false) 0ᶠ) at_rest at_rest (vec 1ᶠ 1ᶠ) ≡ times.At (vec nan nan)
+pub times-of-any : times_of (vec (inf false) 0ᶠ) at_rest at_rest (vec 1ᶠ 1ᶠ) ≡ Some (vec nan nan)
 unfolding checks_computed
 times-of-any = refl
 
@@ -139,8 +137,8 @@ pub refusals :
     ∷ checked_move at_rest (vec 0ᶠ 2ᶠ) 1 (2 ∷ []) (2 ∷ []) (-1ᶠ ∷ nan ∷ 1ᶠ ∷ [])
     ∷ checked_move at_rest (vec 0ᶠ 2ᶠ) 1 (2 ∷ []) (2 ∷ []) (-1ᶠ ∷ 1ᶠ ∷ 1ᶠ ∷ 1ᶠ ∷ 0ᶠ ∷ [])
     ∷ [])
-    ≡ (check.Refused 6 ∷ check.Refused 6 ∷ check.Refused 4 ∷ check.Refused 3 ∷ check.Refused 5 ∷ check.Refused 2
-    ∷ check.Refused 6 ∷ check.Refused 2 ∷ [])
+    ≡ (refused 6 ∷ refused 6 ∷ refused 4 ∷ refused 3 ∷ refused 5 ∷ refused 2
+    ∷ refused 6 ∷ refused 2 ∷ [])
 unfolding checks_computed
 refusals = refl
 
@@ -150,6 +148,6 @@ pub doubled :
     ∷ checked_move at_rest (vec 0ᶠ 2ᶠ) 1 (1 ∷ []) (1 ∷ []) (0ᶠ ∷ 1ᶠ ∷ [])
     ∷ checked_move at_rest (vec 0ᶠ 2ᶠ) 1 (2 ∷ []) (2 ∷ []) (-1ᶠ ∷ 1ᶠ ∷ -1ᶠ ∷ 1ᶠ ∷ 0ᶠ ∷ [])
     ∷ [])
-    ≡ (check.Refused 6 ∷ check.Refused 14 ∷ check.Refused 14 ∷ [])
+    ≡ (refused 6 ∷ refused 14 ∷ refused 14 ∷ [])
 unfolding checks_computed
 doubled = refl

@@ -15,31 +15,29 @@ use Rattle.common.specs.declared.Vec2.{Vec2}
 use Rattle.obstacles.specs.Vertices.{vertices_of, edge_at}
 use Rattle.obstacles.specs.Obstacles.{edge_count, ends_of}
 use Rattle.layouts.proofs.LentInOrder.{front_of, behind as beyond}
-use Rattle.wall_check.specs.declared.WallCheck.{WallCheck}
-use Rattle.wall_check.specs.declared.WallCheck.TheVariants as check
-use Rattle.wall_check.specs.Crossings.{crosses, Wall, wall, walls_from, own_walls, walls_of, is_crossed, kept_if, crossed_in, found_in, behind, one_more}
+use Rattle.wall_check.specs.Crossings.{WallCheck, crossed, clear, refused, crosses, Wall, wall, walls_from, own_walls, walls_of, is_crossed, kept_if, crossed_in, found_in, behind, one_more}
 
 -- ---- what is known, and edges behind it
 
 pub behind-none : (s : WallCheck) → behind s [] ≡ s
 unfolding behind found_in
-behind-none (check.Crossed o i n) = ap (λ (m : ℕ). check.Crossed o i m) (add-zero n)
-behind-none check.Clear = refl
-behind-none (check.Refused r) = refl
+behind-none (crossed o i n) = ap (λ (m : ℕ). crossed o i m) (add-zero n)
+behind-none clear = refl
+behind-none (refused r) = refl
 
 behind-append : (s : WallCheck) (a b : List Wall) → behind s (a ++ b) ≡ behind (behind s a) b
 unfolding behind found_in
-behind-append (check.Crossed o i n) a b = ap (λ (m : ℕ). check.Crossed o i m) (rw length-append (omega arith))
-behind-append check.Clear [] b = refl
-behind-append check.Clear (w ∷ ws) b = ap (λ (m : ℕ). check.Crossed w.obstacle w.vertex m) (length-append (w ∷ ws) b)
-behind-append (check.Refused r) a b = refl
+behind-append (crossed o i n) a b = ap (λ (m : ℕ). crossed o i m) (rw length-append (omega arith))
+behind-append clear [] b = refl
+behind-append clear (w ∷ ws) b = ap (λ (m : ℕ). crossed w.obstacle w.vertex m) (length-append (w ∷ ws) b)
+behind-append (refused r) a b = refl
 
 behind-kept : (s : WallCheck) (b : Bool) (w : Wall) (ws : List Wall) → behind s (kept_if b w ws)
     ≡ behind (one_more s b w.obstacle w.vertex) ws
 unfolding behind found_in one_more
-behind-kept (check.Crossed o i n) true w ws = ap (λ (m : ℕ). check.Crossed o i m) (omega arith)
-behind-kept check.Clear true w ws = ap (λ (m : ℕ). check.Crossed w.obstacle w.vertex m) (omega arith)
-behind-kept (check.Refused r) true w ws = refl
+behind-kept (crossed o i n) true w ws = ap (λ (m : ℕ). crossed o i m) (omega arith)
+behind-kept clear true w ws = ap (λ (m : ℕ). crossed w.obstacle w.vertex m) (omega arith)
+behind-kept (refused r) true w ws = refl
 behind-kept s false w ws = refl
 
 module _ (from to : Vec2) where

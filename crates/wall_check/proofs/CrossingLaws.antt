@@ -9,22 +9,20 @@ use lib.ListN.{length}
 use lib.Ieee.{Float}
 use Rattle.admission.specs.Faults.{Fault, fine, fault, unless_fault}
 use Rattle.common.specs.declared.Vec2.{Vec2}
-use Rattle.wall_check.specs.declared.WallCheck.{WallCheck}
-use Rattle.wall_check.specs.declared.WallCheck.TheVariants as check
-use Rattle.wall_check.specs.Crossings.{Wall, walls_of, is_crossed, kept_if, crossed_in, found_in, move_fault, checked_move}
+use Rattle.wall_check.specs.Crossings.{WallCheck, crossed, clear, refused, Wall, walls_of, is_crossed, kept_if, crossed_in, found_in, move_fault, checked_move}
 
 -- ---- behind the judgement
 
-judged-clear : (f : Fault) (a : WallCheck) → unless_fault check.Refused f a ≡ check.Clear → (f ≡ fine) × (a ≡ check.Clear)
+judged-clear : (f : Fault) (a : WallCheck) → unless_fault refused f a ≡ clear → (f ≡ fine) × (a ≡ clear)
 judged-clear fine a e = (refl, e)
 judged-clear (fault r) a e = let z : ◌≡◌ {A = ℕ} 0 1 = cc in absurd (omega arith)
 
-judged-crossed : (f : Fault) (a : WallCheck) (o i n : ℕ) → unless_fault check.Refused f a ≡ check.Crossed o i n →
-    (f ≡ fine) × (a ≡ check.Crossed o i n)
+judged-crossed : (f : Fault) (a : WallCheck) (o i n : ℕ) → unless_fault refused f a ≡ crossed o i n →
+    (f ≡ fine) × (a ≡ crossed o i n)
 judged-crossed fine a o i n e = (refl, e)
 judged-crossed (fault r) a o i n e = let z : ◌≡◌ {A = ℕ} 0 1 = cc in absurd (omega arith)
 
-count_of : (o i n : ℕ) (ws : List Wall) → found_in ws ≡ check.Crossed o i n → length ws ≡ n
+count_of : (o i n : ℕ) (ws : List Wall) → found_in ws ≡ crossed o i n → length ws ≡ n
 unfolding found_in
 count_of o i n [] e = let z : ◌≡◌ {A = ℕ} 0 1 = cc in absurd (omega arith)
 count_of o i n (w ∷ ws) e = cc
@@ -48,13 +46,13 @@ module _ (from to : Vec2) where
 
   -- ---- over a list of edges
 
-  none_of : (ws : List Wall) → found_in (crossed_in from to ws) ≡ check.Clear → NoneCrossed ws
+  none_of : (ws : List Wall) → found_in (crossed_in from to ws) ≡ clear → NoneCrossed ws
   unfolding found_in crossed_in
   none_of [] e = no_edge
   none_of (w ∷ ws) e = go (is_crossed from to w) refl e (none_of ws)
     where
-      go : (b : Bool) → is_crossed from to w ≡ b → found_in (kept_if b w (crossed_in from to ws)) ≡ check.Clear
-          → (found_in (crossed_in from to ws) ≡ check.Clear → NoneCrossed ws) → NoneCrossed (w ∷ ws)
+      go : (b : Bool) → is_crossed from to w ≡ b → found_in (kept_if b w (crossed_in from to ws)) ≡ clear
+          → (found_in (crossed_in from to ws) ≡ clear → NoneCrossed ws) → NoneCrossed (w ∷ ws)
       go true t h ih = let z : ◌≡◌ {A = ℕ} 0 1 = cc in absurd (omega arith)
       go false t h ih = passed t (ih h)
 
@@ -63,13 +61,13 @@ module _ (from to : Vec2) where
   crossed-none [] no_edge = refl
   crossed-none (w ∷ ws) (passed t rest) = rw t (crossed-none ws rest)
 
-  first_of : (o i n : ℕ) (ws : List Wall) → found_in (crossed_in from to ws) ≡ check.Crossed o i n → FirstCrossed o i ws
+  first_of : (o i n : ℕ) (ws : List Wall) → found_in (crossed_in from to ws) ≡ crossed o i n → FirstCrossed o i ws
   unfolding found_in crossed_in
   first_of o i n [] e = let z : ◌≡◌ {A = ℕ} 0 1 = cc in absurd (omega arith)
   first_of o i n (w ∷ ws) e = go (is_crossed from to w) refl e (first_of o i n ws)
     where
-      go : (b : Bool) → is_crossed from to w ≡ b → found_in (kept_if b w (crossed_in from to ws)) ≡ check.Crossed o i n
-          → (found_in (crossed_in from to ws) ≡ check.Crossed o i n → FirstCrossed o i ws) → FirstCrossed o i (w ∷ ws)
+      go : (b : Bool) → is_crossed from to w ≡ b → found_in (kept_if b w (crossed_in from to ws)) ≡ crossed o i n
+          → (found_in (crossed_in from to ws) ≡ crossed o i n → FirstCrossed o i ws) → FirstCrossed o i (w ∷ ws)
       go true t h ih = record {
         before = [];
         first = w;
@@ -101,8 +99,8 @@ module _ (from to : Vec2) where
 
     -- "none exactly when no edge is crossed"
     pub clear-exactly :
-        (checked_move from to n ks cs xs ≡ check.Clear → (move_fault from to n ks cs xs ≡ fine) × NoneCrossed walls)
-        × ((move_fault from to n ks cs xs ≡ fine) × NoneCrossed walls → checked_move from to n ks cs xs ≡ check.Clear)
+        (checked_move from to n ks cs xs ≡ clear → (move_fault from to n ks cs xs ≡ fine) × NoneCrossed walls)
+        × ((move_fault from to n ks cs xs ≡ fine) × NoneCrossed walls → checked_move from to n ks cs xs ≡ clear)
     unfolding checked_move found_in
     clear-exactly = (
       λ e. (let both = judged-clear (move_fault from to n ks cs xs) (found_in (crossed_in from to walls)) e in (
@@ -113,7 +111,7 @@ module _ (from to : Vec2) where
     )
 
     -- "the first crossed edge in record order .. and the number of crossed edges"
-    pub first-crossed : (o i k : ℕ) → checked_move from to n ks cs xs ≡ check.Crossed o i k
+    pub first-crossed : (o i k : ℕ) → checked_move from to n ks cs xs ≡ crossed o i k
         → (move_fault from to n ks cs xs ≡ fine) × FirstCrossed o i walls × (length (crossed_in from to walls) ≡ k)
     unfolding checked_move
     first-crossed o i k e =

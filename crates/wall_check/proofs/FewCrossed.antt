@@ -13,8 +13,7 @@ use Rattle.common.specs.declared.Vec2.{Vec2}
 use Rattle.obstacles.proofs.EdgesInOrder.{few-edges}
 use Rattle.layouts.specs.Layouts.{own_kind, own_count, own_fault, lent_fault}
 use Rattle.layouts.proofs.LentInOrder.{own_room}
-use Rattle.wall_check.specs.declared.WallCheck.TheVariants as check
-use Rattle.wall_check.specs.Crossings.{Wall, walls_from, own_walls, walls_of, is_crossed, kept_if, crossed_in, checked_move}
+use Rattle.wall_check.specs.Crossings.{crossed, Wall, walls_from, own_walls, walls_of, is_crossed, kept_if, crossed_in, checked_move}
 use Rattle.wall_check.proofs.Accepted.{obstacles-pass}
 use Rattle.wall_check.proofs.CrossingLaws.{first-crossed}
 
@@ -51,7 +50,7 @@ module _ (from to : Vec2) where
   crossed-few (w ∷ ws) = omega (arith, kept-few (is_crossed from to w) w (crossed_in from to ws), crossed-few ws)
 
   pub few-crossed : (n : ℕ) (ks cs : List ℕ) (xs : List Float) (o i k : ℕ) → checked_move from to n ks cs xs
-      ≡ check.Crossed o i k → k ≤ 192
+      ≡ crossed o i k → k ≤ 192
   few-crossed n ks cs xs o i k e =
       let told = first-crossed from to n ks cs xs o i k e in
       let passes = obstacles-pass from to n ks cs xs told.0 in

@@ -5,3 +5,4 @@ pub mod Accepted
 pub mod CrossingLaws
 pub mod FewCrossed
 pub mod Computed
+pub mod Agreement

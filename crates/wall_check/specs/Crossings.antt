@@ -1,33 +1,30 @@
 -- 02, T-08: whether a move crosses an edge, and what is told over all edges of lent obstacles. The edges are those of
 -- 01, which `obstacles` defines. Definitions only. Assumes nothing.
-use Rattle.std.specs.Prelude.{ℕ, zero, suc, ◌+◌, ◌*◌, ◌/◌, Bool, true, false, ◌&&◌, List, [], ◌∷◌, ◌++◌, length, take, drop, Float}
+use Rattle.std.specs.Prelude.{ℕ, zero, suc, ◌+◌, ◌*◌, ◌/◌, Bool, true, false, ◌&&◌, List, [], ◌∷◌, ◌++◌, length, take, drop, Option, Some, None, Result, Ok, Err, Float}
 use Rattle.arithmetic.specs.Binary32.{0ᶠ, 1ᶠ}
+use Rattle.admission.specs.declared.refusal.Refusal.{Refusal}
+use Rattle.admission.specs.Refusals.{number_of}
 use Rattle.admission.specs.Faults.{Fault, ◌⊳◌, unless_fault, inside}
 use Rattle.common.specs.declared.Vec2.{Vec2}
-use Rattle.common.specs.declared.Times.{Times}
-use Rattle.common.specs.declared.Times.TheVariants as times
 use Rattle.common.specs.Meetings.{times_of}
 use Rattle.edges.specs.Edges.{Edge}
-use Rattle.obstacles.specs.declared.EdgeEnds.{EdgeEnds}
-use Rattle.obstacles.specs.declared.EdgeEnds.TheVariants as ends
 use Rattle.obstacles.specs.ObstacleFaults.{vector_fault}
 use Rattle.obstacles.specs.Vertices.{vertices_of, edge_at}
 use Rattle.obstacles.specs.Obstacles.{edge_count}
 use Rattle.layouts.specs.Layouts.{own_kind, own_count, layout_fault, vertex_total, left_fault}
-use Rattle.wall_check.specs.declared.WallCheck.{WallCheck}
-use Rattle.wall_check.specs.declared.WallCheck.TheVariants as check
+use Rattle.wall_check.specs.declared.Crossing.{Crossing}
 
 -- ---- one edge
 
 -- "the lines have times and both times lie from 0 to 1, ends counted"; "a NaN time is not within 0 to 1"
-unfoldable pub are_within : Times → Bool
-are_within (times.At t) = inside 0ᶠ 1ᶠ t.x && inside 0ᶠ 1ᶠ t.y
-are_within times.Parallel = false
+unfoldable pub are_within : Option Vec2 → Bool
+are_within (Some t) = inside 0ᶠ 1ᶠ t.x && inside 0ᶠ 1ᶠ t.y
+are_within None = false
 
 -- the move is the first line, the edge from its left to its right end the second; an edge that is not there is not crossed
-unfoldable pub crosses : Vec2 → Vec2 → EdgeEnds → Bool
-crosses from to (ends.Between left right) = are_within (times_of from to left right)
-crosses from to ends.Absent = false
+unfoldable pub crosses : Vec2 → Vec2 → Option (Vec2 × Vec2) → Bool
+crosses from to (Some e) = are_within (times_of from to e.0 e.1)
+crosses from to None = false
 
 -- ---- all edges in record order
 
@@ -58,7 +55,7 @@ walls_of o (suc n) ks cs xs = own_walls o (own_kind ks) (take (2 * own_count cs)
 -- ---- the crossed ones
 
 abbrev pub is_crossed : Vec2 → Vec2 → Wall → Bool
-is_crossed from to w = crosses from to (ends.Between w.edge.left.point w.edge.right.point)
+is_crossed from to w = crosses from to (Some (w.edge.left.point, w.edge.right.point))
 
 -- in front of the others, if the test passes
 abbrev pub kept_if : {A : Type 0} → Bool → A → List A → List A
@@ -69,10 +66,17 @@ unfoldable pub crossed_in : Vec2 → Vec2 → List Wall → List Wall
 crossed_in from to [] = []
 crossed_in from to (w ∷ ws) = kept_if (is_crossed from to w) w (crossed_in from to ws)
 
+-- the first crossed edge, as its obstacle and its left vertex, and how many are crossed; or none is; or the number of
+-- the first fault
+pub data WallCheck : Type 0 where
+  crossed : ℕ → ℕ → ℕ → WallCheck
+  clear : WallCheck
+  refused : ℕ → WallCheck
+
 -- "the first crossed edge in record order, or none exactly when no edge is crossed, and the number of crossed edges"
 unfoldable pub found_in : List Wall → WallCheck
-found_in [] = check.Clear
-found_in (w ∷ ws) = check.Crossed w.obstacle w.vertex (length (w ∷ ws))
+found_in [] = clear
+found_in (w ∷ ws) = crossed w.obstacle w.vertex (length (w ∷ ws))
 
 -- ---- the check
 
@@ -83,28 +87,38 @@ move_fault from to n ks cs xs =
 
 unfoldable pub checked_move : Vec2 → Vec2 → ℕ → List ℕ → List ℕ → List Float → WallCheck
 checked_move from to n ks cs xs =
-    unless_fault check.Refused (move_fault from to n ks cs xs) (found_in (crossed_in from to (walls_of 0 n ks cs xs)))
+    unless_fault refused (move_fault from to n ks cs xs) (found_in (crossed_in from to (walls_of 0 n ks cs xs)))
 
 -- ---- on the way: what is known of the edges before, and those behind
 
 -- how many edges are known to be crossed
 abbrev pub count_in : WallCheck → ℕ
-count_in (check.Crossed o i n) = n
-count_in check.Clear = 0
-count_in (check.Refused r) = 0
+count_in (crossed o i n) = n
+count_in clear = 0
+count_in (refused r) = 0
 
 -- more crossed edges, behind what is known
 unfoldable pub behind : WallCheck → List Wall → WallCheck
-behind (check.Crossed o i n) ws = check.Crossed o i (n + length ws)
-behind check.Clear ws = found_in ws
-behind (check.Refused r) ws = check.Refused r
+behind (crossed o i n) ws = crossed o i (n + length ws)
+behind clear ws = found_in ws
+behind (refused r) ws = refused r
 
 -- one edge more, crossed or not
 abbrev pub counted : WallCheck → ℕ → ℕ → WallCheck
-counted (check.Crossed o i n) obstacle vertex = check.Crossed o i (n + 1)
-counted check.Clear obstacle vertex = check.Crossed obstacle vertex 1
-counted (check.Refused r) obstacle vertex = check.Refused r
+counted (crossed o i n) obstacle vertex = crossed o i (n + 1)
+counted clear obstacle vertex = crossed obstacle vertex 1
+counted (refused r) obstacle vertex = refused r
 
 unfoldable pub one_more : WallCheck → Bool → ℕ → ℕ → WallCheck
 one_more known true obstacle vertex = counted known obstacle vertex
 one_more known false obstacle vertex = known
+
+-- ---- what the code says: of the edges, and of the check
+
+abbrev pub known_of : Option Crossing → WallCheck
+known_of (Some c) = crossed c.obstacle c.vertex c.count
+known_of None = clear
+
+abbrev pub check_of : Result (Option Crossing) Refusal → WallCheck
+check_of (Ok c) = known_of c
+check_of (Err r) = refused (number_of r)

@@ -5,27 +5,27 @@ ghost use Rattle.std.specs.Prelude.{◌≡◌, ◌+◌, ◌/◌, ◌≤◌, ◌<
 ghost use Rattle.admission.specs.Faults.{fine, fault_of};
 ghost use Rattle.obstacles.specs.Obstacles.{ends_of};
 ghost use Rattle.layouts.specs.Layouts.{lent_fault};
-ghost use Rattle.wall_check.specs.Crossings.{are_within, crosses, own_walls, walls_of, crossed_in, one_more, found_in, behind, count_in, move_fault, checked_move};
+ghost use Rattle.wall_check.specs.Crossings.{are_within, crosses, own_walls, walls_of, crossed_in, one_more, found_in, behind, count_in, move_fault, checked_move, known_of, check_of};
 
-use admission::{Judged, first_of, is_inside};
-use common::{Times, Vec2};
-use layouts::Layout;
-use obstacles::{EdgeEnds, judge_vector};
+use admission::{Judged, Refusal, is_inside};
+use common::Vec2;
+use obstacles::judge_vector;
 
-// The first crossed edge, as its obstacle and its left vertex, and how many are crossed; or none is; or the number of
-// the first fault.
-#[derive(Clone, Copy)]
-pub enum WallCheck {
-    Crossed(usize, usize, usize),
-    Clear,
-    Refused(u8),
+// The first crossed edge, by its obstacle and its left vertex, and how many edges are crossed.
+#[derive(Clone, Copy, Debug, PartialEq, Eq)]
+pub struct Crossing {
+    pub obstacle: usize,
+    pub vertex: usize,
+    pub count: usize,
 }
 
-// Checks a move over all edges of the obstacles, in order, whichever side of them it comes from. An edge is crossed
-// where the lines of move and edge meet at times that both lie from 0 to 1, ends counted; a move along an edge, or of
-// no length, is parallel to it and does not cross it. Refused: a component of a position that is not finite or out of
-// range (6), `from` before `to`; then the obstacles as `layouts::judge_layout` tells them (4, 2, 3, 5, 6, 14); then
-// kinds, counts or vertices lent beyond the counts (2).
+// Checks a move over all edges of the obstacles, in order, whichever side of them it comes from; none may be crossed.
+// An edge is crossed where the lines of move and edge meet at times that both lie from 0 to 1, ends counted; a move
+// along an edge, or of no length, is parallel to it and does not cross it. Refused: a component of a position that is
+// not finite or out of range (6), `from` before `to`; then the obstacles as `layouts::judge_layout` tells them (4, 2,
+// 3, 5, 6, 14); then kinds, counts or vertices lent beyond the counts (2).
+#[tactic(auto, unfolding(crate::specs::Crossings::checked_move))]
+// kept: promised: check_move: lent obstacles are four arguments.
 pub fn check_move(
     from: Vec2,
     to: Vec2,
@@ -33,17 +33,16 @@ pub fn check_move(
     kinds: &[u8],
     counts: &[u8],
     vertices: &[f32],
-) -> WallCheck
-    ensures { result ≡ checked_move from to obstacles kinds.now counts.now vertices.now }
+) -> Result<Option<Crossing>, Refusal>
+    ensures { check_of result ≡ checked_move from to obstacles kinds.now counts.now vertices.now }
 {
-    let judged = judge_move(from, to, obstacles, kinds, counts, vertices);
-    if let Judged::Fault(number) = judged {
-        return WallCheck::Refused(number);
-    }
-    check_obstacles(from, to, obstacles, kinds, counts, vertices)
+    judge_move(from, to, obstacles, kinds, counts, vertices)?;
+    let path = Move { from, to };
+    Ok(check_obstacles(path, obstacles, kinds, counts, vertices))
 }
 
 // The two positions, the obstacles, then what is lent beyond the counts.
+#[tactic(auto, unfolding(crate::specs::Crossings::move_fault))]
 fn judge_move(
     from: Vec2,
     to: Vec2,
@@ -55,118 +54,103 @@ fn judge_move(
     ensures { fault_of result ≡ move_fault from to obstacles kinds.now counts.now
         vertices.now }
 {
-    let judged = first_of(judge_vector(from), judge_vector(to));
-    let Judged::Fine = judged else {
-        return judged;
-    };
-    let layout = layouts::judge_layout(obstacles, kinds, counts, vertices);
-    match layout {
-        Layout::Fault(number) => Judged::Fault(number),
-        Layout::Vertices(total) => {
-            layouts::judge_leftovers(obstacles, total, kinds, counts, vertices)
-        }
-    }
+    judge_vector(from)?;
+    judge_vector(to)?;
+    let total = layouts::judge_layout(obstacles, kinds, counts, vertices)?;
+    layouts::judge_leftovers(obstacles, total, kinds, counts, vertices)
+}
+
+#[derive(Clone, Copy)]
+struct Move {
+    from: Vec2,
+    to: Vec2,
 }
 
 // Whether there are times, and both lie from 0 to 1. A NaN does not.
-fn are_within(times: Times) -> bool
+#[tactic(auto, unfolding(crate::specs::Crossings::are_within))]
+fn are_within(times: Option<Vec2>) -> bool
     ensures { result ≡ are_within times }
 {
-    let Times::At(at) = times else {
-        return false;
-    };
-    if is_inside(0.0, 1.0, at.x) {
-        return is_inside(0.0, 1.0, at.y);
-    }
-    false
+    times.is_some_and(|at| is_inside(0.0, 1.0, at.x) && is_inside(0.0, 1.0, at.y))
 }
 
 // Whether the move crosses the edge with these ends.
-fn is_crossed(from: Vec2, to: Vec2, ends: EdgeEnds) -> bool
-    ensures { result ≡ crosses from to ends }
+#[tactic(auto, unfolding(crate::specs::Crossings::crosses))]
+fn is_crossed(path: Move, ends: Option<(Vec2, Vec2)>) -> bool
+    ensures { result ≡ crosses path.from path.to ends }
 {
-    let EdgeEnds::Between(left, right) = ends else {
+    let Some((left, right)) = ends else {
         return false;
     };
-    are_within(common::time_to_intersect_lines(from, to, left, right))
+    are_within(common::time_to_intersect_lines(path.from, path.to, left, right))
 }
 
 // What is known behind one edge more, of the obstacle and from the vertex.
-fn note_edge(known: WallCheck, crossed: bool, obstacle: usize, vertex: usize) -> WallCheck
-    requires { count_in known < 192 }
-    ensures { (result ≡ one_more known crossed obstacle vertex) × (count_in result ≤ count_in known + 1) }
-{
-    if crossed {
-        return match known {
-            WallCheck::Crossed(first, left, count) => WallCheck::Crossed(first, left, count + 1),
-            WallCheck::Clear => WallCheck::Crossed(obstacle, vertex, 1),
-            WallCheck::Refused(_) => known,
-        };
-    }
-    known
-}
-
-// What is known behind the edge from the vertex `i` of an obstacle to the next.
-fn check_edge(
-    from: Vec2,
-    to: Vec2,
+#[tactic(auto, unfolding(crate::specs::Crossings::one_more))]
+fn note_edge(
+    known: Option<Crossing>,
+    crossed: bool,
     obstacle: usize,
-    kind: u8,
-    vertices: &[f32],
-    i: usize,
-    known: WallCheck,
-) -> WallCheck
-    requires { count_in known < 192 }
-    ensures { (result ≡ one_more known (crosses from to (ends_of kind vertices.now i)) obstacle i)
-        × (count_in result ≤ count_in known + 1) }
+    vertex: usize,
+) -> Option<Crossing>
+    requires { count_in (known_of known) < 192 }
+    ensures { (known_of result ≡ one_more (known_of known) crossed obstacle vertex)
+        × (count_in (known_of result) ≤ count_in (known_of known) + 1) }
 {
-    let ends = obstacles::edge_ends(kind, vertices, i);
-    note_edge(known, is_crossed(from, to, ends), obstacle, i)
+    if !crossed {
+        return known;
+    }
+    match known {
+        Some(first) => Some(Crossing {
+            count: first.count + 1,
+            ..first
+        }),
+        None => Some(Crossing {
+            obstacle,
+            vertex,
+            count: 1,
+        }),
+    }
 }
 
 // What is known behind all edges of an obstacle, whose vertices are lent alone: from each vertex there is one edge, or none.
 fn check_edges(
-    from: Vec2,
-    to: Vec2,
+    path: Move,
     obstacle: usize,
     kind: u8,
     vertices: &[f32],
-    before: WallCheck,
-) -> WallCheck
-    requires { count_in before + length vertices.now / 2 ≤ 192 }
-    ensures { (result ≡ behind before (crossed_in from to (own_walls obstacle kind vertices.now)))
-        × (count_in result ≤ count_in before + length vertices.now / 2) }
+    before: Option<Crossing>,
+) -> Option<Crossing>
+    requires { count_in (known_of before) + length vertices.now / 2 ≤ 192 }
+    ensures { (known_of result ≡ behind (known_of before) (crossed_in path.from path.to (own_walls obstacle kind vertices.now)))
+        × (count_in (known_of result) ≤ count_in (known_of before) + length vertices.now / 2) }
 {
     let mut known = before;
-    let mut i = 0usize;
-    while i < vertices.len() / 2 {
-        known = check_edge(from, to, obstacle, kind, vertices, i, known);
-        i += 1;
+    for i in 0..vertices.len() / 2 {
+        let ends = obstacles::edge_ends(kind, vertices, i);
+        known = note_edge(known, is_crossed(path, ends), obstacle, i);
     }
     known
 }
 
 // The check over obstacles that are not at fault.
 fn check_obstacles(
-    from: Vec2,
-    to: Vec2,
+    path: Move,
     obstacles: usize,
     kinds: &[u8],
     counts: &[u8],
     vertices: &[f32],
-) -> WallCheck
+) -> Option<Crossing>
     requires { lent_fault 0 obstacles kinds.now counts.now vertices.now ≡ fine }
-    ensures { result ≡ found_in (crossed_in from to (walls_of 0 obstacles kinds.now counts.now
+    ensures { known_of result ≡ found_in (crossed_in path.from path.to (walls_of 0 obstacles kinds.now counts.now
         vertices.now)) }
 {
-    let mut known = WallCheck::Clear;
+    let mut known = None;
     let mut total = 0usize;
-    let mut i = 0usize;
-    while i < obstacles {
-        let end = total + counts[i] as usize;
-        known = check_edges(from, to, i, kinds[i], &vertices[2 * total..2 * end], known);
+    for i in 0..obstacles {
+        let end = total + usize::from(counts[i]);
+        known = check_edges(path, i, kinds[i], &vertices[2 * total..2 * end], known);
         total = end;
-        i += 1;
     }
     known
 }

@@ -10,13 +10,6 @@ use verdict::Tally;
 
 mod again;
 
-// What reading one record came to: how many bytes it has; or that the input has ended, or within it.
-#[derive(Clone, Copy)]
-enum Reading {
-    Whole(usize),
-    End,
-}
-
 // Fills the bytes from the input. False where the input ends before.
 fn fill(input: &mut impl Read, bytes: &mut [u8]) -> io::Result<bool> {
     match input.read_exact(bytes) {
@@ -30,33 +23,32 @@ fn fill(input: &mut impl Read, bytes: &mut [u8]) -> io::Result<bool> {
     }
 }
 
-// Reads a record to the start of the bytes: the two bytes of its length, then as many as they name.
-fn read(input: &mut impl Read, bytes: &mut [u8]) -> io::Result<Reading>
+// Reads a record to the start of the bytes: the two bytes of its length, then as many as they name. How many bytes it
+// has; none where the input has ended, or ends within it.
+fn read(input: &mut impl Read, bytes: &mut [u8]) -> io::Result<Option<usize>>
     requires { 65537 ≤ length bytes.old }
 {
-    if !fill(input, &mut bytes[0..2])? {
-        return Ok(Reading::End);
+    if !fill(input, &mut bytes[..2])? {
+        return Ok(None);
     }
-    let end = 2 + words::pair_at(bytes, 0) as usize;
+    let end = 2 + usize::from(words::pair_at(bytes, 0));
     if !fill(input, &mut bytes[2..end])? {
-        return Ok(Reading::End);
+        return Ok(None);
     }
-    Ok(Reading::Whole(end))
+    Ok(Some(end))
 }
 
 // The tally of the records that are accepted, each named by its index among all of them.
 fn tally_of_input(input: &mut impl Read) -> io::Result<Tally> {
     let mut tally = Tally::NONE;
-    let mut bytes: [u8; 65537] = [0; 65537];
-    let mut index: u32 = 0;
-    while index < u32::MAX {
+    let mut bytes = [0; 65537];
+    for index in 0..u32::MAX {
         match read(input, &mut bytes)? {
-            Reading::Whole(end) => tally = again::with_record(tally, &bytes, end, index),
-            Reading::End => return Ok(tally),
+            Some(end) => tally = again::with_record(tally, &bytes, end, index),
+            None => return Ok(tally),
         }
-        index += 1;
     }
-    Ok(tally.with(false, index))
+    Ok(tally.with(false, u32::MAX))
 }
 
 fn main(rt: HostRuntime) -> io::Result<()> {

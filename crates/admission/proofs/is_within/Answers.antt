@@ -2,7 +2,6 @@
 use mathlib.Core.Path.{◌∙◌, sym}
 use Rattle.arithmetic.proofs.Between.{abs-between}
 use Rattle.admission.specs.Faults.{within, inside}
-use borrow.Author.Rules.{rules}
 use Rattle.admission.proofs.is_within.Goals as goal
 
 pub returns : goal.returns

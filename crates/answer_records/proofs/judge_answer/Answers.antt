@@ -2,7 +2,7 @@
 use Rattle.std.proofs.Common.{sym, ◌∙◌, arith, eq-eqb, ne_eqb, le-leb}
 use borrow.Author.Tests.{lt-leb}
 use Rattle.answer_records.specs.Replies.{answer_fault}
-use Rattle.answer_records.proofs.ReplyLaws.{has_code}
+use Rattle.answer_records.proofs.ReplyLaws.{has_code, and-told}
 use Rattle.answer_records.proofs.judge_answer.Goals as goal
 
 pub returns-then-bytes-lt2 : goal.returns-then-bytes-lt2
@@ -49,10 +49,11 @@ unfolding answer_fault
 returns c =
     let named = sym c.is_length.ensures ∙ c.if-not-is_length.false in
     simp (
-      c.first_of.ensures,
-      c.fault_unless-code.ensures,
+      c.and.ensures,
+      and-told,
+      c.unless-code.ensures,
       c.length_of_code.ensures,
-      c.fault_unless-version.ensures,
+      c.unless-version.ensures,
       le-leb 2 _ c.if-bytes-lt2.false,
       ← c.pair_at-length.ensures,
       named,

@@ -1,7 +1,6 @@
 -- `common::time_to_intersect_lines` meets its contract. Assumes nothing.
 use Rattle.arithmetic.specs.Binary32.{when◌then◌else◌}
 use Rattle.common.specs.Meetings.{times_of}
-use borrow.Author.Rules.{rules}
 use Rattle.common.proofs.time_to_intersect_lines.Goals as goal
 
 pub returns-then-matrix_determinant : goal.returns-then-matrix_determinant

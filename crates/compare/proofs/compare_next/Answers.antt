@@ -3,11 +3,11 @@ use Rattle.std.proofs.Common.{arith}
 use Rattle.compare.proofs.TurnLaws.{ended-advances, going-advances}
 use Rattle.compare.proofs.compare_next.Goals as goal
 
-pub returns-in-Ended : goal.returns-in-Ended
-returns-in-Ended c =
+pub returns-in-Some : goal.returns-in-Some
+returns-in-Some c =
     let a = c.args in
     ended-advances a.before a.mine a.ours.now a.other a.theirs.now _ c.requires.0 c.requires.1
-    c.advance-progress.ensures c.in-Ended.is
+    c.advance-progress.ensures c.in-Some.is
 
 pub returns : goal.returns
 returns c =

@@ -1,12 +1,7 @@
--- `compare::turns` meets its contract. Assumes nothing.
-use Rattle.std.proofs.Common.{length, ◌≡◌}
+-- `compare::turns` meets its contract: the buffers are ready for each turn. Assumes nothing.
+use Rattle.std.proofs.Common.{length}
 use Rattle.compare.specs.Turns.{Ready}
 use Rattle.compare.proofs.turns.Given as goal
 
-abbrev pub invariant-loop-left : goal.invariant-loop-left
-invariant-loop-left g l =
-    (length l.input ≡ length l.initial.input) × (length l.ours ≡ length l.initial.ours)
-    × (length l.theirs ≡ length l.initial.theirs) × Ready (length l.input) (length l.ours) (length l.theirs) l.reading
-
-abbrev pub decreases-loop-left : goal.decreases-loop-left
-decreases-loop-left g l = l.left
+abbrev pub invariant-loop : goal.invariant-loop
+invariant-loop g l = Ready (length l.input) (length l.ours) (length l.theirs) l.reading

@@ -1,6 +1,6 @@
 use native.Mathlib.Omega.{arith}
-use mathlib.Core.Path.{sym, ap, ◌∙◌}
-use Rattle.comparison.proofs.TurnLaws.{is_onward, from_start, part-reach, goes_on, stops}
+use mathlib.Core.Path.{sym, ◌∙◌}
+use Rattle.comparison.proofs.TurnLaws.{stays, from_start, part-reach, goes_on, stops}
 use Rattle.comparison.proofs.advance.Goals as goal
 
 pub loop-j-init : goal.loop-j-init
@@ -21,30 +21,9 @@ loop-j-preserved c =
     let read = rw c.in-Onward.is at c.part_turn-turn.ensures in
     rw c.next_place-next.ensures (l.invariant ∙ goes_on a.ours.now a.theirs.now l.at l.by l.next read)
 
-pub returns-in-Unreadable : goal.returns-in-Unreadable
-returns-in-Unreadable c =
+pub returns-in_default : goal.returns-in_default
+returns-in_default c =
     let l = c.loop-j in
     let a = c.args in
     c.stopped.ensures ∙ sym (l.invariant ∙ stops a.ours.now a.theirs.now l.at l.by l.next
-    c.part_turn-turn.ensures (ap is_onward c.in-Unreadable.is))
-
-pub returns-in-Different : goal.returns-in-Different
-returns-in-Different c =
-    let l = c.loop-j in
-    let a = c.args in
-    c.stopped-in-Different.ensures ∙ sym (l.invariant ∙ stops a.ours.now a.theirs.now l.at l.by l.next
-    c.part_turn-turn.ensures (ap is_onward c.in-Different.is))
-
-pub returns-in-BothEnded : goal.returns-in-BothEnded
-returns-in-BothEnded c =
-    let l = c.loop-j in
-    let a = c.args in
-    c.stopped-in-BothEnded.ensures ∙ sym (l.invariant ∙ stops a.ours.now a.theirs.now l.at l.by l.next
-    c.part_turn-turn.ensures (ap is_onward c.in-BothEnded.is))
-
-pub returns-in-OneEnded : goal.returns-in-OneEnded
-returns-in-OneEnded c =
-    let l = c.loop-j in
-    let a = c.args in
-    c.stopped-in-OneEnded.ensures ∙ sym (l.invariant ∙ stops a.ours.now a.theirs.now l.at l.by l.next
-    c.part_turn-turn.ensures (ap is_onward c.in-OneEnded.is))
+    c.part_turn-turn.ensures (stays _ c.in_default.not-Onward))

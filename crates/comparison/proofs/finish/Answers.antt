@@ -4,14 +4,14 @@ use Rattle.comparison.specs.Comparing.{told_in}
 use Rattle.comparison.proofs.TurnLaws.{ended-told, going-told}
 use Rattle.comparison.proofs.finish.Goals as goal
 
-pub returns-in-Ended : goal.returns-in-Ended
-returns-in-Ended c =
+pub returns-in-Some : goal.returns-in-Some
+returns-in-Some c =
     let a = c.args in
     ended-told a.ours.now a.theirs.now a.place c.advance-progress.ensures
-    c.in-Ended.is
+    c.in-Some.is
 
-pub returns-in-Going : goal.returns-in-Going
-returns-in-Going c =
+pub returns-in-None : goal.returns-in-None
+returns-in-None c =
     let a = c.args in
     c.told.ensures ∙ ap (told_in _) c.whole_turn-turn.ensures ∙ going-told a.ours.now a.theirs.now
-    a.place c.advance-progress.ensures c.in-Going.is
+    a.place c.advance-progress.ensures c.in-None.is

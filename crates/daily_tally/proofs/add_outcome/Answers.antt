@@ -4,10 +4,4 @@ use Rattle.daily_tally.proofs.add_outcome.Goals as goal
 
 pub returns : goal.returns
 unfolding with_outcome
-returns c = simp (
-  ← c.wrapping_add_u64-3.ensures.value,
-  ← c.names_line.ensures,
-  ← c.larger.ensures,
-  ← c.wrapping_add_u64-2.ensures.value,
-  ← c.wrapping_add_u64.ensures.value,
-)
+returns c = simp (← c.names_line.ensures, ← c.max.ensures)

@@ -1,5 +1,7 @@
 -- `daily_tally::start` meets its contract. Assumes nothing.
+use Rattle.daily_tally.specs.Steps.{going}
 use Rattle.daily_tally.proofs.start.Goals as goal
 
 pub returns : goal.returns
-returns c = simp (c.going_on.ensures, c.nothing.ensures)
+unfolding going
+returns c = rw c.nothing.ensures

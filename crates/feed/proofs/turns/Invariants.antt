@@ -1,12 +1,7 @@
--- `feed::turns` meets its contract. Assumes nothing.
-use Rattle.std.proofs.Common.{length, ◌≡◌}
+-- `feed::turns` meets its contract: the buffers are ready for each turn. Assumes nothing.
+use Rattle.std.proofs.Common.{length}
 use Rattle.records.specs.Turns.{Ready}
 use Rattle.feed.proofs.turns.Given as goal
 
-abbrev pub invariant-loop-left : goal.invariant-loop-left
-invariant-loop-left g l =
-    (length l.input ≡ length l.initial.input) × (length l.output ≡ length l.initial.output)
-    × Ready (length l.input) (length l.output) l.stream.kept
-
-abbrev pub decreases-loop-left : goal.decreases-loop-left
-decreases-loop-left g l = l.left
+abbrev pub invariant-loop : goal.invariant-loop
+invariant-loop g l = Ready (length l.input) (length l.output) l.stream.kept

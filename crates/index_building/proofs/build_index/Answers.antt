@@ -1,35 +1,27 @@
 -- `index_building::build_index` meets its contract. Assumes nothing.
+use Rattle.std.proofs.Common.{rules}
 use native.Mathlib.Omega.{arith}
 use Rattle.index_building.specs.Builds.{built_over}
 use Rattle.index_building.proofs.WholeLaws.{start_fits, ends_there, build-bad, build-left}
 use Rattle.index_building.proofs.build_index.Goals as goal
 
-pub walk_part-progress-requires : goal.walk_part-progress-requires
-walk_part-progress-requires c = rw c.at_start.ensures (start_fits _ (omega arith))
+pub walk_part-requires : goal.walk_part-requires
+walk_part-requires c = start_fits _ (omega arith)
+
+pub returns-in_err-used : goal.returns-in_err-used
+unfolding built_over
+returns-in_err-used c = rw (← build-bad _ _ _ _ c.in_err-used.ensures) (search rules)
 
 pub returns-then-used-log : goal.returns-then-used-log
 unfolding built_over
-returns-then-used-log c = build-left _ _ _ _ _ (rw (
-  c.in-Whole.is,
-  c.at_start.ensures,
-) at c.walk_part-progress.ensures) c.if-used-log.true
+returns-then-used-log c = build-left _ _ _ _ _ c.in_ok-used.ensures c.if-used-log.true
 
 pub store_whole-requires : goal.store_whole-requires
 store_whole-requires c = record {
   most_le_greatest = omega arith;
-  log_value = ends_there _ _ _ (rw (
-    c.in-Whole.is,
-    c.at_start.ensures,
-  ) at c.walk_part-progress.ensures) c.if-used-log.false;
+  log_value = ends_there _ _ _ c.in_ok-used.ensures c.if-used-log.false;
 }
 
-pub returns-in-Fault : goal.returns-in-Fault
+pub returns : goal.returns
 unfolding built_over
-returns-in-Fault c = build-bad _ _ _ _ (rw (
-  c.in-Fault.is,
-  c.at_start.ensures,
-) at c.walk_part-progress.ensures)
-
-pub returns-else-used-log : goal.returns-else-used-log
-unfolding built_over
-returns-else-used-log c = c.store_whole.ensures
+returns c = c.store_whole.ensures

@@ -1,8 +1,9 @@
 -- `kept::keep` meets its contract. Assumes nothing.
-use borrow.Author.Rules.{rules}
+use mathlib.Core.Path.{ap, ◌∙◌}
 use borrow.Author.Tests.{lt-ltb, le-ltb}
 use Rattle.arithmetic.specs.Binary32.{when◌then◌else◌}
-use Rattle.kept.specs.Kept.{kept_over}
+use Rattle.kept.specs.Kept.{kept, kept_over}
+use Rattle.kept.proofs.KeptLaws.{copied}
 use Rattle.kept.proofs.keep.Goals as goal
 
 pub returns-then-end-from : goal.returns-then-end-from
@@ -15,8 +16,5 @@ returns-then-buffer-end c = simp (le-ltb _ _ c.if-end-from.false, lt-ltb _ _ c.i
 
 pub returns : goal.returns
 unfolding kept_over when◌then◌else◌
-returns c = simp (
-  c.shift.ensures,
-  le-ltb _ _ c.if-end-from.false,
-  le-ltb _ _ c.if-buffer-end.false,
-)
+returns c =
+    rw (le-ltb _ _ c.if-end-from.false, le-ltb _ _ c.if-buffer-end.false) (ap (kept _) (c.copy_within.ensures.after ∙ copied c.args.from c.args.end c.args.buffer.now))

@@ -7,11 +7,8 @@ use Rattle.layouts.specs.Layouts.{lent_fault, vertex_total}
 use Rattle.layouts.proofs.judge_layout.Given as goal
 
 abbrev pub invariant-loop-i : goal.invariant-loop-i
-invariant-loop-i l = (l.i ≤ l.obstacles) × (l.total ≤ 192)
+invariant-loop-i l = (l.total ≤ 192)
     × (lent_fault 0 l.obstacles l.kinds l.counts l.vertices ≡ lent_fault l.total (l.obstacles - l.i) (drop l.i l.kinds) (drop l.i l.counts)
     (drop (2 * l.total) l.vertices))
     × (vertex_total l.obstacles l.counts ≡ l.total + vertex_total (l.obstacles - l.i) (drop l.i l.counts))
     × (2 * l.total ≤ length l.vertices)
-
-abbrev pub decreases-loop-i : goal.decreases-loop-i
-decreases-loop-i l = l.obstacles - l.i

@@ -1,46 +1,43 @@
 -- `layouts::judge_obstacle` meets its contract. Assumes nothing.
-use Prim.Native.Nat.{◌-◌, ◌*◌}
-use mathlib.Core.Path.{◌≡◌, ◌∙◌}
-use lib.ListN.{length, take, drop, length-drop}
-use lib.Seq.{take-length}
+use Prim.Native.Nat.{◌*◌}
+use mathlib.Core.Path.{ap, ◌∙◌}
+use Rattle.std.proofs.lemmas.List.{take_rest}
+use Rattle.obstacles.specs.ObstacleFaults.{outline_fault}
+use Rattle.std.proofs.lemmas.Result.{err_from_is_err_and}
 use Rattle.layouts.specs.Layouts.{own_fault}
 use Rattle.layouts.proofs.LentInOrder.{front_of}
 use Rattle.layouts.proofs.judge_obstacle.Goals as goal
 
-pub returns-in_default : goal.returns-in_default
+pub returns-in_err-kind-clause-fault : goal.returns-in_err-kind-clause-fault
 unfolding own_fault
-returns-in_default c = simp (← c.judge_kind-kind.ensures, c.in_default.is)
+returns-in_err-kind-clause-fault c =
+    let e = err_from_is_err_and c.from_residual.result c.from_residual.ensures.1 in
+    rw (e.1, e.2) (simp (← c.in_err-kind.ensures.fault))
 
-pub returns-in_default-count : goal.returns-in_default-count
+pub returns-in_err-count-clause-fault : goal.returns-in_err-count-clause-fault
 unfolding own_fault
-returns-in_default-count c = simp (
-  ← c.judge_kind-kind.ensures,
-  c.in-Fine.is,
-  front_of,
-  ← c.byte_at.ensures,
-  ← c.judge_count-count.ensures,
-  c.in_default-count.is,
-)
+returns-in_err-count-clause-fault c =
+    let e = err_from_is_err_and c.from_residual-in_err-count.result c.from_residual-in_err-count.ensures.1 in
+    rw (e.1, e.2) (simp (← c.in_ok-kind.ensures.fault, front_of, ← c.in_ok-kind.ensures.kind, ← c.in_err-count.ensures.fault))
 
-pub returns : goal.returns
+pub returns-in_err-judge_outline-clause-fault : goal.returns-in_err-judge_outline-clause-fault
 unfolding own_fault
-returns c =
-    let a = c.args in
-    let v = a.vertices.now in
-    let rest : take (length v - 2 * a.total) (drop (2 * a.total) v) ≡ drop (2 * a.total) v =
-    rw (← length-drop (2 * a.total) v) (take-length (drop (2 * a.total) v)) in
-    let count = c.wide.ensures.0 ∙ c.byte_at-3.ensures in
-    simp (
-      ← c.judge_kind-kind.ensures,
-      c.in-Fine.is,
+returns-in_err-judge_outline-clause-fault c =
+    let e = err_from_is_err_and c.from_residual-in_err-judge_outline.result c.from_residual-in_err-judge_outline.ensures.1 in
+    rw (e.1, e.2) (simp (
+      ← c.in_ok-kind.ensures.fault,
       front_of,
-      ← c.byte_at.ensures,
-      ← c.judge_count-count.ensures,
-      c.in-Fine-count.is,
-    )
-    (c.judge_outline.ensures ∙ rw (
-      rest,
-      count,
-      c.byte_at-2.ensures,
-      c.byte_at.ensures,
-    ))
+      ← c.in_ok-kind.ensures.kind,
+      ← c.in_ok-count.ensures.fault,
+      ← c.in_ok-count.ensures.count,
+    ) (c.in_err-judge_outline.ensures ∙ ap (outline_fault _) (take_rest c.args.vertices.now (2 * c.args.total))))
+
+pub returns-clause-fault : goal.returns-clause-fault
+unfolding own_fault
+returns-clause-fault c = simp (
+  ← c.in_ok-kind.ensures.fault,
+  front_of,
+  ← c.in_ok-kind.ensures.kind,
+  ← c.in_ok-count.ensures.fault,
+  ← c.in_ok-count.ensures.count,
+) (c.in_ok-judge_outline.ensures ∙ ap (outline_fault _) (take_rest c.args.vertices.now (2 * c.args.total)))

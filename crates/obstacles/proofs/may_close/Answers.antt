@@ -3,7 +3,9 @@ use Prim.Native.Nat.{◌/◌}
 use native.Mathlib.Omega.{arith}
 use lib.ListN.{length}
 use borrow.Author.Tests.{eq-eqb, ne_eqb}
+use Rattle.common.specs.Vectors.{eq_of}
 use Rattle.obstacles.specs.Vertices.{vertices_of}
+use Rattle.obstacles.specs.Doubled.{doubled}
 use Rattle.obstacles.proofs.VertexNumbers.{vertices-many}
 use Rattle.obstacles.proofs.DoubledLaws.{closes-none, closes-pair}
 use Rattle.obstacles.proofs.may_close.Goals as goal
@@ -21,6 +23,7 @@ returns-then-kind-eq-OPEN c =
     rw (closes-pair a.kind (length xs / 2) (vertices_of xs) (vertices-many xs) (omega arith), eq-eqb _ _ c.if-kind-eq-OPEN.true)
 
 pub returns : goal.returns
+unfolding doubled eq_of
 returns c =
     let a = c.args in
     let xs = a.vertices.now in
@@ -29,5 +32,4 @@ returns c =
       ne_eqb _ _ c.if-kind-eq-OPEN.false,
       ← c.vertex_at-first.ensures,
       ← c.vertex_at-last.ensures,
-      ← c.is_doubled.ensures,
-    )
+    ) c.ne.ensures

@@ -1,17 +1,22 @@
 -- `plain_numbers::cause_in` meets its contract. Assumes nothing.
-use borrow.Author.Tests.{eq-eqb, ne_eqb}
+use Rattle.std.specs.Prelude.{◌≢◌}
+use native.Mathlib.Omega.{arith}
+use borrow.Author.Tests.{ne_eqb}
 use Rattle.arithmetic.specs.Binary32.{when◌then◌else◌}
 use Rattle.plain_numbers.specs.Kinds.{cause_in}
 use Rattle.plain_numbers.proofs.cause_in.Goals as goal
 
-pub returns-then-kind-eq1 : goal.returns-then-kind-eq1
+pub returns-in-1 : goal.returns-in-1
 unfolding cause_in when◌then◌else◌
-returns-then-kind-eq1 c = simp (eq-eqb _ _ c.if-kind-eq1.true)
+returns-in-1 c = simp c.in-1.is
 
-pub returns-then-kind-eq2 : goal.returns-then-kind-eq2
+pub returns-in-2 : goal.returns-in-2
 unfolding cause_in when◌then◌else◌
-returns-then-kind-eq2 c = simp (ne_eqb _ _ c.if-kind-eq1.false, eq-eqb _ _ c.if-kind-eq2.true)
+returns-in-2 c = simp c.in-2.is
 
-pub returns : goal.returns
+pub returns-in_default : goal.returns-in_default
 unfolding cause_in when◌then◌else◌
-returns c = simp (ne_eqb _ _ c.if-kind-eq1.false, ne_eqb _ _ c.if-kind-eq2.false)
+returns-in_default c =
+    let one : c.args.kind ≢ 1 = omega arith in
+    let two : c.args.kind ≢ 2 = omega arith in
+    simp (ne_eqb _ _ one, ne_eqb _ _ two)

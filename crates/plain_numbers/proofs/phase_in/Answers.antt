@@ -1,17 +1,22 @@
 -- `plain_numbers::phase_in` meets its contract. Assumes nothing.
-use borrow.Author.Tests.{eq-eqb, ne_eqb}
+use Rattle.std.specs.Prelude.{◌≢◌}
+use native.Mathlib.Omega.{arith}
+use borrow.Author.Tests.{ne_eqb}
 use Rattle.arithmetic.specs.Binary32.{when◌then◌else◌}
 use Rattle.plain_numbers.specs.Kinds.{phase_in}
 use Rattle.plain_numbers.proofs.phase_in.Goals as goal
 
-pub returns-then-kind-eq0 : goal.returns-then-kind-eq0
+pub returns-in-0 : goal.returns-in-0
 unfolding phase_in when◌then◌else◌
-returns-then-kind-eq0 c = simp (eq-eqb _ _ c.if-kind-eq0.true)
+returns-in-0 c = simp c.in-0.is
 
-pub returns-then-kind-eq1 : goal.returns-then-kind-eq1
+pub returns-in-1 : goal.returns-in-1
 unfolding phase_in when◌then◌else◌
-returns-then-kind-eq1 c = simp (ne_eqb _ _ c.if-kind-eq0.false, eq-eqb _ _ c.if-kind-eq1.true)
+returns-in-1 c = simp c.in-1.is
 
-pub returns : goal.returns
+pub returns-in_default : goal.returns-in_default
 unfolding phase_in when◌then◌else◌
-returns c = simp (ne_eqb _ _ c.if-kind-eq0.false, ne_eqb _ _ c.if-kind-eq1.false)
+returns-in_default c =
+    let one : c.args.kind ≢ 0 = omega arith in
+    let two : c.args.kind ≢ 1 = omega arith in
+    simp (ne_eqb _ _ one, ne_eqb _ _ two)

@@ -1,11 +1,11 @@
 -- `records::answer_record` meets its contract. Assumes nothing.
+use Rattle.scene_records.proofs.Chains.{result-exit}
 use Rattle.records.proofs.AnsweredLaws.{forgotten}
 use Rattle.records.proofs.answer_record.Goals as goal
 
-pub returns-in-Outcome : goal.returns-in-Outcome
-returns-in-Outcome c = forgotten _ _ _ _ (rw c.in-Outcome.is at c.answer_scene-answer.ensures)
+pub returns-in_err-answer_scene : goal.returns-in_err-answer_scene
+returns-in_err-answer_scene c =
+    rw (result-exit c.from_residual.result _ c.from_residual.ensures.1) (forgotten _ _ _ _ c.in_err-answer_scene.ensures)
 
-pub returns-in-Refused : goal.returns-in-Refused
-returns-in-Refused c =
-    forgotten _ _ _ _
-    (rw c.in-Refused.is at c.answer_scene-answer.ensures)
+pub returns : goal.returns
+returns c = forgotten _ _ _ _ c.in_ok-answer_scene.ensures

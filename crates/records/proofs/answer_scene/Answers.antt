@@ -1,19 +1,26 @@
 -- `records::answer_scene` meets its contract. Assumes nothing.
-use mathlib.Core.Path.{◌≡◌}
-use lib.ListN.{length}
-use borrow.Author.Rules.{rules}
+use Rattle.std.proofs.Common.{◌≡◌, length, rules, refl}
+use Rattle.scene_records.proofs.Chains.{result-exit}
 use Rattle.records.proofs.AnsweredLaws.{no-room-solved, refused-solved, outcome-solved}
 use Rattle.records.proofs.answer_scene.Goals as goal
 
 pub returns-then-buffer-lt-BYTES : goal.returns-then-buffer-lt-BYTES
 returns-then-buffer-lt-BYTES c = no-room-solved _ _ c.if-buffer-lt-BYTES.true
 
-pub returns-in-Fault : goal.returns-in-Fault
-returns-in-Fault c = refused-solved _ _ c.if-buffer-lt-BYTES.false _
-    c.read_scene-read.ensures _ c.in-Fault.is
+pub returns-in_err-read : goal.returns-in_err-read
+returns-in_err-read c =
+    rw (result-exit c.from_residual.result _ c.from_residual.ensures.1)
+    (refused-solved _ _ c.if-buffer-lt-BYTES.false _ c.in_err-read.ensures.answer)
+
+pub returns-in_err-answer : goal.returns-in_err-answer
+returns-in_err-answer c =
+    let size : length c.in_ok-read.read.scene.lines ≡ 256 = search rules in
+    rw (result-exit c.from_residual-in_err-answer.result _ c.from_residual-in_err-answer.ensures.1)
+    (outcome-solved _ _ c.if-buffer-lt-BYTES.false _ c.in_ok-read.ensures.answer size _
+    (rw c.bare-bare.ensures at c.in_err-answer.ensures.answer) _ refl)
 
 pub returns : goal.returns
 returns c =
-    let size : length c.read_scene-read.result.scene.lines ≡ 256 = search rules in
-    outcome-solved _ _ c.if-buffer-lt-BYTES.false _ c.read_scene-read.ensures c.in_default.is size _
-    (rw c.bare-bare.ensures at c.solve_admitted_scene-answer.ensures) _ c.write_outcome.ensures
+    let size : length c.in_ok-read.read.scene.lines ≡ 256 = search rules in
+    outcome-solved _ _ c.if-buffer-lt-BYTES.false _ c.in_ok-read.ensures.answer size _
+    (rw c.bare-bare.ensures at c.in_ok-answer.ensures.answer) _ c.write_outcome.ensures

@@ -1,24 +1,9 @@
 -- `replay_edges::is_replayed` meets its contract. Assumes nothing.
 use mathlib.Core.Path.{◌∙◌, ap}
-use native.Mathlib.Nat.{sub-zero}
 use native.Mathlib.Omega.{arith}
-use borrow.Author.Tests.{le-leb, lt-leb}
+use borrow.Author.Tests.{le-leb}
 use Rattle.replay_edges.specs.EdgesSet.{is_answer, is_replayed}
 use Rattle.replay_edges.proofs.is_replayed.Goals as goal
-
-pub returns-then-kind-gt255 : goal.returns-then-kind-gt255
-unfolding is_replayed
-returns-then-kind-gt255 c = simp (← c.word_at-kind.ensures, lt-leb _ _ c.if-kind-gt255.true)
-
-pub returns-then-count-gt384 : goal.returns-then-count-gt384
-unfolding is_replayed
-returns-then-count-gt384 c =
-    simp (
-      ← c.word_at-count.ensures,
-      lt-leb _ _ c.if-count-gt384.true,
-      ← c.word_at-kind.ensures,
-      le-leb _ _ c.if-kind-gt255.false,
-    )
 
 pub returns : goal.returns
 unfolding is_replayed
@@ -38,4 +23,4 @@ returns c =
       le-leb _ _ c.if-kind-gt255.false,
     )
     (c.is_answer.ensures ∙ ap (is_answer _ _ _)
-    (simp sub-zero at c.get_lines_for_agent_to_obstacle-made.ensures))
+    c.get_lines_for_agent_to_obstacle-made.ensures)

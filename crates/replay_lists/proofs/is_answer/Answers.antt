@@ -2,10 +2,10 @@
 use Rattle.replay_lists.specs.ListsSet.{is_answer}
 use Rattle.replay_lists.proofs.is_answer.Goals as goal
 
-pub returns-in-Stands : goal.returns-in-Stands
+pub returns-in-Ok : goal.returns-in-Ok
 unfolding is_answer
-returns-in-Stands c = simp (← c.is_standing.ensures, c.in-Stands.is)
+returns-in-Ok c = simp (← c.is_standing.ensures, c.in-Ok.is)
 
-pub returns-in-Refused : goal.returns-in-Refused
+pub returns-in-Err : goal.returns-in-Err
 unfolding is_answer
-returns-in-Refused c = simp (← c.is_told.ensures, c.in-Refused.is)
+returns-in-Err c = simp (c.in-Err.is, ← c.number.ensures, ← c.is_told.ensures)

@@ -2,10 +2,10 @@
 use Rattle.replay_standings.specs.Standings.{is_failed}
 use Rattle.replay_standings.proofs.is_failed.Goals as goal
 
-pub returns-in-NoLine : goal.returns-in-NoLine
+pub returns-in-None : goal.returns-in-None
 unfolding is_failed
-returns-in-NoLine c = simp c.in-NoLine.is
+returns-in-None c = simp c.in-None.is
 
-pub returns-in-At : goal.returns-in-At
+pub returns-in-Some : goal.returns-in-Some
 unfolding is_failed
-returns-in-At c = simp (← c.is_cause.ensures, c.in-At.is)
+returns-in-Some c = simp (← c.is_cause.ensures, c.in-Some.is)

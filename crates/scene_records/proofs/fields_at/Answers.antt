@@ -1,46 +1,62 @@
 -- `scene_records::fields_at` meets its contract. Assumes nothing.
-use mathlib.Core.Path.{◌∙◌}
-use native.Mathlib.Omega.{arith}
-use Rattle.scene_records.specs.Versions.{numbered_as}
-use Rattle.scene_records.proofs.RecordLaws.{count-few, count-known}
-use Rattle.scene_records.proofs.RowLaws.{numbered-fields-read}
-use Rattle.scene_records.proofs.Cursors.{made-here, made_fault}
+use mathlib.Core.Path.{ap}
+use Rattle.obstacles.specs.Read.{blank_numbers}
+use Rattle.scene_records.specs.Parts.{blank_bytes, blank_vertices}
+use Rattle.scene_records.specs.Versions.{blank_words, numbered_as}
+use Rattle.scene_records.proofs.Chains.{numbered-exit, refused-exit}
+use Rattle.scene_records.proofs.RowLaws.{walls-refuse, count-refuses, rows-refuse, end-refuses, fields-read}
 use Rattle.scene_records.proofs.fields_at.Goals as goal
 
-pub obstacles_at-next-requires : goal.obstacles_at-next-requires
-obstacles_at-next-requires c =
-    let few = count-few _ _ _ _ c.count_at-obstacles.ensures in
-    omega (arith, few)
+-- each part where the one before it ended
 
-pub store_lines-next-requires : goal.store_lines-next-requires
-store_lines-next-requires c =
-    let few = count-few _ _ _ _ c.count_at-neighbours.ensures in
-    omega (arith, few)
+pub returns-in_err-at-clause-answer : goal.returns-in_err-at-clause-answer
+unfolding blank_bytes blank_vertices
+returns-in_err-at-clause-answer c = numbered-exit _ _ _ c.from_residual-in_err-at.ensures.1
+    (walls-refuse _ _ _ _ _ _ _ c.in_ok-cart.ensures c.in_ok-obstacles.ensures.reads _ c.in_err-at.ensures)
 
--- the places behind which each part was read, the last one first
-pub returns-in-Fault : goal.returns-in-Fault
-returns-in-Fault c =
-    let read-walls = rw (
-      c.blank_bytes-kinds.ensures,
-      c.blank_bytes-counts.ensures,
-      c.blank_vertices-vertices.ensures,
-    ) at c.obstacles_at-next.ensures in
-    let read-lines = rw (c.blank_lines-lines.ensures, c.blank_numbers-numbers.ensures) at c.store_lines-next.ensures in
-    c.refused.ensures
-    ∙ made_fault numbered_as _ _ _ _ c.in-Fault.is
-    (numbered-fields-read _ _ _ _ _ _ _ _ _ _ _ _ _ _ c.cart_at-cart.ensures
-    (count-known _ _ c.count_at-obstacles.ensures) read-walls (count-known _ _ c.count_at-neighbours.ensures)
-    read-lines c.end_at.ensures)
+pub returns-in_err-at-clause-told : goal.returns-in_err-at-clause-told
+unfolding blank_bytes blank_vertices
+returns-in_err-at-clause-told c = refused-exit _ _ _ c.from_residual-in_err-at.ensures.1
+    (walls-refuse _ _ _ _ _ _ _ c.in_ok-cart.ensures c.in_ok-obstacles.ensures.reads _ c.in_err-at.ensures)
 
-pub returns : goal.returns
-returns c =
-    let read-walls = rw (
-      c.blank_bytes-kinds.ensures,
-      c.blank_bytes-counts.ensures,
-      c.blank_vertices-vertices.ensures,
-    ) at c.obstacles_at-next.ensures in
-    let read-lines = rw (c.blank_lines-lines.ensures, c.blank_numbers-numbers.ensures) at c.store_lines-next.ensures in
-    made-here numbered_as _ _ _ _ c.in_default.is
-    (numbered-fields-read _ _ _ _ _ _ _ _ _ _ _ _ _ _ c.cart_at-cart.ensures
-    (count-known _ _ c.count_at-obstacles.ensures) read-walls (count-known _ _ c.count_at-neighbours.ensures)
-    read-lines c.end_at.ensures)
+pub returns-in_err-neighbours-clause-answer : goal.returns-in_err-neighbours-clause-answer
+unfolding blank_bytes blank_vertices
+returns-in_err-neighbours-clause-answer c = numbered-exit _ _ _ c.from_residual-in_err-neighbours.ensures.1
+    (count-refuses _ _ _ _ _ _ _ c.in_ok-cart.ensures c.in_ok-obstacles.ensures.reads _ _ c.in_ok-at.ensures _
+    c.in_err-neighbours.ensures.reads)
+
+pub returns-in_err-neighbours-clause-told : goal.returns-in_err-neighbours-clause-told
+unfolding blank_bytes blank_vertices
+returns-in_err-neighbours-clause-told c = refused-exit _ _ _ c.from_residual-in_err-neighbours.ensures.1
+    (count-refuses _ _ _ _ _ _ _ c.in_ok-cart.ensures c.in_ok-obstacles.ensures.reads _ _ c.in_ok-at.ensures _
+    c.in_err-neighbours.ensures.reads)
+
+pub returns-in_err-at-2-clause-answer : goal.returns-in_err-at-2-clause-answer
+unfolding blank_bytes blank_vertices blank_numbers blank_words
+returns-in_err-at-2-clause-answer c = numbered-exit _ _ _ c.from_residual-in_err-at-2.ensures.1
+    (rows-refuse _ _ _ _ _ _ _ c.in_ok-cart.ensures c.in_ok-obstacles.ensures.reads _ _ c.in_ok-at.ensures _ _
+    c.in_ok-neighbours.ensures.reads _ c.in_err-at-2.ensures)
+
+pub returns-in_err-at-2-clause-told : goal.returns-in_err-at-2-clause-told
+unfolding blank_bytes blank_vertices blank_numbers blank_words
+returns-in_err-at-2-clause-told c = refused-exit _ _ _ c.from_residual-in_err-at-2.ensures.1
+    (rows-refuse _ _ _ _ _ _ _ c.in_ok-cart.ensures c.in_ok-obstacles.ensures.reads _ _ c.in_ok-at.ensures _ _
+    c.in_ok-neighbours.ensures.reads _ c.in_err-at-2.ensures)
+
+pub returns-in_err-end_at-clause-answer : goal.returns-in_err-end_at-clause-answer
+unfolding blank_bytes blank_vertices blank_numbers blank_words
+returns-in_err-end_at-clause-answer c = numbered-exit _ _ _ c.from_residual-in_err-end_at.ensures.1
+    (end-refuses _ _ _ _ _ _ _ c.in_ok-cart.ensures c.in_ok-obstacles.ensures.reads _ _ c.in_ok-at.ensures _ _
+    c.in_ok-neighbours.ensures.reads _ _ c.in_ok-at-2.ensures _ c.in_err-end_at.ensures)
+
+pub returns-in_err-end_at-clause-told : goal.returns-in_err-end_at-clause-told
+unfolding blank_bytes blank_vertices blank_numbers blank_words
+returns-in_err-end_at-clause-told c = refused-exit _ _ _ c.from_residual-in_err-end_at.ensures.1
+    (end-refuses _ _ _ _ _ _ _ c.in_ok-cart.ensures c.in_ok-obstacles.ensures.reads _ _ c.in_ok-at.ensures _ _
+    c.in_ok-neighbours.ensures.reads _ _ c.in_ok-at-2.ensures _ c.in_err-end_at.ensures)
+
+pub returns-clause-answer : goal.returns-clause-answer
+unfolding blank_bytes blank_vertices blank_numbers blank_words
+returns-clause-answer c = ap numbered_as
+    (fields-read _ _ _ _ _ _ _ c.in_ok-cart.ensures c.in_ok-obstacles.ensures.reads _ _ c.in_ok-at.ensures _ _
+    c.in_ok-neighbours.ensures.reads _ _ c.in_ok-at-2.ensures _ c.in_ok-end_at.ensures)

@@ -1,34 +1,25 @@
-use Rattle.std.proofs.Common.{◌≡◌, ◌<◌, length, take, refl, ◌∙◌, arith, rules}
-use Rattle.session.proofs.ChangeWork.{found-next, found_all}
+use Rattle.std.proofs.Common.{take, arith, sym, ◌∙◌}
+use Rattle.session.proofs.ChangeWork.{found-next, found-not, found_all}
 use Rattle.session.proofs.find.Goals as goal
-
-pub loop-i-init : goal.loop-i-init
-loop-i-init c = (omega arith, omega arith, search rules, refl)
-
-pub note-n-requires : goal.note-n-requires
-note-n-requires c =
-    let l = c.loop-i in
-    let size : length l.found ≡ 256 = l.invariant.2 in
-    let room : l.n < length l.found = omega arith in
-    (room, size)
+use Rattle.session.proofs.find.Goals.{then-is_of, else-is_of}
 
 pub loop-i-preserved : goal.loop-i-preserved
 loop-i-preserved c =
     let l = c.loop-i in
-    let a = c.args in (
-      omega arith,
-      omega (arith, c.note-n.ensures.0),
-      c.note-n.auto.found ∙ l.invariant.2,
-      found-next a.kind a.place a.origins a.count l.i (omega arith) (omega arith)
-          c.is_of.ensures _ (take l.n l.found) _ l.invariant.3 c.note-n.ensures.1,
-    )
+    let a = c.args in
+    elim c.if-is_of.branch [
+      | then-is_of h ↦ rw (h.n-is, h.found-is) (
+        omega arith,
+        found-next a.kind a.place a.origins.now l.i (omega arith) (sym h.if-is_of.true ∙ c.is_of.ensures) _ l.found l.n (omega arith) l.invariant.1,
+      )
+      | else-is_of h ↦ rw (h.n-is, h.found-is) (
+        omega arith,
+        found-not a.kind a.place a.origins.now l.i (omega arith) (sym h.if-is_of.false ∙ c.is_of.ensures) _ (take l.n l.found) l.invariant.1,
+      )
+    ]
 
-pub returns : goal.returns
-returns c =
+pub returns-clause-found : goal.returns-clause-found
+returns-clause-found c =
     let l = c.loop-i in
-    let a = c.args in (
-      omega arith,
-      l.invariant.2,
-      found_all a.kind a.place a.origins a.count l.i (omega arith) (omega arith) _
-          (take l.n l.found) l.invariant.3,
-    )
+    let a = c.args in
+    found_all a.kind a.place a.origins.now l.i (omega arith) _ (take l.n l.found) l.invariant.1

@@ -1,27 +1,20 @@
-use Rattle.std.proofs.Common.{◌+◌, drop, sym, refl, ap, ◌∙◌, arith}
+use Rattle.std.proofs.Common.{◌+◌, drop, sym, ap, ◌∙◌, arith}
 use Rattle.session.specs.Withdrawals.{source_in}
-use Rattle.session.proofs.WithdrawalWork.{source-on, source-none}
+use Rattle.session.proofs.WithdrawalWork.{source-below, source-above, source-on, source-none}
 use Rattle.session.proofs.source_in.Goals as goal
+use Rattle.session.proofs.source_in.Goals.{then-from-index, else-from-index}
 
-pub loop-k-init : goal.loop-k-init
-loop-k-init c = (omega arith, omega arith, refl)
-
-pub source-from-requires : goal.source-from-requires
-source-from-requires c = omega arith
-
-pub loop-k-preserved : goal.loop-k-preserved
-loop-k-preserved c =
-    let a = c.args in
-    let l = c.loop-k in (
-      omega arith,
-      omega (arith, c.source-from.ensures.1),
-      l.invariant.2
-          ∙ source-on a.withdrawn.now l.k l.from (omega arith)
-          ∙ ap (source_in (drop (l.k + 1) a.withdrawn.now)) (sym c.source-from.ensures.0),
-    )
+pub loop-index-preserved : goal.loop-index-preserved
+loop-index-preserved c =
+    let l = c.loop-index in
+    let w = c.args.withdrawn.now in
+    let on = l.invariant.1 ∙ source-on w l.index-index l.from (omega arith) in
+    elim c.if-from-index.branch [
+      | then-from-index h ↦ (omega arith, on ∙ ap (source_in (drop (l.index-index + 1) w)) (source-above _ _ h.if-from-index.true ∙ sym h.from-is))
+      | else-from-index h ↦ (omega arith, on ∙ ap (source_in (drop (l.index-index + 1) w)) (source-below _ _ h.if-from-index.false ∙ sym h.from-is))
+    ]
 
 pub returns : goal.returns
 returns c =
-    let a = c.args in
-    let l = c.loop-k in
-    (sym (l.invariant.2 ∙ source-none a.withdrawn.now l.k l.from (omega arith)), omega arith)
+    let l = c.loop-index in
+    (sym (l.invariant.1 ∙ source-none c.args.withdrawn.now l.index-index l.from (omega arith)), omega arith)

@@ -1,13 +1,15 @@
 -- `tally::tally_read` meets its contract. Assumes nothing.
-use Rattle.tally.proofs.TurnLaws.{refused-read, whole-read}
+use Rattle.tally.proofs.TurnLaws.{refused-read, whole-read, step}
 use Rattle.tally.proofs.tally_read.Goals as goal
 
-pub returns-in-Refused : goal.returns-in-Refused
-returns-in-Refused c =
-    refused-read c.args.input.now c.args.there c.args.before c.requires _ c.advance-progress.ensures _ _
-    c.in-Refused.is
+pub returns-in-Ok : goal.returns-in-Ok
+unfolding step
+returns-in-Ok c =
+    let a = c.args in
+    whole-read a.input.now a.there a.before c.requires _ (rw c.in-Ok.is at c.advance.ensures) _ _ c.keep.ensures
 
-pub returns : goal.returns
-returns c =
-    whole-read c.args.input.now c.args.there c.args.before c.requires _ c.advance-progress.ensures
-    c.in_default.is _ _ c.keep.ensures
+pub returns-in-Err : goal.returns-in-Err
+unfolding step
+returns-in-Err c =
+    let a = c.args in
+    refused-read a.input.now a.there a.before c.requires _ (rw c.in-Err.is at c.advance.ensures)

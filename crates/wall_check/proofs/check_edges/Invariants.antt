@@ -4,13 +4,10 @@ use Prim.Native.Nat.{◌+◌, ◌-◌, ◌/◌, ◌≤◌}
 use mathlib.Core.Path.{◌≡◌}
 use lib.ListN.{length}
 use Rattle.obstacles.specs.Obstacles.{edge_count}
-use Rattle.wall_check.specs.Crossings.{walls_from, own_walls, crossed_in, behind, count_in}
+use Rattle.wall_check.specs.Crossings.{walls_from, own_walls, crossed_in, behind, count_in, known_of}
 use Rattle.wall_check.proofs.check_edges.Given as goal
 
 abbrev pub invariant-loop-i : goal.invariant-loop-i
-invariant-loop-i l = (l.i ≤ length l.vertices / 2) × (count_in l.known ≤ count_in l.initial.known + l.i)
-    × (behind l.initial.known (crossed_in l.from l.to (own_walls l.obstacle l.kind l.vertices))
-    ≡ behind l.known (crossed_in l.from l.to (walls_from l.obstacle l.kind l.vertices l.i (edge_count l.kind (length l.vertices / 2) - l.i))))
-
-abbrev pub decreases-loop-i : goal.decreases-loop-i
-decreases-loop-i l = length l.vertices / 2 - l.i
+invariant-loop-i l = (count_in (known_of l.known) ≤ count_in (known_of l.initial.known) + l.i)
+    × (behind (known_of l.initial.known) (crossed_in l.path.from l.path.to (own_walls l.obstacle l.kind l.vertices))
+    ≡ behind (known_of l.known) (crossed_in l.path.from l.path.to (walls_from l.obstacle l.kind l.vertices l.i (edge_count l.kind (length l.vertices / 2) - l.i))))

@@ -1,44 +1,26 @@
 -- `wall_check::judge_move` meets its contract. Assumes nothing.
+use Rattle.std.proofs.lemmas.Result.{err_from_is_err_and}
 use Rattle.layouts.proofs.LentInOrder.{layout-fault, layout-total}
 use Rattle.wall_check.specs.Crossings.{move_fault}
 use Rattle.wall_check.proofs.judge_move.Goals as goal
 
-pub returns-in_default : goal.returns-in_default
+pub returns-in_err-total : goal.returns-in_err-total
 unfolding move_fault
-returns-in_default c =
-    simp (
-      ← c.judge_vector.ensures,
-      ← c.judge_vector-2.ensures,
-      ← c.first_of-judged.ensures,
-      c.in_default.is,
-    )
-
-pub returns-in-Fault : goal.returns-in-Fault
-unfolding move_fault
-returns-in-Fault c =
+returns-in_err-total c =
+    let e = err_from_is_err_and c.from_residual-in_err-total.result c.from_residual-in_err-total.ensures.1 in
     let a = c.args in
-    let read = rw c.in-Fault.is at c.judge_layout-layout.ensures in
-    let told = layout-fault a.kinds.now a.counts.now a.vertices.now a.obstacles read in
-    simp (
-      ← c.judge_vector.ensures,
-      ← c.judge_vector-2.ensures,
-      ← c.first_of-judged.ensures,
-      c.in-Fine.is,
-      ← told,
-    )
+    let told = layout-fault a.kinds.now a.counts.now a.vertices.now a.obstacles c.in_err-total.ensures in
+    rw (e.1, e.2) (simp (← c.in_ok-judge_vector.ensures, ← c.in_ok-judge_vector-2.ensures, ← told))
 
-pub returns-in-Vertices : goal.returns-in-Vertices
+pub returns : goal.returns
 unfolding move_fault
-returns-in-Vertices c =
+returns c =
     let a = c.args in
-    let read = rw c.in-Vertices.is at c.judge_layout-layout.ensures in
-    let told = layout-fault a.kinds.now a.counts.now a.vertices.now a.obstacles read in
-    let total = layout-total a.kinds.now a.counts.now a.vertices.now a.obstacles read in
+    let told = layout-fault a.kinds.now a.counts.now a.vertices.now a.obstacles c.in_ok-total.ensures in
+    let total = layout-total a.kinds.now a.counts.now a.vertices.now a.obstacles c.in_ok-total.ensures in
     simp (
-      ← c.judge_vector.ensures,
-      ← c.judge_vector-2.ensures,
-      ← c.first_of-judged.ensures,
-      c.in-Fine.is,
+      ← c.in_ok-judge_vector.ensures,
+      ← c.in_ok-judge_vector-2.ensures,
       ← told,
       ← total,
       ← c.judge_leftovers.ensures,

@@ -1,6 +1,5 @@
 -- `admission::Head::has_room` meets its contract. Assumes nothing.
 use borrow.Author.Tests.{lt-leb, le-leb}
-use borrow.Author.Rules.{rules}
 use Rattle.admission.specs.Heads.{room_for}
 use Rattle.admission.proofs.Head.has_room.Goals as goal
 

@@ -1,17 +1,10 @@
 -- `boltmeadow::logs::bm_tally_log` meets its contract. Assumes nothing.
-use mathlib.Core.Path.{sym, ap, ◌∙◌}
-use Rattle.daily_tally.specs.declared.Walked.{Walked}
-use Rattle.boltmeadow.specs.Logs.{page_by, tally_told}
+use mathlib.Core.Path.{ap, sym, ◌∙◌}
+use Rattle.daily_tally.specs.Figures.{tallied_of}
+use Rattle.boltmeadow.specs.Logs.{tally_told}
 use Rattle.boltmeadow.proofs.logs.bm_tally_log.Goals as goal
 
-pub returns-in-Whole : goal.returns-in-Whole
-returns-in-Whole c =
-    let read = c.tally_log-tallied in
-    c.paged.ensures ∙ ap (λ (w : Walked). page_by w read.result.tally) (sym c.in-Whole.is)
-    ∙ ap tally_told read.ensures
-
-pub returns-in-Refused : goal.returns-in-Refused
-returns-in-Refused c =
-    let read = c.tally_log-tallied in
-    c.paged-in-Refused.ensures ∙ ap (λ (w : Walked). page_by w read.result.tally) (sym c.in-Refused.is)
-    ∙ ap tally_told read.ensures
+pub returns-in-Err : goal.returns-in-Err
+returns-in-Err c =
+    let told = rw (c.from.ensures, c.number.ensures, c.no_figures.ensures) at c.paged-in-Err.ensures in
+    told ∙ ap tally_told (ap tallied_of (sym c.in-Err.is) ∙ c.tally_log.ensures)

@@ -1,5 +1,4 @@
 -- `common::Vec2::distance_squared` meets its contract. Assumes nothing.
-use borrow.Author.Rules.{rules}
 use Rattle.common.specs.Vectors.{distance_squared_of}
 use Rattle.common.proofs.Vec2.distance_squared.Goals as goal
 

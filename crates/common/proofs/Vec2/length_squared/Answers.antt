@@ -1,5 +1,4 @@
 -- `common::Vec2::length_squared` meets its contract. Assumes nothing.
-use borrow.Author.Rules.{rules}
 use Rattle.common.specs.Vectors.{length_squared_of}
 use Rattle.common.proofs.Vec2.length_squared.Goals as goal
 

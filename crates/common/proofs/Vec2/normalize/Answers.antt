@@ -1,5 +1,4 @@
 -- `common::Vec2::normalize` meets its contract. Assumes nothing.
-use borrow.Author.Rules.{rules}
 use Rattle.common.specs.Vectors.{normalize_of}
 use Rattle.common.proofs.Vec2.normalize.Goals as goal
 

@@ -1,25 +1,28 @@
 -- `conversion::steps::step` meets its contract. Assumes nothing.
-use Rattle.std.proofs.Common.{refl, arith}
+use Rattle.std.proofs.Common.{refl, ap, arith, Some}
+use Rattle.arithmetic.specs.Binary32.{when◌then◌else◌}
+use Rattle.admission.proofs.FaultLaws.{refusal-back}
+use Rattle.scene_records.proofs.Chains.{result-exit}
 use Rattle.conversion.specs.Streams.{next_place}
 use Rattle.conversion.proofs.StepLaws.{cut_step, skip_step, overlong-step, whole-fits, refused-step}
 use Rattle.conversion.proofs.StepLaws.{moved-fits, moved-step}
 use Rattle.conversion.proofs.steps.step.Goals as goal
 
-pub returns-in-Cut : goal.returns-in-Cut
-returns-in-Cut c =
+pub returns-in_default : goal.returns-in_default
+returns-in_default c =
     let a = c.args in
-    cut_step a.to a.input.now a.output.now a.at _ c.next_part-part.ensures c.in-Cut.is
+    cut_step a.to a.input.now a.output.now a.at _ c.in_default.ensures refl
 
 pub returns-in-Skipped : goal.returns-in-Skipped
 returns-in-Skipped c =
     let a = c.args in
-    skip_step a.to a.input.now a.output.now a.at _ c.next_part-part.ensures _ c.in-Skipped.is
+    skip_step a.to a.input.now a.output.now a.at _ c.in-Some.ensures _ (ap Some c.in-Skipped.is)
 
 pub returns-in-Overlong : goal.returns-in-Overlong
+unfolding when◌then◌else◌
 returns-in-Overlong c =
     let a = c.args in
-    overlong-step a.to a.input.now a.output.now a.at _ c.next_part-part.ensures _
-    c.in-Overlong.is
+    overlong-step a.to a.input.now a.output.now a.at _ c.in-Some.ensures _ (ap Some c.in-Overlong.is)
 
 pub overflow_add-end : goal.overflow_add-end
 overflow_add-end c =
@@ -27,8 +30,7 @@ overflow_add-end c =
     omega (
       arith,
       c.requires.0,
-      (whole-fits a.to a.input.now a.output.now a.at _
-          c.next_part-part.ensures _ c.in-Whole.is).1,
+      (whole-fits a.to a.input.now a.output.now a.at _ c.in-Some.ensures _ (ap Some c.in-Whole.is)).1,
     )
 
 pub slice_bounds-move_record-end : goal.slice_bounds-move_record-end
@@ -37,31 +39,28 @@ slice_bounds-move_record-end c =
     omega (
       arith,
       c.requires.0,
-      (whole-fits a.to a.input.now a.output.now a.at _
-          c.next_part-part.ensures _ c.in-Whole.is).1,
+      (whole-fits a.to a.input.now a.output.now a.at _ c.in-Some.ensures _ (ap Some c.in-Whole.is)).1,
     )
 
-pub overflow_add-behind : goal.overflow_add-behind
-overflow_add-behind c =
+pub overflow_add-result : goal.overflow_add-result
+overflow_add-result c =
     let a = c.args in
     omega (
       arith,
-      moved-fits a.to a.input.now a.output.now a.at _ c.next_part-part.ensures _ c.in-Whole.is
-          c.requires.2 c.requires.1 _ _ _
-          (rw c.in-Length.is at c.move_record-written.ensures) refl,
+      moved-fits a.to a.input.now a.output.now a.at _ c.in-Some.ensures _ (ap Some c.in-Whole.is)
+          c.requires.2 c.requires.1 _ _ _ c.in_ok-length-in-Whole.ensures refl,
     )
 
-pub returns-in-Refused : goal.returns-in-Refused
-returns-in-Refused c =
+pub returns-in_err-length-in-Whole : goal.returns-in_err-length-in-Whole
+returns-in_err-length-in-Whole c =
     let a = c.args in
-    refused-step a.to a.input.now a.output.now a.at _ c.next_part-part.ensures _ c.in-Whole.is
-    c.requires.2 c.requires.1 _ _ _
-    (rw c.in-Refused.is at c.move_record-written.ensures) _ refl
+    rw (result-exit c.from_residual.result _ c.from_residual.ensures.1)
+    (rw refusal-back at (refused-step a.to a.input.now a.output.now a.at _ c.in-Some.ensures _ (ap Some c.in-Whole.is)
+    c.requires.2 c.requires.1 _ _ _ c.in_err-length-in-Whole.ensures _ refl))
 
-pub returns-in-Length : goal.returns-in-Length
+pub returns-in_ok-length-in-Whole : goal.returns-in_ok-length-in-Whole
 unfolding next_place
-returns-in-Length c =
+returns-in_ok-length-in-Whole c =
     let a = c.args in
-    moved-step a.to a.input.now a.output.now a.at _ c.next_part-part.ensures _ c.in-Whole.is
-    c.requires.2 c.requires.1 _ _ _
-    (rw c.in-Length.is at c.move_record-written.ensures) refl _ c.wrapping_add_u64-next.ensures.value
+    moved-step a.to a.input.now a.output.now a.at _ c.in-Some.ensures _ (ap Some c.in-Whole.is)
+    c.requires.2 c.requires.1 _ _ _ c.in_ok-length-in-Whole.ensures refl _ refl

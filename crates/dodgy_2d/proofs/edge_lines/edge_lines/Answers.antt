@@ -1,14 +1,18 @@
 use Prim.Native.Nat.{◌+◌, ◌*◌, ◌≤◌}
-use mathlib.Core.Path.{refl, sym, ◌∙◌}
+use mathlib.Core.Path.{◌≡◌, refl, sym, ◌∙◌}
 use native.Mathlib.Omega.{arith}
 use lib.ListN.{length, take, get_or}
+use borrow.Author.Rules.{rules}
+use Rattle.std.proofs.lemmas.Result.{err_from_is_err_and}
 use Rattle.admission.specs.Heads.{head_of}
 use Rattle.lines.specs.Lines.{lines_of}
+use Rattle.edges.specs.declared.Agent.{Agent}
 use Rattle.obstacles.specs.Obstacles.{lines}
 use Rattle.dodgy_2d.specs.Read.{walls_in, counted, none_told}
 use Rattle.dodgy_2d.proofs.HeadsInOrder.{own-left}
 use Rattle.dodgy_2d.proofs.EdgesJoined.{joined-none, edges-on, edges-done, part-many, part-lines, part-lefts}
 use Rattle.dodgy_2d.proofs.OriginsNoted.{origins-on, origins-done, walls-told}
+use Rattle.dodgy_2d.proofs.ScenePasses.{sizes}
 use Rattle.dodgy_2d.proofs.edge_lines.edge_lines.Goals as goal
 
 pub loop-i-init : goal.loop-i-init
@@ -18,115 +22,108 @@ loop-i-init c = (
   omega arith,
   omega arith,
   omega arith,
-  c.requires.1,
-  omega arith,
   sym (joined-none _),
-  c.requires.4,
   refl,
 )
 
-pub overflow_mul-offset : goal.overflow_mul-offset
-overflow_mul-offset c = omega arith
+pub bounds-scene-inside-i : goal.bounds-scene-inside-i
+bounds-scene-inside-i c = omega (arith, (sizes _ c.scene.invariant).obstacles)
 
-pub overflow_add-offset : goal.overflow_add-offset
-overflow_add-offset c = omega (arith, c.wide.ensures.1)
+pub bounds-scene-inside-i-in-loop-i : goal.bounds-scene-inside-i-in-loop-i
+bounds-scene-inside-i-in-loop-i c = omega (arith, (sizes _ c.scene.invariant).obstacles)
 
-pub overflow_mul-offset-in-loop-i : goal.overflow_mul-offset-in-loop-i
-overflow_mul-offset-in-loop-i c = omega (arith, c.wide.ensures.1)
-
-pub offset_bounds-vertices-offset : goal.offset_bounds-vertices-offset
-offset_bounds-vertices-offset c = omega (arith, c.wide.ensures.1)
-
-pub slice_bounds-add_obstacle-count : goal.slice_bounds-add_obstacle-count
-slice_bounds-add_obstacle-count c = omega arith
-
-pub slice_bounds-add_obstacle-start : goal.slice_bounds-add_obstacle-start
-slice_bounds-add_obstacle-start c = omega arith
-
-pub slice_bounds-add_obstacle-end : goal.slice_bounds-add_obstacle-end
-slice_bounds-add_obstacle-end c =
-    let a = c.args in
+pub slice_bounds-vertices-end : goal.slice_bounds-vertices-end
+slice_bounds-vertices-end c =
+    let i = c.scene.inside in
     let l = c.loop-i in
-    let next = own-left a.kinds a.counts a.n l.i (omega arith) (omega arith) l.offset (omega arith) l.invariant.5 in
-    rw c.wide.ensures.0 (omega (arith, next, c.requires.3))
+    let p = sizes _ c.scene.invariant in
+    let kinds : length i.kinds ≡ 16 = search rules in
+    let counts : length i.counts ≡ 16 = search rules in
+    let next = own-left i.kinds i.counts i.bare.obstacles l.i (omega (arith, p.obstacles)) (omega (arith, p.obstacles)) l.offset
+    (omega arith) l.invariant.3 in
+    let wide : c.from.result ≡ get_or i.counts l.i 0 = search rules in
+    rw wide (omega (arith, next, p.held))
 
-pub add_obstacle-added-requires : goal.add_obstacle-added-requires
-add_obstacle-added-requires c =
-    let a = c.args in
+pub add_obstacle-requires : goal.add_obstacle-requires
+add_obstacle-requires c =
+    let i = c.scene.inside in
     let l = c.loop-i in
-    let wide = c.wide.ensures.0 in
-    let next = own-left a.kinds a.counts a.n l.i (omega arith) (omega arith) l.offset (omega arith) l.invariant.5 in
-    let h = head_of (get_or a.kinds l.i 0) (get_or a.counts l.i 0) in
-    let many = part-many a.agent a.margin a.horizon a.vertices.now l.offset h
-    (omega (arith, next, c.requires.3)) in
-    (l.invariant.4, l.invariant.7, rw (wide, many) (omega (arith, next, c.requires.2)), omega (arith, c.requires.0))
+    let wide : c.from.result ≡ get_or i.counts l.i 0 = search rules in
+    let p = sizes _ c.scene.invariant in
+    let kinds : length i.kinds ≡ 16 = search rules in
+    let counts : length i.counts ≡ 16 = search rules in
+    let next = own-left i.kinds i.counts i.bare.obstacles l.i (omega (arith, p.obstacles)) (omega (arith, p.obstacles)) l.offset
+    (omega arith) l.invariant.3 in
+    let h = head_of (get_or i.kinds l.i 0) (get_or i.counts l.i 0) in
+    let many = part-many c.args.scene.now.agent i.bare.margin i.bare.horizon i.vertices.now l.offset h (omega (arith, next, p.held)) in
+    (rw (wide, many) (omega (arith, next, p.vertices)), omega (arith, p.obstacles))
 
-pub returns-in_default : goal.returns-in_default
-returns-in_default c =
-    let a = c.args in
-    let kinds : a.n ≤ length a.kinds = omega (arith, c.requires.0) in
-    let counts : a.n ≤ length a.counts = omega (arith, c.requires.0) in
+pub returns-in_err-count : goal.returns-in_err-count
+returns-in_err-count c =
+    let e = err_from_is_err_and c.from_residual.result c.from_residual.ensures.1 in
+    let i = c.scene.inside in
     let l = c.loop-i in
-    let wide = c.wide.ensures.0 in
-    let next = own-left a.kinds a.counts a.n l.i kinds counts l.offset (omega arith) l.invariant.5 in
-    let there : 2 * (l.offset + get_or a.counts l.i 0) ≤ length a.vertices.now = omega (arith, next, c.requires.3) in
-    let h = head_of (get_or a.kinds l.i 0) (get_or a.counts l.i 0) in
-    let lines_of_part = part-lines a.agent a.margin a.horizon a.vertices.now l.offset h there in
-    let step = rw (c.in_default.is, wide, lines_of_part) at c.add_obstacle-added.ensures.3 in (
-      c.add_obstacle-added.ensures.0,
-      rw c.in_default.is (omega arith),
-      rw c.in_default.is
-          (sym (l.invariant.6 ∙ edges-on a.agent a.margin a.horizon a.vertices.now a.kinds a.counts
-          a.n kinds counts l.i
-          l.offset (lines (lines_of (take (4 * l.count) l.numbers))) _ (omega arith) step)),
-      rw c.in_default.is none_told,
-      c.add_obstacle-added.ensures.1,
+    let n = i.bare.obstacles in
+    let wide : c.from.result ≡ get_or i.counts l.i 0 = search rules in
+    let p = sizes _ c.scene.invariant in
+    let kinds : n ≤ length i.kinds = (let k : length i.kinds ≡ 16 = search rules in omega (arith, p.obstacles)) in
+    let counts : n ≤ length i.counts = (let k : length i.counts ≡ 16 = search rules in omega (arith, p.obstacles)) in
+    let next = own-left i.kinds i.counts n l.i kinds counts l.offset (omega arith) l.invariant.3 in
+    let there : 2 * (l.offset + get_or i.counts l.i 0) ≤ length i.vertices.now = omega (arith, next, p.held) in
+    let h = head_of (get_or i.kinds l.i 0) (get_or i.counts l.i 0) in
+    let agent : Agent = record { position = i.bare.agent.position; velocity = c.args.velocity } in
+    let own = part-lines agent i.bare.margin i.bare.horizon i.vertices.now l.offset h there in
+    let step = rw (c.in_err-count.was, wide, own) at c.add_obstacle.ensures.1 in
+    rw (e.1, e.2, ← c.scene.view_is) (
+      omega arith,
+      sym (l.invariant.4 ∙ edges-on agent i.bare.margin i.bare.horizon i.vertices.now i.kinds i.counts n kinds counts l.i
+          l.offset (lines (lines_of (take (4 * l.count) l.lines.numbers))) _ (omega arith) step),
+      none_told,
     )
 
 pub loop-i-preserved : goal.loop-i-preserved
 loop-i-preserved c =
-    let a = c.args in
-    let kinds : a.n ≤ length a.kinds = omega (arith, c.requires.0) in
-    let counts : a.n ≤ length a.counts = omega (arith, c.requires.0) in
+    let i = c.scene.inside in
     let l = c.loop-i in
-    let wide = c.wide.ensures.0 in
-    let next = own-left a.kinds a.counts a.n l.i kinds counts l.offset (omega arith) l.invariant.5 in
-    let there : 2 * (l.offset + get_or a.counts l.i 0) ≤ length a.vertices.now = omega (arith, next, c.requires.3) in
-    let h = head_of (get_or a.kinds l.i 0) (get_or a.counts l.i 0) in
-    let added = c.in-Count.is in
-    let lines_of_part = part-lines a.agent a.margin a.horizon a.vertices.now l.offset h there in
-    let lefts-of = part-lefts a.agent a.margin a.horizon a.vertices.now l.offset h there in
-    let many = part-many a.agent a.margin a.horizon a.vertices.now l.offset h there in
-    let step = rw (added, wide, lines_of_part) at c.add_obstacle-added.ensures.3 in
-    let noted = rw (wide, lefts-of) at (walls-told c.add_obstacle-added.ensures.4 added) in
-    let few = rw (added, wide, many) at c.add_obstacle-added.ensures.2 in (
-      omega arith,
+    let n = i.bare.obstacles in
+    let wide : c.from.result ≡ get_or i.counts l.i 0 = search rules in
+    let p = sizes _ c.scene.invariant in
+    let kinds : n ≤ length i.kinds = (let k : length i.kinds ≡ 16 = search rules in omega (arith, p.obstacles)) in
+    let counts : n ≤ length i.counts = (let k : length i.counts ≡ 16 = search rules in omega (arith, p.obstacles)) in
+    let next = own-left i.kinds i.counts n l.i kinds counts l.offset (omega arith) l.invariant.3 in
+    let there : 2 * (l.offset + get_or i.counts l.i 0) ≤ length i.vertices.now = omega (arith, next, p.held) in
+    let h = head_of (get_or i.kinds l.i 0) (get_or i.counts l.i 0) in
+    let agent : Agent = record { position = i.bare.agent.position; velocity = c.args.velocity } in
+    let added = c.in_ok-count.was in
+    let own = part-lines agent i.bare.margin i.bare.horizon i.vertices.now l.offset h there in
+    let lefts-of = part-lefts agent i.bare.margin i.bare.horizon i.vertices.now l.offset h there in
+    let many = part-many agent i.bare.margin i.bare.horizon i.vertices.now l.offset h there in
+    let step = rw (added, wide, own) at c.add_obstacle.ensures.1 in
+    let noted = rw (wide, lefts-of) at (walls-told c.add_obstacle.ensures.2 added) in
+    let few = rw (added, wide, many) at c.add_obstacle.ensures.0 in (
       omega (arith, few, wide),
-      rw wide (omega (arith, next, c.requires.2)),
+      rw wide (omega (arith, next, p.vertices)),
       rw wide there,
-      c.add_obstacle-added.ensures.0,
       rw wide next,
-      rw wide (l.invariant.6 ∙ edges-on a.agent a.margin a.horizon a.vertices.now a.kinds
-          a.counts a.n kinds counts l.i l.offset (lines (lines_of (take (4 * l.count) l.numbers))) _
-          (omega arith) step),
-      c.add_obstacle-added.ensures.1,
-      rw wide
-          (l.invariant.8 ∙ origins-on a.agent a.margin a.horizon a.vertices.now a.kinds a.counts a.n kinds
-          counts l.i l.offset (walls_in l.count l.walls) _ (omega arith) noted),
+      rw wide (l.invariant.4 ∙ edges-on agent i.bare.margin i.bare.horizon i.vertices.now i.kinds i.counts n kinds counts l.i
+          l.offset (lines (lines_of (take (4 * l.count) l.lines.numbers))) _ (omega arith) step),
+      rw wide (l.invariant.5 ∙ origins-on agent i.bare.margin i.bare.horizon i.vertices.now i.kinds i.counts n kinds counts
+          l.i l.offset (walls_in l.count l.lines.walls) _ (omega arith) noted),
     )
-
-pub shape_of-walls : goal.shape_of-walls
-shape_of-walls c = c.loop-i.invariant.7 ∙ sym c.requires.4
 
 pub returns : goal.returns
 returns c =
-    let a = c.args in
-    let l = c.loop-i in (
-      l.invariant.4,
+    let i = c.scene.inside in
+    let l = c.loop-i in
+    let n = i.bare.obstacles in
+    let p = sizes _ c.scene.invariant in
+    let kinds : n ≤ length i.kinds = (let k : length i.kinds ≡ 16 = search rules in omega (arith, p.obstacles)) in
+    let counts : n ≤ length i.counts = (let k : length i.counts ≡ 16 = search rules in omega (arith, p.obstacles)) in
+    let agent : Agent = record { position = i.bare.agent.position; velocity = c.args.velocity } in
+    rw (← c.scene.view_is) (
       omega arith,
-      sym (l.invariant.6 ∙ edges-done a.agent a.margin a.horizon a.vertices.now a.kinds a.counts a.n
-          (omega arith) (omega arith) l.i l.offset (lines_of (take (4 * l.count) l.numbers)) (omega arith)),
-      counted (sym (l.invariant.8 ∙ origins-done a.agent a.margin a.horizon a.vertices.now a.kinds a.counts
-          a.n (omega arith) (omega arith) l.i l.offset (walls_in l.count l.walls) (omega arith))),
-      l.invariant.7,
+      sym (l.invariant.4 ∙ edges-done agent i.bare.margin i.bare.horizon i.vertices.now i.kinds i.counts n kinds counts l.i
+          l.offset (lines_of (take (4 * l.count) l.lines.numbers)) (omega arith)),
+      counted (sym (l.invariant.5 ∙ origins-done agent i.bare.margin i.bare.horizon i.vertices.now i.kinds i.counts n kinds
+          counts l.i l.offset (walls_in l.count l.lines.walls) (omega arith))),
     )

@@ -1,6 +1,6 @@
 -- `dodgy_2d::edge_lines::edge_lines` meets its contract. The invariant: the lines of the obstacles before i, joined
 -- with what the rest makes, are all of them, and so are their origins. Assumes nothing.
-use Prim.Native.Nat.{◌+◌, ◌-◌, ◌*◌, ◌≤◌}
+use Prim.Native.Nat.{◌+◌, ◌*◌, ◌≤◌}
 use mathlib.Core.Path.{◌≡◌}
 use mathlib.Core.List.{◌++◌}
 use lib.ListN.{length, take}
@@ -14,18 +14,17 @@ use Rattle.dodgy_2d.proofs.HeadsInOrder.{heads_from}
 use Rattle.dodgy_2d.proofs.edge_lines.edge_lines.Given as goal
 
 abbrev pub invariant-loop-i : goal.invariant-loop-i
-invariant-loop-i l = (l.i ≤ l.n)
-    × (l.count ≤ l.offset)
+invariant-loop-i l =
+    let s = l.scene-inside in
+    let k = l.cart in
+    let n = k.obstacles in
+    (l.count ≤ l.offset)
     × (l.offset ≤ 192)
-    × (2 * l.offset ≤ length l.vertices)
-    × (length l.numbers ≡ 1024)
-    × (l.offset + vertex_count (heads_from l.kinds l.counts l.n l.i) ≡ vertex_count (heads_from l.kinds l.counts l.n 0))
-    × (edge_lines l.agent l.margin l.horizon l.vertices 0 (heads_from l.kinds l.counts l.n 0)
-    ≡ joined (lines (lines_of (take (4 * l.count) l.numbers))) (edge_lines l.agent l.margin l.horizon l.vertices l.offset
-    (heads_from l.kinds l.counts l.n l.i)))
-    × (length l.walls ≡ 192)
-    × (edge_origins l.agent l.margin l.horizon l.vertices 0 0 (heads_from l.kinds l.counts l.n 0)
-    ≡ walls_in l.count l.walls ++ edge_origins l.agent l.margin l.horizon l.vertices l.i l.offset (heads_from l.kinds l.counts l.n l.i))
-
-abbrev pub decreases-loop-i : goal.decreases-loop-i
-decreases-loop-i l = l.n - l.i
+    × (2 * l.offset ≤ length s.vertices.now)
+    × (l.offset + vertex_count (heads_from s.kinds s.counts n l.i) ≡ vertex_count (heads_from s.kinds s.counts n 0))
+    × (edge_lines k.agent k.margin k.horizon s.vertices.now 0 (heads_from s.kinds s.counts n 0)
+    ≡ joined (lines (lines_of (take (4 * l.count) l.lines.numbers))) (edge_lines k.agent k.margin k.horizon s.vertices.now
+    l.offset (heads_from s.kinds s.counts n l.i)))
+    × (edge_origins k.agent k.margin k.horizon s.vertices.now 0 0 (heads_from s.kinds s.counts n 0)
+    ≡ walls_in l.count l.lines.walls ++ edge_origins k.agent k.margin k.horizon s.vertices.now l.i l.offset
+    (heads_from s.kinds s.counts n l.i))

@@ -1,10 +1,14 @@
 -- `fallback_index::questions::end_within` meets its contract. Assumes nothing.
 use native.Mathlib.Omega.{arith}
-use Rattle.fallback_index.proofs.PartLaws.{up-there, up-past}
+use mathlib.Core.Path.{ap, ◌∙◌}
+use Prim.Native.Nat.{ℕ, ◌+◌}
+use Rattle.fallback_index.proofs.PartLaws.{up-sum}
 use Rattle.fallback_index.proofs.questions.end_within.Goals as goal
 
-pub returns-then-count-all : goal.returns-then-count-all
-returns-then-count-all c = (up-there _ _ (omega arith), omega arith, omega arith)
-
 pub returns : goal.returns
-returns c = (up-past _ _ (omega arith), omega arith, omega arith)
+returns c =
+    let a = c.args in (
+      ap (λ (n : ℕ). a.at + n) c.min.ensures ∙ up-sum a.all a.at a.count c.requires,
+      omega arith,
+      omega (arith, c.min.ensures),
+    )

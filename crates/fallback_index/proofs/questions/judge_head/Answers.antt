@@ -1,59 +1,28 @@
 -- `fallback_index::questions::judge_head` meets its contract. Assumes nothing.
-use borrow.Author.Tests.{lt-leb, le-leb, eq-eqb, ne_eqb}
+use Rattle.std.proofs.Common.{rules}
 use Rattle.fallback_index.specs.Questions.{head_fault}
 use Rattle.fallback_index.proofs.questions.judge_head.Goals as goal
 
-pub returns-then-n-lt4 : goal.returns-then-n-lt4
+pub returns-in_err-unless : goal.returns-in_err-unless
 unfolding head_fault
-returns-then-n-lt4 c = simp (lt-leb 4 _ c.if-n-lt4.true)
+returns-in_err-unless c = rw (← c.in_err-unless.ensures) (search rules)
 
-pub returns-then-n-word_at : goal.returns-then-n-word_at
+pub returns-in_err-unless-2 : goal.returns-in_err-unless-2
 unfolding head_fault
-returns-then-n-word_at c = simp (le-leb 4 _ c.if-n-lt4.false, ← c.word_at.ensures, ne_eqb _ _ c.if-n-word_at.true)
+returns-in_err-unless-2 c = rw (← c.in_ok-unless.ensures, ← c.word_at.ensures, ← c.in_err-unless-2.ensures) (search rules)
 
-pub returns-then-n-lt5 : goal.returns-then-n-lt5
+pub returns-in_err-unless-3 : goal.returns-in_err-unless-3
 unfolding head_fault
-returns-then-n-lt5 c = simp (
-  le-leb 4 _ c.if-n-lt4.false,
-  ← c.word_at.ensures,
-  eq-eqb _ _ c.if-n-word_at.false,
-  lt-leb 5 _ c.if-n-lt5.true,
-)
+returns-in_err-unless-3 c = rw (← c.in_ok-unless.ensures, ← c.word_at.ensures, ← c.in_ok-unless-2.ensures, ← c.in_err-unless-3.ensures) (search rules)
 
-pub returns-then-version_of-ne-VERSION : goal.returns-then-version_of-ne-VERSION
+pub returns-in_err-unless-4 : goal.returns-in_err-unless-4
 unfolding head_fault
-returns-then-version_of-ne-VERSION c = simp (
-  le-leb 4 _ c.if-n-lt4.false,
-  ← c.word_at.ensures,
-  eq-eqb _ _ c.if-n-word_at.false,
-  le-leb 5 _ c.if-n-lt5.false,
-  ← c.version_of.ensures,
-  ne_eqb _ _ c.if-version_of-ne-VERSION.true,
-)
+returns-in_err-unless-4 c = rw (← c.in_ok-unless.ensures, ← c.word_at.ensures, ← c.in_ok-unless-2.ensures, ← c.in_ok-unless-3.ensures, ← c.version_of.ensures, ← c.in_err-unless-4.ensures) (search rules)
 
-pub returns-then-n-lt-HEAD_BYTES : goal.returns-then-n-lt-HEAD_BYTES
+pub returns-in_err-unless-5 : goal.returns-in_err-unless-5
 unfolding head_fault
-returns-then-n-lt-HEAD_BYTES c = simp (
-  le-leb 4 _ c.if-n-lt4.false,
-  ← c.word_at.ensures,
-  eq-eqb _ _ c.if-n-word_at.false,
-  le-leb 5 _ c.if-n-lt5.false,
-  ← c.version_of.ensures,
-  eq-eqb _ _ c.if-version_of-ne-VERSION.false,
-  lt-leb 13 _ c.if-n-lt-HEAD_BYTES.true,
-)
+returns-in_err-unless-5 c = rw (← c.in_ok-unless.ensures, ← c.word_at.ensures, ← c.in_ok-unless-2.ensures, ← c.in_ok-unless-3.ensures, ← c.version_of.ensures, ← c.in_ok-unless-4.ensures, ← c.in_err-unless-5.ensures) (search rules)
 
 pub returns : goal.returns
 unfolding head_fault
-returns c =
-    simp (
-      c.fault_unless.ensures,
-      ← c.word_at-count.ensures,
-      le-leb 4 _ c.if-n-lt4.false,
-      ← c.word_at.ensures,
-      eq-eqb _ _ c.if-n-word_at.false,
-      le-leb 5 _ c.if-n-lt5.false,
-      ← c.version_of.ensures,
-      eq-eqb _ _ c.if-version_of-ne-VERSION.false,
-      le-leb 13 _ c.if-n-lt-HEAD_BYTES.false,
-    )
+returns c = rw (← c.in_ok-unless.ensures, ← c.word_at.ensures, ← c.in_ok-unless-2.ensures, ← c.in_ok-unless-3.ensures, ← c.version_of.ensures, ← c.in_ok-unless-4.ensures, ← c.in_ok-unless-5.ensures, ← c.word_at-count.ensures) (search rules)

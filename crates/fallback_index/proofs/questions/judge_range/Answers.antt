@@ -1,25 +1,20 @@
 -- `fallback_index::questions::judge_range` meets its contract. Assumes nothing.
-use borrow.Author.Tests.{lt-leb, le-leb}
+use Rattle.std.proofs.Common.{rules}
 use Rattle.fallback_index.specs.Questions.{range_fault}
 use Rattle.fallback_index.proofs.questions.judge_range.Goals as goal
 
-pub returns-then-a-b : goal.returns-then-a-b
+pub returns-in_err-unless : goal.returns-in_err-unless
 unfolding range_fault
-returns-then-a-b c = simp (lt-leb _ _ c.if-a-b.true)
+returns-in_err-unless c = rw (← c.in_err-unless.ensures) (search rules)
 
-pub returns-then-b-count : goal.returns-then-b-count
+pub returns-in_err-unless-2 : goal.returns-in_err-unless-2
 unfolding range_fault
-returns-then-b-count c = simp (le-leb _ _ c.if-a-b.false, lt-leb _ _ c.if-b-count.true)
+returns-in_err-unless-2 c = rw (← c.in_ok-unless.ensures, ← c.in_err-unless-2.ensures) (search rules)
 
-pub returns-then-first-total : goal.returns-then-first-total
+pub returns-in_err-unless-3 : goal.returns-in_err-unless-3
 unfolding range_fault
-returns-then-first-total c = simp (le-leb _ _ c.if-a-b.false, le-leb _ _ c.if-b-count.false, lt-leb _ _ c.if-first-total.true)
+returns-in_err-unless-3 c = rw (← c.in_ok-unless.ensures, ← c.in_ok-unless-2.ensures, ← c.in_err-unless-3.ensures) (search rules)
 
 pub returns : goal.returns
 unfolding range_fault
-returns c = simp (
-  c.fault_unless.ensures,
-  le-leb _ _ c.if-a-b.false,
-  le-leb _ _ c.if-b-count.false,
-  le-leb _ _ c.if-first-total.false,
-)
+returns c = rw (← c.in_ok-unless.ensures, ← c.in_ok-unless-2.ensures, ← c.in_ok-unless-3.ensures) (search rules)

@@ -1,26 +1,25 @@
 -- `index_building::builds::judge_extent` meets its contract. Assumes nothing.
-use native.Mathlib.Omega.{arith}
-use borrow.Author.Tests.{lt-leb, le-leb}
+use Rattle.std.proofs.Common.{rules, arith}
 use Rattle.index_building.specs.Builds.{extent_fault}
 use Rattle.index_building.proofs.BuildLaws.{room-test}
 use Rattle.index_building.proofs.builds.judge_extent.Goals as goal
 
-pub returns-then-extent-room : goal.returns-then-extent-room
+pub returns-in_err-unless : goal.returns-in_err-unless
 unfolding extent_fault
-returns-then-extent-room c =
+returns-in_err-unless c =
     let a = c.args in
-    rw (← room-test a.extent.bytes a.size (omega arith), lt-leb _ _ c.if-extent-room.true)
+    rw (← room-test a.extent.bytes a.size (omega arith), ← c.in_err-unless.ensures) (search rules)
 
-pub returns-then-extent-room-2 : goal.returns-then-extent-room-2
+pub returns-in_err-unless-2 : goal.returns-in_err-unless-2
 unfolding extent_fault
-returns-then-extent-room-2 c =
+returns-in_err-unless-2 c =
     let a = c.args in
     rw (
       ← room-test a.extent.bytes a.size (omega arith),
-      le-leb _ _ c.if-extent-room.false,
+      ← c.in_ok-unless.ensures,
       ← room-test a.extent.records a.size (omega arith),
-      lt-leb _ _ c.if-extent-room-2.true,
-    )
+      ← c.in_err-unless-2.ensures,
+    ) (search rules)
 
 pub returns : goal.returns
 unfolding extent_fault
@@ -28,9 +27,9 @@ returns c =
     let a = c.args in
     rw (
       ← room-test a.extent.bytes a.size (omega arith),
-      le-leb _ _ c.if-extent-room.false,
+      ← c.in_ok-unless.ensures,
       ← room-test a.extent.records a.size (omega arith),
-      le-leb _ _ c.if-extent-room-2.false,
+      ← c.in_ok-unless-2.ensures,
       ← room-test a.extent.fallbacks a.size (omega arith),
     )
-    c.fault_unless.ensures
+    c.unless-3.ensures

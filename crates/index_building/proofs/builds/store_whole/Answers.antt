@@ -27,15 +27,15 @@ fill-requires c =
     let w = reached-end _ _ c.requires.log_value in
     let fits = c.if-extent-most.false in
     let rest = rest-length a.most a.log.now a.buffer.now a.extent w fits in
-    rw c.at_start.ensures (record {
+    record {
       before_value = start_fits _ (omega arith);
       part_value = rest-whole a.most a.log.now a.buffer.now a.extent w fits;
       part_in_bounds = omega (arith, rest, c.put_start.auto.buffer, c.if-buffer-needed.false, c.entry_at-needed.ensures);
-    })
+    }
 
 pub returns : goal.returns
 returns c =
     build-done _ _ _ _ (reached-end _ _ c.requires.log_value) c.if-extent-most.false
     (omega (arith, c.if-buffer-needed.false, c.entry_at-needed.ensures)) _
     (omega (arith, c.entry_at-needed.ensures)) _ _ c.put_start.ensures
-    (rw c.at_start.ensures at c.fill.ensures)
+    c.fill.ensures

@@ -8,9 +8,9 @@ use Rattle.index_building.proofs.BuildLaws.{Grown}
 use Rattle.index_building.proofs.builds.walk_part.Given as goal
 
 -- the answer from the start is the answer from here
-abbrev pub invariant-loop-number : goal.invariant-loop-number
-invariant-loop-number l = (l.at ≤ length l.part) × Grown l.initial.extent l.extent l.at × (progress_by 0 l.initial.extent (wholes_of l.part)
+abbrev pub invariant-loop-behind : goal.invariant-loop-behind
+invariant-loop-behind l = (l.at ≤ length l.part) × Grown l.initial.extent l.extent l.at × (progress_by 0 l.initial.extent (wholes_of l.part)
     ≡ progress_by l.at l.extent (wholes_of (drop l.at l.part)))
 
-abbrev pub decreases-loop-number : goal.decreases-loop-number
-decreases-loop-number l = length l.part - l.at
+abbrev pub decreases-loop-behind : goal.decreases-loop-behind
+decreases-loop-behind l = length l.part - l.at

@@ -8,8 +8,4 @@ pub returns : goal.returns
 unfolding components_fault
 returns c =
     let a = c.args in
-    rw (
-      drop-drop 1 (2 * a.i) a.vertices.now,
-      ← c.judge_number-y.ensures,
-      ← c.judge_number-x.ensures,
-    ) c.first_of.ensures
+    rw (drop-drop 1 (2 * a.i) a.vertices.now, ← c.in_ok-judge_number.ensures) c.judge_number-2.ensures

@@ -9,8 +9,5 @@ use Rattle.obstacles.specs.ObstacleFaults.{vertices_fault}
 use Rattle.obstacles.proofs.judge.judge_vertices.Given as goal
 
 abbrev pub invariant-loop-i : goal.invariant-loop-i
-invariant-loop-i l = (l.i ≤ l.count) × (2 * l.i ≤ length l.vertices) × (vertices_fault none_before l.count l.vertices
+invariant-loop-i l = (2 * l.i ≤ length l.vertices) × (vertices_fault none_before l.count l.vertices
     ≡ vertices_fault (outer_of l.previous) (l.count - l.i) (drop (2 * l.i) l.vertices))
-
-abbrev pub decreases-loop-i : goal.decreases-loop-i
-decreases-loop-i l = l.count - l.i

@@ -2,40 +2,22 @@
 use Rattle.arithmetic.specs.Binary32.{when◌then◌else◌}
 use Rattle.one_line.specs.OneLine.{choose}
 use Rattle.one_line.proofs.along_line.best_on.Goals as goal
+use Rattle.one_line.proofs.along_line.best_on.Goals.{in-Direction+then-dot, in-Direction+else-dot, in-Point+then-ends}
 
-pub returns-then-dot : goal.returns-then-dot
+pub returns-else-ends : goal.returns-else-ends
 unfolding choose when◌then◌else◌
-returns-then-dot c = simp (
-  ← c.point_on.ensures,
-  c.if-dot.true,
-  ← c.dot.ensures,
-  ← c.new.ensures,
-  c.in-Direction.is,
-)
+returns-else-ends c = simp (c.if-ends.false, c.in-Point.is)
 
-pub returns-then-left-right : goal.returns-then-left-right
+pub returns : goal.returns
 unfolding choose when◌then◌else◌
-returns-then-left-right c =
-    simp (
-      ← c.point_on-then-left-right.ensures,
-      ← c.clamp.ensures,
-      ← c.dot-t.ensures,
-      ← c.sub.ensures,
-      ← c.new-then-left-right.ensures,
-      c.if-left-right.true,
-      c.in-Point.is,
-    )
-
-pub returns-else-dot : goal.returns-else-dot
-unfolding choose when◌then◌else◌
-returns-else-dot c = simp (
-  ← c.point_on-in-Direction.ensures,
-  c.if-dot.false,
-  ← c.dot.ensures,
-  ← c.new.ensures,
-  c.in-Direction.is,
-)
-
-pub returns-else-left-right : goal.returns-else-left-right
-unfolding choose when◌then◌else◌
-returns-else-left-right c = simp (c.if-left-right.false, c.in-Point.is)
+returns c = elim c.match-optimal_value.branch [
+  | in-Direction+then-dot w ↦
+      let p = rw w.t-is at c.point_on.ensures in
+      simp (w.in-Direction.is, ← w.dot.ensures, w.if-dot.true, p)
+  | in-Direction+else-dot w ↦
+      let p = rw w.t-is at c.point_on.ensures in
+      simp (w.in-Direction.is, ← w.dot.ensures, w.if-dot.false, p)
+  | in-Point+then-ends w ↦
+      let p = rw (w.t-is, w.clamp.ensures, w.dot-then-ends.ensures, w.sub.ensures) at c.point_on.ensures in
+      simp (w.in-Point.is, w.if-ends.true, p)
+]

@@ -1,41 +1,31 @@
-use mathlib.Core.Path.{refl, sym, ◌∙◌}
+-- `one_line::along_line::narrow_all` meets its contract. Assumes nothing.
+use Prim.Native.Nat.{◌/◌}
+use mathlib.Core.Path.{◌≡◌, sym, ap, ◌∙◌}
 use native.Mathlib.Omega.{arith}
-use Rattle.lines.specs.Lines.{lines_of, off_line}
-use Rattle.one_line.specs.OneLine.{narrow}
-use Rattle.lines.proofs.Fold.{fold_on, fold-stop, fold_done}
-use Rattle.one_line.proofs.OneLineLaws.{empty-stays, looked-on}
-use Rattle.lines.proofs.Rows.{lines_fit}
+use lib.ListN.{length}
+use Rattle.one_line.specs.OneLine.{between, narrow}
+use Rattle.one_line.proofs.LineFolds.{lines-on, lines-stop, lines-done}
+use Rattle.one_line.proofs.OneLineLaws.{empty-stays}
 use Rattle.one_line.proofs.along_line.narrow_all.Goals as goal
 
-pub loop-i-init : goal.loop-i-init
-loop-i-init c = (omega arith, refl, refl)
-
-pub returns-in_default : goal.returns-in_default
-returns-in_default c =
+pub returns-in-Err : goal.returns-in-Err
+returns-in-Err c =
     let a = c.args in
     let l = c.loop-i in
-    let step = rw (c.in_default.is, c.line_at.ensures) at c.narrow_by-interval.ensures
-    in
-    rw c.in_default.is (sym (l.invariant.2 ∙ fold-stop (narrow a.line) (lines_of a.lines.now) a.count
-    l.i (lines_fit a.lines.now a.count (omega arith)) off_line (omega arith) (sym step)
-    (empty-stays a.line _ _)))
+    let step = rw c.line_at.ensures at c.in-Err.ensures in
+    sym (l.invariant ∙ lines-stop (narrow a.line) a.lines.now l.i (omega arith) (sym step) (empty-stays a.line _ _))
 
 pub loop-i-preserved : goal.loop-i-preserved
 loop-i-preserved c =
     let a = c.args in
     let l = c.loop-i in
-    let step = rw (c.in-Between.is, c.line_at.ensures)
-    at c.narrow_by-interval.ensures in (
-      omega arith,
-      omega (arith, looked-on _ _ _ _ _ _ _ _ step),
-      l.invariant.2 ∙ fold_on (narrow a.line)
-          (lines_of a.lines.now) a.count l.i (lines_fit a.lines.now a.count (omega arith)) off_line
-          (omega arith) (sym step),
-    )
+    let step = rw c.line_at.ensures at c.in-Ok.ensures in
+    l.invariant ∙ lines-on (narrow a.line) a.lines.now l.i (omega arith) (sym step)
 
 pub returns : goal.returns
 returns c =
     let a = c.args in
     let l = c.loop-i in
-    sym (l.invariant.2 ∙ fold_done (narrow a.line) (lines_of a.lines.now) a.count l.i
-    (lines_fit a.lines.now a.count (omega arith)) (omega arith))
+    let done : length a.lines.now / 4 ≡ l.i = omega arith in
+    ap (λ n. between l.ends.left l.ends.right n) done
+    ∙ sym (l.invariant ∙ lines-done (narrow a.line) a.lines.now l.i (omega arith))

@@ -1,11 +1,12 @@
--- `pass_2d::solve_2d::pass_line` meets its contract. In each need `s` is where the one-line solve has answered. Assumes nothing.
-use Rattle.arithmetic.specs.Binary32.{when◌then◌else◌}
+-- `pass_2d::solve_2d::pass_line` meets its contract. Assumes nothing.
 use native.Mathlib.Omega.{arith}
 use lib.Seq.{length-take-le}
+use Rattle.std.specs.Prelude.{Ok}
+use Rattle.std.proofs.lemmas.Result.{err_from_is_err_and}
+use Rattle.arithmetic.specs.Binary32.{when◌then◌else◌}
 use Rattle.lines.specs.Lines.{lines_of}
+use Rattle.lines.proofs.Rows.{lines_fit, lines-take}
 use Rattle.pass_2d.specs.Pass.{solved, pass_line}
-use Rattle.lines.proofs.Rows.{lines_fit}
-use Rattle.one_line.proofs.Variants.{refuses-left}
 use Rattle.pass_2d.proofs.Variants.{few-looked}
 use Rattle.pass_2d.proofs.solve_2d.pass_line.Goals as goal
 
@@ -18,77 +19,78 @@ returns-then-determinant c = simp (
   ← c.line_at-line.ensures,
 )
 
-pub returns-in_default-along : goal.returns-in_default-along
+pub returns-in_err-along : goal.returns-in_err-along
 unfolding pass_line when◌then◌else◌ solved
-returns-in_default-along c =
-    let refuses = refuses-left c.solve_linear_program_along_line-along.result c.in_default.not-At c.in_default-along.not-Fails in
+returns-in_err-along c =
+    let p = err_from_is_err_and c.from_residual.result c.from_residual.ensures.1 in
     simp (
-      refuses,
-      ← c.solve_linear_program_along_line-along.ensures,
+      p.1,
+      p.2,
+      ← rw (lines-take c.args.lines.now c.args.index) at c.in_err-along.ensures,
       c.if-determinant.false,
       ← c.determinant.ensures,
       ← c.sub.ensures,
       ← c.line_at-line.ensures,
     )
 
-pub overflow_cast-counted : goal.overflow_cast-counted
-overflow_cast-counted c =
-    let a = c.args in
-    omega (
-      arith,
-      rw c.in-Fails.is at (few-looked _ _ _ a.lines.now a.index (omega arith)
-          (omega arith) c.solve_linear_program_along_line-along.result c.solve_linear_program_along_line-along.ensures),
-    )
-
-pub overflow_add-counted-in_default : goal.overflow_add-counted-in_default
-overflow_add-counted-in_default c =
-    let a = c.args in
-    omega (
-      arith,
-      rw c.in-Fails.is at (few-looked _ _ _ a.lines.now a.index (omega arith)
-          (omega arith) c.solve_linear_program_along_line-along.result c.solve_linear_program_along_line-along.ensures),
-    )
-
-pub returns-in_default : goal.returns-in_default
+pub returns-in_err-judge_point-in-At : goal.returns-in_err-judge_point-in-At
 unfolding pass_line when◌then◌else◌ solved
-returns-in_default c =
+returns-in_err-judge_point-in-At c =
+    let r = c.from_residual-in_err-judge_point-in-At in
+    let p = err_from_is_err_and r.result r.ensures.1 in
+    simp (
+      p.1,
+      p.2,
+      ← rw (lines-take c.args.lines.now c.args.index, c.in-At.is) at c.in_ok-along.ensures,
+      c.if-determinant.false,
+      ← c.determinant.ensures,
+      ← c.sub.ensures,
+      ← c.line_at-line.ensures,
+    ) (c.in_err-judge_point-in-At.ensures _)
+
+pub overflow_cast-result : goal.overflow_cast-result
+overflow_cast-result c =
+    let found = rw (lines-take c.args.lines.now c.args.index) at c.in_ok-along.ensures in
+    let few = few-looked _ _ _ c.args.lines.now _ (omega arith) (omega arith) (Ok c.in_ok-along.along) found in
+    omega (arith, rw c.in-At.is at few)
+
+pub overflow_add-result-in-At-2 : goal.overflow_add-result-in-At-2
+overflow_add-result-in-At-2 c =
+    let found = rw (lines-take c.args.lines.now c.args.index) at c.in_ok-along.ensures in
+    let few = few-looked _ _ _ c.args.lines.now _ (omega arith) (omega arith) (Ok c.in_ok-along.along) found in
+    omega (arith, rw c.in-At.is at few)
+
+pub returns-in_ok-judge_point-in-At : goal.returns-in_ok-judge_point-in-At
+unfolding pass_line when◌then◌else◌ solved
+returns-in_ok-judge_point-in-At c =
+    simp (
+      ← rw (lines-take c.args.lines.now c.args.index, c.in-At.is) at c.in_ok-along.ensures,
+      c.if-determinant.false,
+      ← c.determinant.ensures,
+      ← c.sub.ensures,
+      ← c.line_at-line.ensures,
+    ) (c.in_ok-judge_point-in-At.ensures _)
+
+pub overflow_cast-result-in-Fails : goal.overflow_cast-result-in-Fails
+overflow_cast-result-in-Fails c =
+    let found = rw (lines-take c.args.lines.now c.args.index) at c.in_ok-along.ensures in
+    let few = few-looked _ _ _ c.args.lines.now _ (omega arith) (omega arith) (Ok c.in_ok-along.along) found in
+    omega (arith, rw c.in-Fails.is at few)
+
+pub overflow_add-result-in-Fails-2 : goal.overflow_add-result-in-Fails-2
+overflow_add-result-in-Fails-2 c =
+    let found = rw (lines-take c.args.lines.now c.args.index) at c.in_ok-along.ensures in
+    let few = few-looked _ _ _ c.args.lines.now _ (omega arith) (omega arith) (Ok c.in_ok-along.along) found in
+    omega (arith, rw c.in-Fails.is at few)
+
+pub returns-in-Fails : goal.returns-in-Fails
+unfolding pass_line when◌then◌else◌ solved
+returns-in-Fails c =
     let a = c.args in
     let short = length-take-le a.index (lines_of a.lines.now) (lines_fit a.lines.now a.index (omega arith)) in
     simp (
       short,
-      c.in-Fails.is,
-      ← c.solve_linear_program_along_line-along.ensures,
-      c.if-determinant.false,
-      ← c.determinant.ensures,
-      ← c.sub.ensures,
-      ← c.line_at-line.ensures,
-    )
-
-pub overflow_cast-looked : goal.overflow_cast-looked
-overflow_cast-looked c =
-    let a = c.args in
-    omega (
-      arith,
-      rw c.in-At.is at (few-looked _ _ _ a.lines.now a.index (omega arith)
-          (omega arith) c.solve_linear_program_along_line-along.result c.solve_linear_program_along_line-along.ensures),
-    )
-
-pub overflow_add-probes-2 : goal.overflow_add-probes-2
-overflow_add-probes-2 c =
-    let a = c.args in
-    omega (
-      arith,
-      rw c.in-At.is at (few-looked _ _ _ a.lines.now a.index (omega arith)
-          (omega arith) c.solve_linear_program_along_line-along.result c.solve_linear_program_along_line-along.ensures),
-    )
-
-pub returns : goal.returns
-unfolding pass_line when◌then◌else◌ solved
-returns c =
-    simp (
-      ← c.judge_point.ensures,
-      c.in-At.is,
-      ← c.solve_linear_program_along_line-along.ensures,
+      ← rw (lines-take c.args.lines.now c.args.index, c.in-Fails.is) at c.in_ok-along.ensures,
       c.if-determinant.false,
       ← c.determinant.ensures,
       ← c.sub.ensures,

@@ -10,19 +10,17 @@ returns-then-length_squared-radius c = simp (
   ← c.normalize.ensures,
   c.if-length_squared-radius.true,
   ← c.length_squared.ensures,
-  ← c.new-point.ensures,
   c.in-Point.is,
 )
 
 pub returns-in-Direction : goal.returns-in-Direction
 unfolding start when◌then◌else◌
-returns-in-Direction c = simp (← c.mul.ensures, ← c.new.ensures, c.in-Direction.is)
+returns-in-Direction c = simp (← c.mul.ensures, c.in-Direction.is)
 
 pub returns-else-length_squared-radius : goal.returns-else-length_squared-radius
 unfolding start when◌then◌else◌
 returns-else-length_squared-radius c = simp (
   c.if-length_squared-radius.false,
   ← c.length_squared.ensures,
-  ← c.new-point.ensures,
   c.in-Point.is,
 )

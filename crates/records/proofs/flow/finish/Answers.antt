@@ -7,4 +7,4 @@ returns-then-left-eq0 c = nothing_left _ _ c.if-left-eq0.true
 
 pub returns : goal.returns
 returns c = some_left _ _ c.if-left-eq0.false
-    c.requires _ _ c.write_refusal.ensures
+    c.requires _ _ (rw c.number.ensures at c.write_refusal.ensures)

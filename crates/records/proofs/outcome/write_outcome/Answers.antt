@@ -1,16 +1,16 @@
 -- `records::outcome::write_outcome` meets its contract. Assumes nothing.
-use mathlib.Core.Path.{sym, ap, ◌∙◌}
+use Rattle.std.proofs.Common.{sym, ap, ◌∙◌, rules}
 use Rattle.answer_records.specs.Answers.{Written}
 use Rattle.records.proofs.OutcomeLaws.{pattern-bits}
 use Rattle.records.proofs.outcome.write_outcome.Goals as goal
 
-pub returns-in-Outcome : goal.returns-in-Outcome
-returns-in-Outcome c =
-    let known = c.in-Outcome.known_told-1-own.given in
+pub returns : goal.returns
+returns c =
+    let v = c.args.outcome.velocity in
     rw (
-      c.in-Outcome.is,
-      ← (c.pattern.ensures ∙ sym (pattern-bits _ known.1.0.1)),
-      ← (c.pattern-in-Outcome.ensures ∙ sym (pattern-bits _ known.1.1.0.1)),
+      ← c.number.ensures,
+      ← (c.pattern.ensures ∙ sym (pattern-bits v.x (search rules))),
+      ← (c.pattern-2.ensures ∙ sym (pattern-bits v.y (search rules))),
       ← c.failed_place.ensures,
     )
     (ap (λ (w : Written). w.contents) c.write_answer.ensures)

@@ -18,6 +18,6 @@ shape_of-buffer c = c.put_bytes.auto.buffer
 pub returns : goal.returns
 returns c =
     let a = c.args in
-    start-put a.buffer.now _ _ _ a.source.now a.size a.version a.start
-    (c.put_pair.ensures ∙ ap (sets a.buffer.now 0) (pair-stored _)) refl
+    start-put a.buffer.now _ _ _ a.source.now a.size _ a.start
+    (c.put_pair.ensures ∙ ap (sets a.buffer.now 0) (pair-stored _)) (rw c.byte.ensures refl)
     c.put_bytes.ensures

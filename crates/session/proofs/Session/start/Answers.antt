@@ -1,26 +1,20 @@
 -- `session::Session::start` meets its contract. Assumes nothing.
-use Rattle.session.specs.Sessions.{started_as}
+use Rattle.std.proofs.Common.{◌≡◌, rules}
+use Rattle.session.specs.Sessions.{started_of, started_as, blank_lines, blank_origins}
 use Rattle.linear_programming.proofs.Agreement.{phase-back, failed-back}
 use Rattle.session.proofs.StartLaws.{begins-by}
 use Rattle.session.proofs.Session.start.Goals as goal
 
-pub returns-in-Stands : goal.returns-in-Stands
+pub returns-in_err-standing : goal.returns-in_err-standing
 unfolding started_as
-returns-in-Stands c =
-    let h = begins-by c.args.wish c.args.limit c.args.rigid _ (simp (
-      ← c.blank_origins.ensures,
-      ← c.blank_lines.ensures,
-      c.in-Stands.is,
-      ← c.solve_linear_program-answer.ensures,
-      phase-back,
-      failed-back,
-    )) in record { value = h.0; begins = h.1 }
+returns-in_err-standing c =
+    let a = c.args in
+    let e : started_of c.from_residual.result ≡ started_as a.wish a.limit a.rigid = search rules in
+    let h = begins-by a.wish a.limit a.rigid _ e in record { value = h.0; begins = h.1 }
 
-pub returns-in-Refused : goal.returns-in-Refused
-unfolding started_as
-returns-in-Refused c =
-    let h = begins-by c.args.wish c.args.limit c.args.rigid _ (simp (
-      ← c.blank.ensures,
-      c.in-Refused.is,
-      ← c.solve_linear_program-answer.ensures,
-    )) in record { value = h.0; begins = h.1 }
+pub returns : goal.returns
+unfolding started_as blank_lines blank_origins
+returns c =
+    let a = c.args in
+    let h = begins-by a.wish a.limit a.rigid _ (rw (← c.in_ok-standing.ensures, phase-back, failed-back, c.new.ensures)) in
+    record { value = h.0; begins = h.1 }

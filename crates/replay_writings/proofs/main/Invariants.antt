@@ -1,5 +1,0 @@
--- The turns are counted down.
-use Rattle.replay_writings.proofs.main.Given as goal
-
-abbrev pub decreases-loop-left : goal.decreases-loop-left
-decreases-loop-left l = l.left

@@ -1,8 +1,0 @@
--- `session::or_given` meets its contract. Assumes nothing.
-use Rattle.session.proofs.or_given.Goals as goal
-
-pub returns-in-Fine : goal.returns-in-Fine
-returns-in-Fine c = simp c.in-Fine.is
-
-pub returns-in-Fault : goal.returns-in-Fault
-returns-in-Fault c = simp c.in-Fault.is

@@ -1,9 +1,0 @@
--- The index grows up to the buffer's length.
-use Rattle.std.proofs.Common.{◌-◌, ◌≤◌, length}
-use Rattle.written_again.proofs.again.holds.Given as goal
-
-abbrev pub invariant-loop-i : goal.invariant-loop-i
-invariant-loop-i l = l.i ≤ length l.buffer
-
-abbrev pub decreases-loop-i : goal.decreases-loop-i
-decreases-loop-i l = length l.buffer - l.i
