@@ -54,7 +54,10 @@ fn after_pass(
                     probes,
                 });
             }
-            let relaxed = relaxation::solve_linear_program_3d(lines, rigid, k, radius, point, 0.0)?;
+            let count = lines.len() / 4;
+            let relaxed = relaxation::solve_linear_program_3d(
+                lines, rigid, k, count, radius, point, 0.0,
+            )?;
             Ok(relaxed_standing(failed, probes, relaxed))
         }
     }
@@ -74,15 +77,23 @@ pub(crate) fn resume(
     ensures { outcome_of result ≡ resumed rigid wish limit (lines_of lines.now) from
         (phase_of phase) (failed_of failed) }
 {
+    let count = lines.len() / 4;
     match phase {
         Phase::Solving(point) => {
             let optimal_value = OptimalValue::Point(wish);
-            let pass = pass_2d::resume_linear_program_2d(lines, from, limit, optimal_value, point)?;
+            let pass = pass_2d::resume_linear_program_2d(
+                lines,
+                from,
+                count,
+                limit,
+                optimal_value,
+                point,
+            )?;
             after_pass(lines, rigid, limit, pass)
         }
         Phase::Relaxing(point, depth) => {
             let relaxed = relaxation::solve_linear_program_3d(
-                lines, rigid, from, limit, point, depth,
+                lines, rigid, from, count, limit, point, depth,
             )?;
             Ok(relaxed_standing(failed, 0, relaxed))
         }
@@ -105,7 +116,7 @@ pub(crate) fn solve_from_start(
     ensures { outcome_of result ≡ whole_list rigid wish limit (lines_of lines.now) }
 {
     let optimal_value = OptimalValue::Point(wish);
-    let pass = pass_2d::solve_linear_program_2d(lines, limit, optimal_value)?;
+    let pass = pass_2d::solve_linear_program_2d(lines, lines.len() / 4, limit, optimal_value)?;
     after_pass(lines, rigid, limit, pass)
 }
 

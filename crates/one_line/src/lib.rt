@@ -2,7 +2,7 @@
 // circle and the earlier lines.
 #![tactic(auto)]
 
-ghost use Rattle.std.specs.Prelude.{◌≡◌};
+ghost use Rattle.std.specs.Prelude.{◌≡◌, take};
 ghost use Rattle.admission.specs.declared.refusal.Refusal.TheVariants as refusals;
 ghost use Rattle.lines.specs.Lines.{lines_of};
 ghost use Rattle.one_line.specs.OneLine.{one_line};
@@ -63,22 +63,24 @@ impl From<EndsCrossed> for Refusal {
     }
 }
 
-// The best value on `line` within the circle and the earlier lines, which are lent as numbers, four a line; or what left
-// nothing of it. Refused where the ends of what is left are not in order at the clamp to a point.
+// The best value on `line` within the circle and the first `count` lines, which are lent as numbers, four a line; or
+// what left nothing of it. Refused where the ends of what is left are not in order at the clamp to a point.
 pub fn solve_linear_program_along_line(
     line: Line,
     radius: f32,
     lines: &[f32],
+    count: usize,
     optimal_value: OptimalValue,
 ) -> Result<AlongLine, EndsCrossed>
-    ensures { found_of result ≡ one_line (objective_of optimal_value) radius line (lines_of lines.now) }
+    ensures { found_of result ≡ one_line (objective_of optimal_value) radius line (take count (lines_of lines.now)) }
 {
+    let given = &lines[..4 * lines::count_given(lines, count)];
     let chord = match along_line::circle_interval(line, radius) {
         Ok(chord) => chord,
         Err(cause) => return Ok(AlongLine::Fails(0, cause)),
     };
-    match along_line::narrow_all(line, chord, lines) {
-        Ok(ends) => along_line::best_on(line, ends, lines.len() / 4, optimal_value),
+    match along_line::narrow_all(line, chord, given) {
+        Ok(ends) => along_line::best_on(line, ends, given.len() / 4, optimal_value),
         Err(Empty { looked, cause }) => Ok(AlongLine::Fails(looked, cause)),
     }
 }

@@ -60,7 +60,8 @@ fn pass_line(
     let along = one_line::solve_linear_program_along_line(
         line,
         radius,
-        &lines[..4 * index],
+        lines,
+        index,
         optimal_value,
     )?;
     match along {

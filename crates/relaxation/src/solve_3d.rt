@@ -128,7 +128,7 @@ fn relax_line(
     let mut tight = [0.0f32; 4 * (Line::MOST - 1)];
     let count = tighten_into(&lines[..4 * index], copied, constraint, &mut tight);
     let optimal_value = OptimalValue::Direction(constraint.direction.perp());
-    let inner = pass_2d::solve_linear_program_2d(&tight[..4 * count], radius, optimal_value)?;
+    let inner = pass_2d::solve_linear_program_2d(&tight, count, radius, optimal_value)?;
     // every line behind the copied ones was examined
     let probes = probes + (index - copied) as u32;
     after_inner(constraint, LinearProgram3D { probes, ..relaxed }, inner)

@@ -5,7 +5,7 @@ use Rattle.std.specs.Prelude.{Ok}
 use Rattle.std.proofs.lemmas.Result.{err_from_is_err_and}
 use Rattle.arithmetic.specs.Binary32.{when◌then◌else◌}
 use Rattle.lines.specs.Lines.{lines_of}
-use Rattle.lines.proofs.Rows.{lines_fit, lines-take}
+use Rattle.lines.proofs.Rows.{lines_fit}
 use Rattle.pass_2d.specs.Pass.{solved, pass_line}
 use Rattle.pass_2d.proofs.Variants.{few-looked}
 use Rattle.pass_2d.proofs.solve_2d.pass_line.Goals as goal
@@ -26,7 +26,7 @@ returns-in_err-along c =
     simp (
       p.1,
       p.2,
-      ← rw (lines-take c.args.lines.now c.args.index) at c.in_err-along.ensures,
+      ← c.in_err-along.ensures,
       c.if-determinant.false,
       ← c.determinant.ensures,
       ← c.sub.ensures,
@@ -41,7 +41,7 @@ returns-in_err-judge_point-in-At c =
     simp (
       p.1,
       p.2,
-      ← rw (lines-take c.args.lines.now c.args.index, c.in-At.is) at c.in_ok-along.ensures,
+      ← rw c.in-At.is at c.in_ok-along.ensures,
       c.if-determinant.false,
       ← c.determinant.ensures,
       ← c.sub.ensures,
@@ -50,21 +50,21 @@ returns-in_err-judge_point-in-At c =
 
 pub overflow_cast-result : goal.overflow_cast-result
 overflow_cast-result c =
-    let found = rw (lines-take c.args.lines.now c.args.index) at c.in_ok-along.ensures in
-    let few = few-looked _ _ _ c.args.lines.now _ (omega arith) (omega arith) (Ok c.in_ok-along.along) found in
+    let along = c.in_ok-along in
+    let few = few-looked _ _ _ c.args.lines.now _ (omega arith) (omega arith) (Ok along.along) along.ensures in
     omega (arith, rw c.in-At.is at few)
 
 pub overflow_add-result-in-At-2 : goal.overflow_add-result-in-At-2
 overflow_add-result-in-At-2 c =
-    let found = rw (lines-take c.args.lines.now c.args.index) at c.in_ok-along.ensures in
-    let few = few-looked _ _ _ c.args.lines.now _ (omega arith) (omega arith) (Ok c.in_ok-along.along) found in
+    let along = c.in_ok-along in
+    let few = few-looked _ _ _ c.args.lines.now _ (omega arith) (omega arith) (Ok along.along) along.ensures in
     omega (arith, rw c.in-At.is at few)
 
 pub returns-in_ok-judge_point-in-At : goal.returns-in_ok-judge_point-in-At
 unfolding pass_line when◌then◌else◌ solved
 returns-in_ok-judge_point-in-At c =
     simp (
-      ← rw (lines-take c.args.lines.now c.args.index, c.in-At.is) at c.in_ok-along.ensures,
+      ← rw c.in-At.is at c.in_ok-along.ensures,
       c.if-determinant.false,
       ← c.determinant.ensures,
       ← c.sub.ensures,
@@ -73,14 +73,14 @@ returns-in_ok-judge_point-in-At c =
 
 pub overflow_cast-result-in-Fails : goal.overflow_cast-result-in-Fails
 overflow_cast-result-in-Fails c =
-    let found = rw (lines-take c.args.lines.now c.args.index) at c.in_ok-along.ensures in
-    let few = few-looked _ _ _ c.args.lines.now _ (omega arith) (omega arith) (Ok c.in_ok-along.along) found in
+    let along = c.in_ok-along in
+    let few = few-looked _ _ _ c.args.lines.now _ (omega arith) (omega arith) (Ok along.along) along.ensures in
     omega (arith, rw c.in-Fails.is at few)
 
 pub overflow_add-result-in-Fails-2 : goal.overflow_add-result-in-Fails-2
 overflow_add-result-in-Fails-2 c =
-    let found = rw (lines-take c.args.lines.now c.args.index) at c.in_ok-along.ensures in
-    let few = few-looked _ _ _ c.args.lines.now _ (omega arith) (omega arith) (Ok c.in_ok-along.along) found in
+    let along = c.in_ok-along in
+    let few = few-looked _ _ _ c.args.lines.now _ (omega arith) (omega arith) (Ok along.along) along.ensures in
     omega (arith, rw c.in-Fails.is at few)
 
 pub returns-in-Fails : goal.returns-in-Fails
@@ -90,7 +90,7 @@ returns-in-Fails c =
     let short = length-take-le a.index (lines_of a.lines.now) (lines_fit a.lines.now a.index (omega arith)) in
     simp (
       short,
-      ← rw (lines-take c.args.lines.now c.args.index, c.in-Fails.is) at c.in_ok-along.ensures,
+      ← rw c.in-Fails.is at c.in_ok-along.ensures,
       c.if-determinant.false,
       ← c.determinant.ensures,
       ← c.sub.ensures,

@@ -28,7 +28,6 @@ returns-in_err-inner c =
     let short = length-take-le a.index (lines_of a.lines.now) (lines_fit a.lines.now a.index (omega arith)) in
     let tight = rw (lines-take a.lines.now a.index) at c.tighten_into-count.ensures.2 in
     let list = tight ∙ lesser-rigid _ _ _ short c.min-copied.ensures in
-    let inner = rw (lines-take c.tighten_into-count.new.tight c.tighten_into-count.result) at c.in_err-inner.ensures in
     let long = length-take-le (4 * a.index) a.lines.now (omega arith) in
     let few : c.tighten_into-count.result ≤ most_lines = let k = c.tighten_into-count.ensures.0 in omega arith in
     simp (
@@ -39,7 +38,7 @@ returns-in_err-inner c =
       c.if-depth_in-relaxed.false,
       ← c.depth_in.ensures,
       ← c.line_at-constraint.ensures,
-      ← (inner ∙ few-called _ _ _ (taken-most _ _ few)),
+      ← (c.in_err-inner.ensures ∙ few-called _ _ _ (taken-most _ _ few)),
     )
 
 pub after_inner-requires : goal.after_inner-requires
@@ -47,10 +46,10 @@ after_inner-requires c =
     let k = c.tighten_into-count.ensures.0 in
     let long = length-take-le (4 * c.args.index) c.args.lines.now (omega arith) in
     let few : c.tighten_into-count.result ≤ most_lines = omega arith in
-    let inner = rw (lines-take c.tighten_into-count.new.tight c.tighten_into-count.result) at c.in_ok-inner.ensures in (
+    let inner = c.in_ok-inner in (
       omega arith,
-      inner-solve-most _ _ _ (Ok c.in_ok-inner.inner) (simp length-take (omega (arith, k, long)))
-          (inner ∙ few-called _ _ _ (taken-most _ _ few)),
+      inner-solve-most _ _ _ (Ok inner.inner) (simp length-take (omega (arith, k, long)))
+          (inner.ensures ∙ few-called _ _ _ (taken-most _ _ few)),
     )
 
 pub returns : goal.returns
@@ -60,7 +59,6 @@ returns c =
     let short = length-take-le a.index (lines_of a.lines.now) (lines_fit a.lines.now a.index (omega arith)) in
     let tight = rw (lines-take a.lines.now a.index) at c.tighten_into-count.ensures.2 in
     let list = tight ∙ lesser-rigid _ _ _ short c.min-copied.ensures in
-    let inner = rw (lines-take c.tighten_into-count.new.tight c.tighten_into-count.result) at c.in_ok-inner.ensures in
     let long = length-take-le (4 * a.index) a.lines.now (omega arith) in
     let few : c.tighten_into-count.result ≤ most_lines = let k = c.tighten_into-count.ensures.0 in omega arith in
     simp (
@@ -70,6 +68,6 @@ returns c =
       c.if-depth_in-relaxed.false,
       ← c.depth_in.ensures,
       ← c.line_at-constraint.ensures,
-      ← (inner ∙ few-called _ _ _ (taken-most _ _ few)),
+      ← (c.in_ok-inner.ensures ∙ few-called _ _ _ (taken-most _ _ few)),
       ← c.after_inner.ensures,
     )
