@@ -8,7 +8,7 @@ use Rattle.pass_2d.specs.Pass.{pass_line}
 use Rattle.one_line.specs.Read.{objective_of}
 use Rattle.lines.proofs.Rows.{lines_long}
 use Rattle.pass_2d.proofs.WalkLaws.{walk-on, walk-stop, walk-done}
-use Rattle.pass_2d.proofs.Variants.{ended-stays}
+use Rattle.pass_2d.proofs.Variants.{failed-stays}
 use Rattle.pass_2d.proofs.Probes.{line-most}
 use Rattle.pass_2d.proofs.solve_2d.pass_from.Goals as goal
 
@@ -28,7 +28,7 @@ returns-in_default c =
     let l = c.loop-i in
     let long = lines_long a.lines.now in
     sym (l.invariant.1 ∙ walk-stop (pass_line (objective_of a.optimal_value) a.radius) (lines_of a.lines.now) l.i off_line
-    (omega arith) (sym c.in_ok-failed.ensures) (ended-stays _ _ c.in_ok-failed.failed c.in_default.not-Feasible))
+    (omega arith) (sym c.in_ok-failed.ensures) (failed-stays _ _ c.in_ok-failed.failed c.in_default.not-Feasible))
 
 pub loop-i-preserved : goal.loop-i-preserved
 loop-i-preserved c =
