@@ -6,6 +6,7 @@ use Rattle.lines.specs.declared.Line.{Line}
 use Rattle.lines.specs.Lines.{numbers_of}
 use Rattle.admission.specs.declared.refusal.Refusal.{Refusal}
 use Rattle.admission.specs.Refusals.{number_of, refusal_of}
+use Rattle.admission.specs.Faults.{Fault, fine, fault}
 use Rattle.obstacles.specs.declared.ObstacleLines.{ObstacleLines}
 use Rattle.obstacles.specs.Obstacles.{Answer, lines, refused, Admitted, kept, nothing_kept, not_admitted}
 
@@ -31,3 +32,12 @@ answer_as (lines ls) = Ok (record {
   count = length ls;
 })
 answer_as (refused r) = Err (refusal_of r)
+
+-- the number that its refusal is told with, if it is one; and the number that an answer refuses with
+abbrev pub told_of : Result ObstacleLines Refusal → Fault
+told_of (Ok l) = fine
+told_of (Err r) = fault (number_of r)
+
+abbrev pub fault_in : Answer → Fault
+fault_in (lines ls) = fine
+fault_in (refused r) = fault r

@@ -10,7 +10,7 @@ ghost use Rattle.lines.specs.Lines.{lines_of};
 ghost use Rattle.obstacles.specs.Vertices.{vertices_of};
 ghost use Rattle.obstacles.specs.Doubled.{doubled, follows, closes};
 ghost use Rattle.obstacles.specs.Obstacles.{obstacle_call, edge_count, line_alone, ends_of};
-ghost use Rattle.obstacles.specs.Read.{admitted_of, answer_as};
+ghost use Rattle.obstacles.specs.Read.{admitted_of, answer_as, told_of, fault_in};
 
 use admission::{Head, Judged, Refusal, is_inside, is_within};
 use common::Vec2;
@@ -47,7 +47,8 @@ pub fn get_lines_for_agent_to_obstacle(
     margin: f32,
     horizon: f32,
 ) -> Result<ObstacleLines, Refusal>
-    ensures { result ≡ answer_as (obstacle_call agent kind vertices.now count margin horizon) }
+    ensures answer { result ≡ answer_as (obstacle_call agent kind vertices.now count margin horizon) }
+    ensures told { told_of result ≡ fault_in (obstacle_call agent kind vertices.now count margin horizon) }
 {
     judge_agent(agent, margin, horizon)?;
     judge::judge_obstacle(Head { kind, count }, vertices)?;

@@ -23,4 +23,4 @@ returns c =
       le-leb _ _ c.if-kind-gt255.false,
     )
     (c.is_answer.ensures ∙ ap (is_answer _ _ _)
-    c.get_lines_for_agent_to_obstacle-made.ensures)
+    c.get_lines_for_agent_to_obstacle-made.ensures.answer)

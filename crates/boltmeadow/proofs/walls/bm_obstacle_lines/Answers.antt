@@ -6,4 +6,4 @@ use Rattle.boltmeadow.proofs.walls.bm_obstacle_lines.Goals as goal
 
 pub returns-in-Err : goal.returns-in-Err
 unfolding no_obstacle blank_numbers
-returns-in-Err c = rw (c.from.ensures, c.number.ensures) (ap obstacle_told (sym c.in-Err.is ∙ c.get_lines_for_agent_to_obstacle-made.ensures))
+returns-in-Err c = rw (c.from.ensures, c.number.ensures) (ap obstacle_told (sym c.in-Err.is ∙ c.get_lines_for_agent_to_obstacle-made.ensures.answer))
