@@ -20,7 +20,6 @@ use Rattle.admission.proofs.FaultLaws.{⊳-fine, must-fine}
 use Rattle.common.specs.declared.Vec2.{Vec2}
 use Rattle.common.specs.Vectors.{reach}
 use Rattle.lines.specs.declared.Line.{Line}
-use Rattle.lines.specs.declared.Origin.{Origin}
 use Rattle.lines.specs.Lines.{lines_of}
 use Rattle.lines.specs.LineFaults.{lines_fault}
 use Rattle.linear_programming.specs.Admit.{wish_fault, count_fault, admitted_call}
@@ -34,6 +33,7 @@ use Rattle.obstacles.specs.Obstacles.{Answer, lines, refused}
 use Rattle.obstacles.proofs.EdgesInOrder.{FewAdmitted, refuses, few-admitted, lines-few-admitted}
 use Rattle.std.specs.Prelude.{Result, Ok, Err}
 use Rattle.dodgy_2d.specs.declared.Scene.{Scene}
+use Rattle.dodgy_2d.specs.declared.edge_lines.Wall.{Wall}
 use Rattle.dodgy_2d.specs.Scenes.{heads_in, neighbours_in, cart_fault, obstacles_fault, scene_fault}
 use Rattle.dodgy_2d.specs.Outcomes.{joined, edge_lines, edges_at, solved_over, pass_at, scene_outcome}
 use Rattle.dodgy_2d.specs.Origins.{edge_origins_at, scene_origin}
@@ -197,7 +197,7 @@ put-pasted b more at k n {put} e f h =
 
 -- ---- the choice of lines: obstacles that are refused, or their lines with the neighbours' copied behind
 
-module _ (s : Scene) (velocity : Vec2) (b : List Float) (walls : List Origin) (made : Result ℕ Refusal)
+module _ (s : Scene) (velocity : Vec2) (b : List Float) (walls : List Wall) (made : Result ℕ Refusal)
     (edges : edges_of made b ≡ edges_at s velocity) (told : WallsAre walls (edge_origins_at s velocity) made) where
   pub none-chosen : {r : Refusal} → made ≡ Err r → Chosen s velocity b walls made
   none-chosen {r} same =

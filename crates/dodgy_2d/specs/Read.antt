@@ -1,16 +1,17 @@
 -- What a scene's answer says, in 01's outcomes and numbers. Definitions only. Assumes nothing.
-use Rattle.std.specs.Prelude.{ℕ, ◌+◌, ◌*◌, ◌≤◌, ◌≡◌, List, take, eqb, Float, Result, Ok, Err}
+use Rattle.std.specs.Prelude.{ℕ, ◌+◌, ◌*◌, ◌≤◌, ◌≡◌, List, map, take, eqb, Float, Result, Ok, Err}
 use Rattle.arithmetic.specs.Binary32.{when◌then◌else◌}
 use Rattle.admission.specs.declared.refusal.Refusal.{Refusal}
 use Rattle.admission.specs.Refusals.{number_of, refusal_of}
 use Rattle.common.specs.declared.Vec2.{Vec2}
 use Rattle.lines.specs.Lines.{lines_of}
 use Rattle.lines.specs.declared.Origin.{Origin}
-use Rattle.lines.specs.Origins.{unknown}
+use Rattle.lines.specs.Origins.{unknown, edge_origin}
 use Rattle.linear_programming.specs.Whole.{Outcome as ListOutcome, refusal}
 use Rattle.linear_programming.specs.Read.{failed_of, failed_as, outcome_of as list_outcome_of}
 use Rattle.dodgy_2d.specs.declared.Outcome.{Outcome}
 use Rattle.dodgy_2d.specs.declared.Outcome.TheVariants as code
+use Rattle.dodgy_2d.specs.declared.edge_lines.Wall.{Wall}
 use Rattle.dodgy_2d.specs.declared.passes.Passed.{Passed}
 use Rattle.obstacles.specs.Obstacles.{Answer, lines, refused}
 use Rattle.dodgy_2d.specs.declared.Scene.{Scene}
@@ -39,7 +40,8 @@ abbrev pub outcome_of : Result SceneAnswer Refusal → SceneOutcome
 outcome_of (Ok a) = outcome (code_of a.outcome) a.velocity (failed_of a.failed) a.probes
 outcome_of (Err r) = refused_scene (number_of r)
 
-abbrev pub origin_of : Result SceneAnswer Refusal → Origin
+-- whatever the refusal is
+abbrev pub origin_of : {E : Type 0} → Result SceneAnswer E → Origin
 origin_of (Ok a) = a.origin
 origin_of (Err r) = unknown
 
@@ -61,12 +63,12 @@ abbrev pub count_in : Result ℕ Refusal → ℕ
 count_in (Ok n) = n
 count_in (Err r) = 0
 
--- the walls that are noted of the first n lines
-abbrev pub walls_in : ℕ → List Origin → List Origin
-walls_in n walls = take n walls
+-- the origins of the first n lines, whose walls are noted: the obstacle's place, and the left vertex
+abbrev pub walls_in : ℕ → List Wall → List Origin
+walls_in n walls = map (λ (w : Wall). edge_origin w.place w.vertex) (take n walls)
 
 -- they are these, where the obstacles' lines are not refused
-pub data WallsAre (walls : List Origin) (origins : List Origin) : Result ℕ Refusal → Type 0 where
+pub data WallsAre (walls : List Wall) (origins : List Origin) : Result ℕ Refusal → Type 0 where
   counted : {n : ℕ} → walls_in n walls ≡ origins → WallsAre walls origins (Ok n)
   none_told : {r : Refusal} → WallsAre walls origins (Err r)
 
@@ -76,7 +78,7 @@ all_of neighbours (Ok n) numbers = lines (lines_of (take (4 * (n + neighbours)) 
 all_of neighbours (Err r) numbers = refused (number_of r)
 
 -- a pass's lines stand in lent numbers, "obstacle lines (rigid), then neighbour lines", and the rigid ones' walls are noted
-pub record Chosen (s : Scene) (velocity : Vec2) (numbers : List Float) (walls : List Origin) (r : Result ℕ Refusal) : Type 0 where
+pub record Chosen (s : Scene) (velocity : Vec2) (numbers : List Float) (walls : List Wall) (r : Result ℕ Refusal) : Type 0 where
   pub few : count_in r ≤ 192
   pub rigid : edges_of r numbers ≡ edges_at s velocity
   pub all : all_of s.neighbours r numbers ≡ joined (edges_at s velocity) (lines (neighbours_in s))

@@ -1,5 +1,4 @@
-// The obstacles' lines, obstacle behind obstacle, filled into numbers, four a line; and beside them where each line
-// comes from.
+// The obstacles' lines, obstacle behind obstacle, filled into numbers, four a line; and beside them each line's wall.
 ghost use Rattle.std.specs.Prelude.{◌≡◌, ◌+◌, ◌*◌, ◌/◌, ◌≤◌, ◌<◌, ◌++◌, map, length, take};
 ghost use Rattle.lines.specs.Lines.{lines_of};
 ghost use Rattle.lines.specs.Origins.{edge_origin};
@@ -16,15 +15,41 @@ use common::Vec2;
 use edges::Agent;
 use lines::{Line, Origin};
 
-// The lines of a pass, and the origins of those that are of obstacles.
+// The edge that a line is of: its obstacle's place, and its left vertex there. A pass has an array of these to fill, so
+// they are small.
+#[derive(Clone, Copy)]
+pub(crate) struct Wall {
+    place: u8,
+    vertex: u8,
+}
+
+impl Wall {
+    // The first edge of the first obstacle, with which an array begins.
+    pub(crate) const FIRST: Wall = Wall {
+        place: 0,
+        vertex: 0,
+    };
+
+    pub(crate) fn origin(self) -> Origin
+        ensures { result ≡ edge_origin self.place self.vertex }
+    {
+        Origin {
+            kind: Origin::EDGE,
+            place: u32::from(self.place),
+            vertex: u32::from(self.vertex),
+        }
+    }
+}
+
+// The lines of a pass, and the walls of those that are of obstacles.
 #[derive(Drop)]
 pub(crate) struct PassLines {
     pub(crate) numbers: [f32; 4 * Line::MOST],
-    pub(crate) walls: [Origin; Head::MOST_TOGETHER],
+    pub(crate) walls: [Wall; Head::MOST_TOGETHER],
     ghost room: { (length numbers ≡ 1024) × (length walls ≡ 192) },
 }
 
-// The lines of one obstacle behind the `count` lines that stand, and their origins; how many stand then. Its edges see
+// The lines of one obstacle behind the `count` lines that stand, and their walls; how many stand then. Its edges see
 // the lines that it made itself, and no others.
 fn add_obstacle(
     cart: BareScene,
@@ -55,10 +80,9 @@ fn add_obstacle(
         )?;
         if let Some(line) = made {
             lines::put_line(&mut lines.numbers, count + own, line);
-            lines.walls[count + own] = Origin {
-                kind: Origin::EDGE,
-                place: place as u32,
-                vertex: i as u32,
+            lines.walls[count + own] = Wall {
+                place: place as u8,
+                vertex: i as u8,
             };
             own += 1;
         }

@@ -105,8 +105,8 @@ pub struct SceneAnswer {
 }
 
 impl SceneAnswer {
-    // Where the failed line of an answer comes from; unknown where the scene is refused.
-    pub fn origin(answer: Result<SceneAnswer, Refusal>) -> Origin
+    // Where the failed line of an answer comes from; unknown where the scene is refused, whatever the refusal is.
+    pub fn origin<E: Drop>(answer: Result<SceneAnswer, E>) -> Origin
         ensures { result ≡ origin_of answer }
     {
         match answer {

@@ -7,7 +7,7 @@ ghost use Rattle.dodgy_2d.specs.Origins.{neighbours_from, failed_origin, pass_or
 ghost use Rattle.dodgy_2d.specs.Read.{outcome_of, origin_of, pass_of, pass_origin_of, walls_in, Chosen};
 ghost use Rattle.dodgy_2d.specs.Admitted.{first_answer, last_origin};
 
-use crate::edge_lines::PassLines;
+use crate::edge_lines::{PassLines, Wall};
 use crate::sized::SizedScene;
 use crate::{Outcome, SceneAnswer, edge_lines};
 use admission::{Head, Refusal};
@@ -45,12 +45,12 @@ impl Passed {
 
 // The origin of the line at an index: its edge's, as noted among the walls of the rigid lines, or behind them its place
 // among the neighbours.
-fn origin_at(walls: &[Origin], neighbours: usize, index: usize) -> Origin
+fn origin_at(walls: &[Wall], neighbours: usize, index: usize) -> Origin
     requires { neighbours ≤ 64 }
     ensures { result ≡ get_or (walls_in (length walls.now) walls.now ++ neighbours_from 0 neighbours) index unknown }
 {
     if let Some(&wall) = walls.get(index) {
-        return wall;
+        return wall.origin();
     }
     let place = index - walls.len();
     if place < neighbours {
@@ -64,7 +64,7 @@ fn origin_at(walls: &[Origin], neighbours: usize, index: usize) -> Origin
 }
 
 // The origin of the line that failed, unknown where none did.
-fn failed_origin(standing: Standing, walls: &[Origin], neighbours: usize) -> Origin
+fn failed_origin(standing: Standing, walls: &[Wall], neighbours: usize) -> Origin
     requires { neighbours ≤ 64 }
     ensures { result ≡ failed_origin (walls_in (length walls.now) walls.now ++ neighbours_from 0 neighbours)
         (list_outcome_of (Ok standing)) }
@@ -98,7 +98,7 @@ fn pass(scene: &SizedScene<'_>, velocity: Vec2) -> Result<Passed, Refusal>
 {
     let mut lines = PassLines {
         numbers: [0.0; 4 * Line::MOST],
-        walls: [Origin::UNKNOWN; Head::MOST_TOGETHER],
+        walls: [Wall::FIRST; Head::MOST_TOGETHER],
     };
     let rigid = choose_lines(scene, velocity, &mut lines)?;
     let cart = scene.bare;
