@@ -76,8 +76,9 @@ pub(crate) fn judge_sizes(
 ) -> Judged
     ensures { fault_of result ≡ sizes_fault (scene_from scene kinds counts vertices.now lines.now) }
 {
-    Refusal::TooMany.unless(scene.obstacles <= Scene::MOST_OBSTACLES)?;
-    let total = count_vertices(&counts[..scene.obstacles]);
+    let obstacles = scene.obstacles;
+    Refusal::TooMany.unless(obstacles <= Scene::MOST_OBSTACLES)?;
+    let total = count_vertices(&counts[..obstacles]);
     Refusal::TooMany.unless(total <= Head::MOST_TOGETHER)?;
     Refusal::MissingOrLeftOver.unless(total <= vertices.len() / 2)?;
     Refusal::TooMany.unless(scene.neighbours <= Scene::MOST_NEIGHBOURS)?;

@@ -17,7 +17,7 @@ use Rattle.layouts.proofs.LentInOrder.{count_room, front_of, own_room, own-there
 
 -- ---- a field that passes is there
 
-kind-lent : (ks : List ℕ) → kind_fault ks ≡ fine → 1 ≤ length ks
+pub kind-lent : (ks : List ℕ) → kind_fault ks ≡ fine → 1 ≤ length ks
 unfolding kind_fault
 kind-lent [] e = absurd (no-fault 2 (sym e))
 kind-lent (k ∷ ks) e = omega arith

@@ -90,7 +90,10 @@ fn judge_obstacle(
 {
     let kind = kind_at(kinds, i)?;
     let count = count_at(total, kind, counts, i)?;
-    let own = Head { kind, count };
+    let own = Head {
+        kind: kinds[i],
+        count,
+    };
     obstacles::judge_outline(own, &vertices[2 * total..])?;
     Ok(count)
 }
