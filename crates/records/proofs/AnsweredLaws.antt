@@ -35,7 +35,7 @@ use Rattle.scene_records.specs.Versions.{Numbered, scene_in, numbered_as}
 use Rattle.scene_records.proofs.ReadAdmitted.{read-admitted}
 use Rattle.answer_records.specs.Answers.{longest_answer, answer_bytes, refusal_bytes, Written, written, laid}
 use Rattle.answer_records.proofs.WrittenLaws.{laid-there}
-use Rattle.records.specs.Answered.{Answered, answer, refusal, answer_of, of_outcome, of_reading, answered, laid_answer, answer_to, Solved, solved, solved_in, scene_answer, scene_answer_to, reply_bytes, reply_to}
+use Rattle.records.specs.Answered.{Answered, answer, refusal, answer_of, of_outcome, of_reading, answered, laid_answer, answer_to, Solved, solved, solved_in, scene_answer, scene_answer_to, reading_outcome, record_outcome, reply_bytes, reply_to}
 use Rattle.records.specs.Steps.{put, put_at}
 
 -- ---- the reader's promise
@@ -71,15 +71,23 @@ outcome-told c f (refused_scene m) (at-fault g) from = absurd (no-fault m (sym f
 outcome-told c f (refused_scene m) (by-edge nine g h) from = rw (nine, numbered-back 9 refl)
 outcome-told c f (refused_scene m) (by-edge-at-rest nine g h) from = rw (nine, numbered-back 9 refl)
 
+-- the answer says what the reading says, in its own number
+reading-told : (bytes : List ℕ) (g : Got Numbered) → scene_in bytes ≡ g → NumberedReading g →
+    outcome_of (solved_in g) ≡ reading_outcome g
+reading-told bytes (refused r) z h = rw (numbered-back r (refused-numbered h))
+reading-told bytes (got x at) z h =
+    outcome-told x.scene (read-admitted bytes x at z) (scene_outcome x.scene) (scene-told x.scene) (scene_origin x.scene)
+
+told-read : (bytes : List ℕ) → outcome_of (solved_in (scene_in bytes)) ≡ reading_outcome (scene_in bytes)
+told-read bytes = reading-told bytes (scene_in bytes) refl (scene-numbered bytes)
+
 -- what is written of a reading is its outcome
-reading-outcome : (bytes : List ℕ) (g : Got Numbered) → scene_in bytes ≡ g → NumberedReading g →
-    of_reading g ≡ of_outcome (outcome_of (solved_in g))
-reading-outcome bytes (refused r) z h = rw (numbered-back r (refused-numbered h))
-reading-outcome bytes (got x at) z h =
-    rw (outcome-told x.scene (read-admitted bytes x at z) (scene_outcome x.scene) (scene-told x.scene) (scene_origin x.scene))
+as-read : (g : Got Numbered) → of_reading g ≡ of_outcome (reading_outcome g)
+as-read (refused r) = refl
+as-read (got x at) = refl
 
 outcome-read : (bytes : List ℕ) → of_reading (scene_in bytes) ≡ of_outcome (outcome_of (solved_in (scene_in bytes)))
-outcome-read bytes = reading-outcome bytes (scene_in bytes) refl (scene-numbered bytes)
+outcome-read bytes = as-read (scene_in bytes) ∙ ap of_outcome (sym (told-read bytes))
 
 -- ---- the first fault
 
@@ -106,6 +114,19 @@ module _ (bytes buffer : List ℕ) where
         (a : Result SceneAnswer Refusal) → a ≡ admitted_answer r.scene → (l : List ℕ) →
         l ≡ (laid_answer (of_outcome (outcome_of a)) buffer).contents → solved a l ≡ scene_answer_to bytes buffer
     outcome-solved r read long a e l f = room-solved h a (e ∙ read-solved bytes (scene_in bytes) refl r read long) l f
+
+-- ---- the answer in 01's own numbers
+
+module _ (bytes buffer : List ℕ) where
+  outcome-by-room : (b : Bool) → leb longest_answer (length buffer) ≡ b → outcome_of (scene_answer bytes buffer)
+      ≡ record_outcome bytes buffer
+  unfolding scene_answer record_outcome when◌then◌else◌
+  outcome-by-room true e = rw e (told-read bytes)
+  outcome-by-room false e = rw e
+
+  pub solved-told : {a : Result SceneAnswer Refusal} {l : List ℕ} → solved a l ≡ scene_answer_to bytes buffer →
+      outcome_of a ≡ record_outcome bytes buffer
+  solved-told e = ap (λ (s : Solved). outcome_of s.told) e ∙ outcome-by-room (leb longest_answer (length buffer)) refl
 
 -- ---- the answer with its failure forgotten
 

@@ -79,6 +79,15 @@ scene_answer bytes buffer = when leb longest_answer (length buffer) then solved_
 abbrev pub scene_answer_to : List ℕ → List ℕ → Solved
 scene_answer_to bytes buffer = solved (scene_answer bytes buffer) (answer_to bytes buffer).contents
 
+-- what is told in 01's own numbers: the outcome, beside it the failed line's cause; or the number of a refusal
+abbrev pub reading_outcome : Got Numbered → SceneOutcome
+reading_outcome (refused r) = refused_scene r
+reading_outcome (got x at) = scene_outcome x.scene
+
+unfoldable pub record_outcome : List ℕ → List ℕ → SceneOutcome
+record_outcome bytes buffer =
+    when leb longest_answer (length buffer) then reading_outcome (scene_in bytes) else refused_scene 10
+
 -- ---- the program's reply
 
 -- "The program writes a refused scene as 00 02 01 and 128 + number."

@@ -2,8 +2,9 @@
 #![tactic(auto)]
 
 ghost use Rattle.std.specs.Prelude.{◌≡◌};
+ghost use Rattle.dodgy_2d.specs.Read.{outcome_of};
 ghost use Rattle.answer_records.specs.Answers.{written_of};
-ghost use Rattle.records.specs.Answered.{answer_to, solved, scene_answer_to};
+ghost use Rattle.records.specs.Answered.{answer_to, solved, scene_answer_to, record_outcome};
 ghost use Rattle.records.specs.Parts.{part_of, part_in};
 ghost use Rattle.records.specs.Turns.{lent, turn_over};
 
@@ -82,7 +83,8 @@ pub fn answer_record(bytes: &[u8], buffer: &mut [u8]) -> Judged
 
 // `answer_record`, and what its bytes do not say: why the failed line failed, and where that line comes from.
 pub fn answer_scene(bytes: &[u8], buffer: &mut [u8]) -> Result<SceneAnswer, Refusal>
-    ensures { solved result buffer.new ≡ scene_answer_to bytes.now buffer.old }
+    ensures answer { solved result buffer.new ≡ scene_answer_to bytes.now buffer.old }
+    ensures told { outcome_of result ≡ record_outcome bytes.now buffer.old }
 {
     if buffer.len() < Answer::BYTES {
         return Err(Refusal::NoRoom);
