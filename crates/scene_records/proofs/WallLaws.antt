@@ -8,15 +8,20 @@ use mathlib.Core.List.{List, [], ◌∷◌, ◌++◌, append_assoc}
 use lib.ListN.{length, take, drop, set}
 use lib.Seq.{sets, sets-eq, take_at, drop_at, length-take-le}
 use lib.Ieee.{Float}
+use Rattle.std.specs.Prelude.{Result}
 use Rattle.admission.specs.declared.Head.{Head}
-use Rattle.admission.specs.Faults.{fine, fault, must}
+use Rattle.admission.specs.declared.refusal.Refusal.{Refusal}
+use Rattle.admission.specs.Faults.{fine, fault, must, within}
 use Rattle.common.specs.declared.Vec2.{Vec2}
+use Rattle.common.specs.Vectors.{reach}
+use Rattle.edges.specs.Edges.{OuterVertex}
 use Rattle.obstacles.specs.Vertices.{vertices_of}
-use Rattle.obstacles.specs.Doubled.{none_before, on_vertex, closes}
+use Rattle.obstacles.specs.Doubled.{follows, none_before, on_vertex, closes}
 use Rattle.fields.specs.Bytes.{each}
-use Rattle.fields.specs.Got.{Got, refused, got, then, many}
+use Rattle.fields.specs.Got.{Got, refused, got, then, guard, many}
 use Rattle.fields.proofs.ChainLaws.{apart, got_same, then-got, guard-got, many-length}
 use Rattle.fields.proofs.StoreLaws.{sets-append}
+use Rattle.scene_records.specs.Steps.{read_of, vector}
 use Rattle.scene_records.specs.Parts.{head, vertex, vertices_at, outline, Obstacle, numbers_in, obstacle, obstacles, stored, coordinates, Walls, walls, stored_walls}
 use Rattle.scene_records.proofs.Chains.{guard-refused, guard-passed}
 
@@ -31,6 +36,14 @@ pub vertices-back : (vs : List Vec2) → vertices_of (each coordinates vs) ≡ v
 unfolding vertices_of each
 vertices-back [] = refl
 vertices-back (v ∷ vs) = ap (λ (l : List Vec2). v ∷ l) (vertices-back vs)
+
+-- A vertex is what is read of it as two numbers in range, where it is not the one before it again; else it is refused
+-- with 14, and a refusal of the numbers stays.
+pub vertex-read : (s : List ℕ) (before : OuterVertex) (at : ℕ) (read : Result (Vec2 × ℕ) Refusal) →
+    read_of read ≡ vector (within reach) s at →
+    then (read_of read) (λ v a. guard (follows before v) 14 (got v a)) ≡ vertex s before at
+unfolding vertex
+vertex-read s before at read e = rw e refl
 
 -- as many as were asked for
 vertices-count : (s : List ℕ) (n at : ℕ) (vs : List Vec2) (m : ℕ) → vertices_at s none_before n at ≡ got vs m →
