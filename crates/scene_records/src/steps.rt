@@ -4,7 +4,7 @@ ghost use Rattle.fields.specs.Got.{word};
 ghost use Rattle.scene_records.specs.Steps.{read_of, told, rule_of, number, vector, version, count, ended};
 ghost use Rattle.scene_records.specs.Versions.{byte_of, either_version};
 
-use crate::{Read, Version};
+use crate::{NumberedScene, Read, Version};
 use admission::Refusal;
 use common::Vec2;
 
@@ -54,7 +54,7 @@ pub(crate) fn either_version_at(bytes: &[u8], at: usize) -> Read<Version>
     let (byte, at) = byte_at(bytes, at)?;
     match byte {
         1 => Ok((Version::One, at)),
-        2 => Ok((Version::Two, at)),
+        NumberedScene::VERSION => Ok((Version::Two, at)),
         _ => Err(Refusal::OtherVersion),
     }
 }
