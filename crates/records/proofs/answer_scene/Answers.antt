@@ -10,26 +10,25 @@ returns-then-buffer-lt-BYTES c =
     let solved = no-room-solved a.bytes.now a.buffer.now c.if-buffer-lt-BYTES.true in
     record { answer = solved; told = solved-told _ _ solved }
 
-pub returns-in_err-read : goal.returns-in_err-read
-returns-in_err-read c =
+pub returns-in-Err : goal.returns-in-Err
+returns-in-Err c =
     let a = c.args in
-    let solved = refused-solved a.bytes.now a.buffer.now c.if-buffer-lt-BYTES.false _ c.in_err-read.ensures.answer in
-    rw (result-exit c.from_residual.result _ c.from_residual.ensures.1)
-    (record { answer = solved; told = solved-told _ _ solved })
+    let solved = refused-solved a.bytes.now a.buffer.now c.if-buffer-lt-BYTES.false _ c.in-Err.ensures.answer in
+    record { answer = solved; told = solved-told _ _ solved }
 
 pub returns-in_err-answer : goal.returns-in_err-answer
 returns-in_err-answer c =
     let a = c.args in
-    let size : length c.in_ok-read.read.scene.lines ≡ 256 = search rules in
-    let solved = outcome-solved a.bytes.now a.buffer.now c.if-buffer-lt-BYTES.false _ c.in_ok-read.ensures.answer size _
+    let size : length c.in-Ok.read.scene.lines ≡ 256 = search rules in
+    let solved = outcome-solved a.bytes.now a.buffer.now c.if-buffer-lt-BYTES.false _ c.in-Ok.ensures.answer size _
     (rw c.bare-bare.ensures at c.in_err-answer.ensures.answer) _ refl in
-    rw (result-exit c.from_residual-in_err-answer.result _ c.from_residual-in_err-answer.ensures.1)
+    rw (result-exit c.from_residual.result _ c.from_residual.ensures.1)
     (record { answer = solved; told = solved-told _ _ solved })
 
 pub returns : goal.returns
 returns c =
     let a = c.args in
-    let size : length c.in_ok-read.read.scene.lines ≡ 256 = search rules in
-    let solved = outcome-solved a.bytes.now a.buffer.now c.if-buffer-lt-BYTES.false _ c.in_ok-read.ensures.answer size _
+    let size : length c.in-Ok.read.scene.lines ≡ 256 = search rules in
+    let solved = outcome-solved a.bytes.now a.buffer.now c.if-buffer-lt-BYTES.false _ c.in-Ok.ensures.answer size _
     (rw c.bare-bare.ensures at c.in_ok-answer.ensures.answer) _ c.write_outcome.ensures in
     record { answer = solved; told = solved-told _ _ solved }
