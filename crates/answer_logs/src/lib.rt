@@ -94,6 +94,9 @@ fn logged_at(log: &[u8], at: usize) -> Logged
     }
     let behind = at + 2 + words::pair_at(log, at) as usize;
     Refusal::MissingOrLeftOver.unless(behind <= log.len())?;
-    let reply = answer_records::read_answer(&log[at..behind])?;
-    Ok(Some((reply, behind)))
+    // kept: must-fail fault_handed_on_as_refusal plants its mistake in an arm, where `?` has none
+    match answer_records::read_answer(&log[at..behind]) {
+        Ok(reply) => Ok(Some((reply, behind))),
+        Err(refusal) => Err(refusal),
+    }
 }

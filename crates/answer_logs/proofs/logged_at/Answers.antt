@@ -1,6 +1,5 @@
 -- `answer_logs::logged_at` meets its contract. Assumes nothing.
 use native.Mathlib.Omega.{arith}
-use Rattle.std.proofs.Common.{rules}
 use borrow.Author.Tests.{leb-false}
 use mathlib.Core.Path.{refl, ap, ◌∙◌}
 use Rattle.std.proofs.lemmas.Result.{err_from_is_err_and}
@@ -20,13 +19,12 @@ returns-in_err-unless c =
     let told = rule-told _ _ _ (rw c.in_err-unless.was at c.unless.ensures) in
     rw (p.1, p.2) (ap faulty told.1 ∙ at_cut _ _ c.if-log-at.false c.pair_at.ensures (leb-false _ _ told.0))
 
-pub returns-in_err-reply : goal.returns-in_err-reply
-returns-in_err-reply c =
+pub returns-in-Ok : goal.returns-in-Ok
+returns-in-Ok c =
     let a = c.args in
-    rw (← at-reply a.log.now a.at c.if-log-at.false c.pair_at.ensures c.in_err-reply.ensures) (search rules)
+    said-placed _ _ ∙ at-reply a.log.now a.at c.if-log-at.false c.pair_at.ensures (rw c.in-Ok.is at c.read_answer.ensures)
 
-pub returns : goal.returns
-returns c =
+pub returns-in-Err : goal.returns-in-Err
+returns-in-Err c =
     let a = c.args in
-    said-placed _ c.in_ok-reply.reply
-    ∙ at-reply a.log.now a.at c.if-log-at.false c.pair_at.ensures (rw c.in_ok-reply.was at c.read_answer.ensures)
+    at-reply a.log.now a.at c.if-log-at.false c.pair_at.ensures (rw c.in-Err.is at c.read_answer.ensures)
