@@ -7,12 +7,15 @@ use mathlib.Core.Bool.{Bool, true, false}
 use mathlib.Core.List.{List}
 use lib.ListN.{length, take, drop, length-take, length-drop}
 use lib.Seq.{take-take, drop-drop}
-use Rattle.std.specs.Prelude.{Some, None, Ok, Err}
+use Rattle.std.specs.Prelude.{Option, Some, None, Result, Ok, Err}
 use Rattle.arithmetic.specs.Binary32.{when◌then◌else◌}
+use Rattle.admission.specs.declared.refusal.Refusal.{Refusal}
 use Rattle.answer_records.specs.Answers.{longest_answer}
-use Rattle.answer_logs.specs.Logs.{Entry, outcome, refusal, Found, ended, bad, entry, found_in, logged_as, logged_at}
+use Rattle.answer_records.specs.declared.Reply.{Reply}
+use Rattle.answer_records.specs.Numbers.{numbered}
+use Rattle.answer_logs.specs.Logs.{Entry, outcome, refusal, Found, ended, bad, entry, found_in, Logged, logged_as, logged_at, logged_of}
 use Rattle.log_walks.specs.Figures.{is_fallback, fallback}
-use Rattle.log_walks.specs.Walks.{Met, more, onward, walked, own_bytes, reach_by, reach, passed_by, passed_at}
+use Rattle.log_walks.specs.Walks.{Met, more, onward, walked, own_bytes, reach_by, reach, passed_by, passed_at, passed, told_by, logged_by}
 use Rattle.log_walks.proofs.FoundLaws.{Sized, sized-end, sized, entry_found, size-within, own-entry, own-most, Alike, found_alike, end-alike, behind-alike}
 
 -- ---- what a walk rests on
@@ -122,6 +125,23 @@ module _ (log : List ℕ) (at : ℕ) where
     pub passed-walk : (n : ℕ) → walked (suc n) (drop at log) ≡ more m (walked n (drop behind log))
     unfolding walked
     passed-walk n = rw (r.there, drop-drop r.size at log, ← r.ends, ← r.counts)
+
+-- ---- what the code says, by a number for what it refuses with
+
+pub passed-by-number : {E : Type 0} (number : E → ℕ) (l : Result (Option (Reply × ℕ)) E) → told_by number (passed l)
+    ≡ passed_by (logged_by number l)
+passed-by-number number (Ok None) = refl
+passed-by-number number (Err e) = refl
+passed-by-number number (Ok (Some (r, behind))) = refl
+
+pub passed-numbered : (l : Result (Option (Reply × ℕ)) Refusal) → numbered (passed l) ≡ passed_by (logged_of l)
+passed-numbered (Ok None) = refl
+passed-numbered (Err e) = refl
+passed-numbered (Ok (Some (r, behind))) = refl
+
+pub passed-told : (l : Result (Option (Reply × ℕ)) Refusal) {r : Result (Option (ℕ × ℕ)) Refusal} {w : Logged} → r ≡ passed l →
+    logged_of l ≡ w → numbered r ≡ passed_by w
+passed-told l e p = ap numbered e ∙ passed-numbered l ∙ ap passed_by p
 
 -- ---- the walk's loop
 

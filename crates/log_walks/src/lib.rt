@@ -4,9 +4,9 @@
 ghost use Rattle.std.specs.Prelude.{◌≡◌};
 ghost use Rattle.arithmetic.specs.Binary32.{when◌then◌else◌};
 ghost use Rattle.answer_records.specs.Numbers.{numbered};
-ghost use Rattle.answer_logs.specs.Logs.{entry_of, logged_of};
+ghost use Rattle.answer_logs.specs.Logs.{entry_of};
 ghost use Rattle.log_walks.specs.Figures.{is_fallback, fallback};
-ghost use Rattle.log_walks.specs.Walks.{walked, passed_by};
+ghost use Rattle.log_walks.specs.Walks.{walked, passed};
 
 use admission::Refusal;
 use answer_logs::Logged;
@@ -32,11 +32,14 @@ pub fn walk(bytes: &[u8], count: usize) -> Result<u64, Refusal>
     Ok(met)
 }
 
-// What stands at a byte of a log, as a walk passes it.
-pub fn pass(logged: Logged) -> Passed
-    ensures { numbered result ≡ passed_by (logged_of logged) }
+// What stands at a byte of a log, as a walk passes it. What a bad record is refused with is handed on, whatever it is.
+pub fn pass<E: Drop>(logged: Result<Option<(Reply, usize)>, E>) -> Result<Option<(usize, u64)>, E>
+    ensures { result ≡ passed logged }
 {
-    Ok(logged?.map(|(reply, behind)| (behind, fallback_in(reply))))
+    Ok(logged?.map(|(reply, behind)| match reply {
+        Reply::Outcome(_) => (behind, fallback_in(reply)),
+        Reply::Refusal(_) => (behind, 0),
+    }))
 }
 
 // 1 for a record that is a fallback, else 0.
