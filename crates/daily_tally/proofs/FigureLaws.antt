@@ -10,9 +10,11 @@ use Rattle.arithmetic.proofs.Agree.{agree-read}
 use Rattle.arithmetic.proofs.Lists.{All, none, more}
 use Rattle.answer_logs.specs.Logs.{Entry, records_in}
 use Rattle.daily_tally.specs.declared.DayTally.{DayTally}
+use Rattle.daily_tally.specs.declared.Progress.{Progress}
 use Rattle.daily_tally.specs.declared.RefusedAt.{RefusedAt}
 use Rattle.daily_tally.specs.Figures as walked
 use Rattle.daily_tally.specs.Figures.{sum_of, largest_of, one, count_of, is_outcome, is_refusal, names_failed, probes_of, tally_of, Walked, Tallied, tallied, refused_by, tallied_of}
+use Rattle.daily_tally.specs.Steps.{Advance, advance_of}
 use Rattle.daily_tally.proofs.AddingLaws.{below_at}
 
 -- ---- the figures of a list
@@ -90,6 +92,28 @@ unfolding tallied_as
 tallied-back (Ok t) = refl
 tallied-back (Err e) = ap (λ (r : Refusal). Err (refused_by r e.place)) (refusal-back e.refusal)
 
+-- whatever tally is promised, of a log or of its last part
+pub tallied-agree : {one other : Result DayTally RefusedAt} {promised : Tallied} → tallied_of one ≡ promised →
+    tallied_of other ≡ promised → one ≡ other
+tallied-agree = agree-read tallied_of tallied_as tallied-back
+
 pub tallies-agree : (most : ℕ) (log : List ℕ) {first second : Result DayTally RefusedAt} →
     tallied_of first ≡ tallied (records_in most log) → tallied_of second ≡ tallied (records_in most log) → first ≡ second
-tallies-agree most log p q = agree-read tallied_of tallied_as tallied-back p q
+tallies-agree most log p q = tallied-agree p q
+
+-- of a part
+advance_as : Advance → Result Progress RefusedAt
+advance_as a = by a.walked
+  where
+    by : Walked → Result Progress RefusedAt
+    by walked.to-end = Ok (record { used = a.used; place = a.place; tally = a.tally })
+    by (walked.stopped n place) = Err (refused_by (refusal_of n) place)
+
+advance-back : (r : Result Progress RefusedAt) → advance_as (advance_of r) ≡ r
+unfolding advance_as
+advance-back (Ok p) = refl
+advance-back (Err e) = ap (λ (r : Refusal). Err (refused_by r e.place)) (refusal-back e.refusal)
+
+pub advances-agree : {one other : Result Progress RefusedAt} {promised : Advance} → advance_of one ≡ promised →
+    advance_of other ≡ promised → one ≡ other
+advances-agree = agree-read advance_of advance_as advance-back

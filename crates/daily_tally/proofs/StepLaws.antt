@@ -13,7 +13,7 @@ use Rattle.answer_logs.proofs.PartLaws.{whole-stands, onward_at, next-whole, one
 use Rattle.daily_tally.specs.declared.DayTally.{DayTally}
 use Rattle.daily_tally.specs.Figures.{largest_of, probes_of}
 use Rattle.daily_tally.specs.Adding.{sum64, has_place, with_entry}
-use Rattle.daily_tally.specs.Steps.{whole_within, going, progress, largest_in}
+use Rattle.daily_tally.specs.Steps.{whole_within, probes_at, step_by, stepped, going, progress, largest_in}
 
 -- ---- the record at a byte, within the limit
 
@@ -66,6 +66,11 @@ pub record Moved (left place : ℕ) (s : List ℕ) (at : ℕ) (e : Entry) (behin
   pub fits : has_place e
   pub walks : wholes_from left place (drop at s)
       ≡ ahead_whole e (behind - at) (wholes_from (left - 1) (place + 1) (drop behind s))
+
+pub step_by_lem : (left : ℕ) (s : List ℕ) (at : ℕ) (t : DayTally) {w : Logged} → w ≡ whole_within left s at → probes_at w < 2 ^ 32 →
+    (step_by at t w ≡ stepped left s at t) × (probes_at (whole_within left s at) < 2 ^ 32)
+unfolding stepped
+step_by_lem left s at t p f = (ap (step_by at t) p, rw (← p) f)
 
 module _ (left place : ℕ) (s : List ℕ) (at : ℕ) where
   abbrev here : Wholes

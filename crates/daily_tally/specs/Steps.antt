@@ -3,7 +3,7 @@
 use Rattle.std.specs.Prelude.{ℕ, ◌+◌, ◌-◌, Bool, true, false, ltb, List, [], length, nat_lt, Result, Ok, Err}
 use mathlib.Core.List.{foldl}
 use Rattle.arithmetic.specs.Binary32.{when◌then◌else◌}
-use Rattle.answer_logs.specs.Logs.{Logged, nothing, faulty}
+use Rattle.answer_logs.specs.Logs.{Logged, nothing, faulty, placed}
 use Rattle.answer_logs.specs.Parts.{whole_at, Wholes, reached, stopped, wholes_from}
 use Rattle.admission.specs.Refusals.{number_of}
 use Rattle.daily_tally.specs.declared.DayTally.{DayTally}
@@ -18,6 +18,32 @@ use Rattle.daily_tally.specs.Adding.{sum64, with_entry}
 -- the record at a byte of a part, where so many more may begin: behind the last of them any byte is refused with 4
 unfoldable pub whole_within : ℕ → List ℕ → ℕ → Logged
 whole_within left part at = when nat_lt 0 left then whole_at part at else (when ltb at (length part) then faulty 4 else nothing)
+
+-- its probes; where there is none, and of a refusal, 0
+abbrev pub probes_at : Logged → ℕ
+probes_at nothing = 0
+probes_at (faulty n) = 0
+probes_at (placed e behind) = probes_of e
+
+-- what a step meets: a record that is counted, the end of what is there, or a bad record, by the number of its fault
+pub data Met : Type 0 where
+  record-met : Met
+  end-met : Met
+  fault-met : ℕ → Met
+
+-- what is met, the byte behind it, and the tally with it
+pub record Step : Type 0 where
+  pub met : Met
+  pub behind : ℕ
+  pub tally : DayTally
+
+abbrev pub step_by : ℕ → DayTally → Logged → Step
+step_by at t nothing = record { met = end-met; behind = at; tally = t }
+step_by at t (faulty n) = record { met = fault-met n; behind = at; tally = t }
+step_by at t (placed e behind) = record { met = record-met; behind = behind; tally = with_entry sum64 t e }
+
+unfoldable pub stepped : ℕ → List ℕ → ℕ → DayTally → Step
+stepped left part at t = step_by at t (whole_within left part at)
 
 -- ---- what is told
 
