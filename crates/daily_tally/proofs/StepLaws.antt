@@ -11,9 +11,9 @@ use Rattle.answer_logs.specs.Parts.{whole_at, Wholes, reached, stopped, ahead_wh
 use Rattle.answer_logs.proofs.RecordLaws.{Stands, no_record, bad-record, an-outcome, a-refusal}
 use Rattle.answer_logs.proofs.PartLaws.{whole-stands, onward_at, next-whole, one-too-many, just_enough}
 use Rattle.daily_tally.specs.declared.DayTally.{DayTally}
-use Rattle.daily_tally.specs.Figures.{largest_of, probes_of}
+use Rattle.daily_tally.specs.Figures.{largest_of, probes_of, tally_of}
 use Rattle.daily_tally.specs.Adding.{sum64, has_place, with_entry}
-use Rattle.daily_tally.specs.Steps.{whole_within, probes_at, step_by, stepped, going, progress, largest_in}
+use Rattle.daily_tally.specs.Steps.{whole_within, probes_at, Met, record-met, end-met, fault-met, Step, step_by, stepped, Advance, going, stopped_at, progress, largest_in}
 
 -- ---- the record at a byte, within the limit
 
@@ -140,3 +140,24 @@ module _ (most place : ℕ) (s : List ℕ) (at : ℕ) {e : Entry} {behind : ℕ}
   stays-small small h =
       let rest = wholes_from (most - place - 1) (place + 1) (drop behind s) in
       rw m.walks (largest-ahead e (behind - at) rest small (rw less h))
+
+-- ---- the walk from a byte on, by the step there
+
+abbrev pub walk_on : ℕ → ℕ → List ℕ → Step → Advance
+walk_on most place s r = by r.met
+  where
+    by : Met → Advance
+    by end-met = going r.behind place r.tally
+    by (fault-met n) = stopped_at n place (tally_of [])
+    by record-met = progress r.behind (place + 1) r.tally (wholes_from (most - (place + 1)) (place + 1) (drop r.behind s))
+
+pub stepped-on : (most place : ℕ) (s : List ℕ) (at : ℕ) (t : DayTally) → progress at place t (wholes_from (most - place) place (drop at s))
+    ≡ walk_on most place s (stepped (most - place) s at t)
+unfolding stepped
+stepped-on most place s at t = go (whole_within (most - place) s at) refl
+  where
+    go : (w : Logged) → w ≡ whole_within (most - place) s at → progress at place t (wholes_from (most - place) place (drop at s))
+        ≡ walk_on most place s (step_by at t w)
+    go (logged.nothing) p = ap (progress at place t) (met-end (most - place) place s at p) ∙ progress-none at place t
+    go (logged.faulty n) p = ap (progress at place t) (met-fault (most - place) place s at p)
+    go (logged.placed e behind) p = goes_on most place s at (met-record (most - place) place s at p) t refl
