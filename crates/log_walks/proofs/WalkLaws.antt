@@ -12,9 +12,10 @@ use Rattle.arithmetic.specs.Binary32.{when◌then◌else◌}
 use Rattle.admission.specs.declared.refusal.Refusal.{Refusal}
 use Rattle.answer_records.specs.Answers.{longest_answer}
 use Rattle.answer_records.specs.declared.Reply.{Reply}
+use Rattle.answer_records.specs.declared.Reply.TheVariants as reply
 use Rattle.answer_records.specs.Numbers.{numbered}
-use Rattle.answer_logs.specs.Logs.{Entry, outcome, refusal, Found, ended, bad, entry, found_in, Logged, logged_as, logged_at, logged_of}
-use Rattle.log_walks.specs.Figures.{is_fallback, fallback}
+use Rattle.answer_logs.specs.Logs.{Entry, outcome, refusal, Found, ended, bad, entry, found_in, Logged, logged_as, logged_at, entry_of, logged_of}
+use Rattle.log_walks.specs.Figures.{is_fallback, fallback, outcome_code, fallback_by}
 use Rattle.log_walks.specs.Walks.{Met, more, onward, walked, own_bytes, reach_by, reach, passed_by, passed_at, passed, told_by, logged_by}
 use Rattle.log_walks.proofs.FoundLaws.{Sized, sized-end, sized, entry_found, size-within, own-entry, own-most, Alike, found_alike, end-alike, behind-alike}
 
@@ -128,19 +129,24 @@ module _ (log : List ℕ) (at : ℕ) where
 
 -- ---- what the code says, by a number for what it refuses with
 
-pub passed-by-number : {E : Type 0} (number : E → ℕ) (l : Result (Option (Reply × ℕ)) E) → told_by number (passed l)
-    ≡ passed_by (logged_by number l)
-passed-by-number number (Ok None) = refl
-passed-by-number number (Err e) = refl
-passed-by-number number (Ok (Some (r, behind))) = refl
+pub passed-by-number : {R E : Type 0} (code_of : R → Option ℕ) (entry_in : R → Entry) (number : E → ℕ) →
+    ((r : R) → fallback_by (code_of r) ≡ fallback (entry_in r)) → (l : Result (Option (R × ℕ)) E) →
+    told_by number (passed code_of l) ≡ passed_by (logged_by entry_in number l)
+passed-by-number code_of entry_in number same (Ok None) = refl
+passed-by-number code_of entry_in number same (Err e) = refl
+passed-by-number code_of entry_in number same (Ok (Some (r, behind))) = ap (λ (n : ℕ). Ok (Some (behind, n))) (same r)
 
-pub passed-numbered : (l : Result (Option (Reply × ℕ)) Refusal) → numbered (passed l) ≡ passed_by (logged_of l)
+pub counted-as : (r : Reply) → fallback_by (outcome_code r) ≡ fallback (entry_of r)
+counted-as (reply.Outcome a) = refl
+counted-as (reply.Refusal r) = refl
+
+pub passed-numbered : (l : Result (Option (Reply × ℕ)) Refusal) → numbered (passed outcome_code l) ≡ passed_by (logged_of l)
 passed-numbered (Ok None) = refl
 passed-numbered (Err e) = refl
-passed-numbered (Ok (Some (r, behind))) = refl
+passed-numbered (Ok (Some (r, behind))) = ap (λ (n : ℕ). Ok (Some (behind, n))) (counted-as r)
 
-pub passed-told : (l : Result (Option (Reply × ℕ)) Refusal) {r : Result (Option (ℕ × ℕ)) Refusal} {w : Logged} → r ≡ passed l →
-    logged_of l ≡ w → numbered r ≡ passed_by w
+pub passed-told : (l : Result (Option (Reply × ℕ)) Refusal) {r : Result (Option (ℕ × ℕ)) Refusal} {w : Logged} →
+    r ≡ passed outcome_code l → logged_of l ≡ w → numbered r ≡ passed_by w
 passed-told l e p = ap numbered e ∙ passed-numbered l ∙ ap passed_by p
 
 -- ---- the walk's loop

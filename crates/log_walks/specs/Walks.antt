@@ -4,9 +4,8 @@ use Rattle.std.specs.Prelude.{ℕ, zero, suc, ◌+◌, List, leb, drop, Option, 
 use Rattle.arithmetic.specs.Binary32.{when◌then◌else◌}
 use Rattle.answer_records.specs.Answers.{longest_answer}
 use Rattle.answer_logs.specs.Logs.{Found, ended, bad, entry, size_in, found_in}
-use Rattle.answer_records.specs.declared.Reply.{Reply}
-use Rattle.answer_logs.specs.Logs.{Logged, nothing, faulty, placed, entry_of, logged_at}
-use Rattle.log_walks.specs.Figures.{fallback}
+use Rattle.answer_logs.specs.Logs.{Entry, Logged, nothing, faulty, placed, logged_at}
+use Rattle.log_walks.specs.Figures.{fallback, fallback_by}
 
 -- the fallbacks met on a walk, or the number of the first bad record's fault
 abbrev pub Met : Type 0
@@ -58,19 +57,19 @@ passed_by (placed e behind) = Ok (Some (behind, fallback e))
 abbrev pub passed_at : List ℕ → ℕ → Passed
 passed_at log at = passed_by (logged_at log at)
 
--- the same in what the code says, whatever it refuses with
-abbrev pub passed : {E : Type 0} → Result (Option (Reply × ℕ)) E → Result (Option (ℕ × ℕ)) E
-passed (Ok None) = Ok None
-passed (Err e) = Err e
-passed (Ok (Some (r, behind))) = Ok (Some (behind, fallback (entry_of r)))
+-- the same in what the code says, whatever a record is and whatever it is refused with
+abbrev pub passed : {R E : Type 0} → (R → Option ℕ) → Result (Option (R × ℕ)) E → Result (Option (ℕ × ℕ)) E
+passed code_of (Ok None) = Ok None
+passed code_of (Err e) = Err e
+passed code_of (Ok (Some (r, behind))) = Ok (Some (behind, fallback_by (code_of r)))
 
 -- a result by a number for what it refuses with
 abbrev pub told_by : {A E : Type 0} → (E → ℕ) → Result A E → Result A ℕ
 told_by number (Ok a) = Ok a
 told_by number (Err e) = Err (number e)
 
--- what stands at a byte of a log, by such a number
-abbrev pub logged_by : {E : Type 0} → (E → ℕ) → Result (Option (Reply × ℕ)) E → Logged
-logged_by number (Ok None) = nothing
-logged_by number (Err e) = faulty (number e)
-logged_by number (Ok (Some (r, behind))) = placed (entry_of r) behind
+-- what stands at a byte of a log, by such a number and the entry that a record is
+abbrev pub logged_by : {R E : Type 0} → (R → Entry) → (E → ℕ) → Result (Option (R × ℕ)) E → Logged
+logged_by entry_in number (Ok None) = nothing
+logged_by entry_in number (Err e) = faulty (number e)
+logged_by entry_in number (Ok (Some (r, behind))) = placed (entry_in r) behind

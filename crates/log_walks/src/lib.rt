@@ -1,11 +1,11 @@
 // Walks over the records of a log that count its fallbacks, the outcomes 3, 4 and 5 (02, T-10).
 #![tactic(auto)]
 
-ghost use Rattle.std.specs.Prelude.{◌≡◌};
+ghost use Rattle.std.specs.Prelude.{◌≡◌, ℕ, Option};
 ghost use Rattle.arithmetic.specs.Binary32.{when◌then◌else◌};
 ghost use Rattle.answer_records.specs.Numbers.{numbered};
 ghost use Rattle.answer_logs.specs.Logs.{entry_of};
-ghost use Rattle.log_walks.specs.Figures.{is_fallback, fallback};
+ghost use Rattle.log_walks.specs.Figures.{is_fallback, fallback, outcome_code};
 ghost use Rattle.log_walks.specs.Walks.{walked, passed};
 
 use admission::Refusal;
@@ -32,13 +32,34 @@ pub fn walk(bytes: &[u8], count: usize) -> Result<u64, Refusal>
     Ok(met)
 }
 
+// A record that a walk passes: the code of its outcome; or none, for a refusal by whatever name or number.
+pub trait Recorded: Drop {
+    ghost code_of: { Self → Option ℕ };
+
+    fn code(self) -> Option<u8>
+        ensures { result ≡ code_of self };
+}
+
+impl Recorded for Reply {
+    ghost code_of = { outcome_code };
+
+    fn code(self) -> Option<u8> {
+        match self {
+            Reply::Outcome(answer) => Some(answer.code),
+            Reply::Refusal(_) => None,
+        }
+    }
+}
+
 // What stands at a byte of a log, as a walk passes it. What a bad record is refused with is handed on, whatever it is.
-pub fn pass<E: Drop>(logged: Result<Option<(Reply, usize)>, E>) -> Result<Option<(usize, u64)>, E>
-    ensures { result ≡ passed logged }
+pub fn pass<R: Recorded, E: Drop>(
+    logged: Result<Option<(R, usize)>, E>,
+) -> Result<Option<(usize, u64)>, E>
+    ensures { result ≡ passed R.code_of logged }
 {
-    Ok(logged?.map(|(reply, behind)| match reply {
-        Reply::Outcome(_) => (behind, fallback_in(reply)),
-        Reply::Refusal(_) => (behind, 0),
+    Ok(logged?.map(|(record, behind)| match record.code() {
+        Some(code) => (behind, fallback(code)),
+        None => (behind, 0),
     }))
 }
 
