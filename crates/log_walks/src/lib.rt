@@ -9,7 +9,6 @@ ghost use Rattle.log_walks.specs.Figures.{is_fallback, fallback, outcome_code};
 ghost use Rattle.log_walks.specs.Walks.{walked, passed};
 
 use admission::Refusal;
-use answer_logs::Logged;
 use answer_records::Reply;
 
 // A record, as the byte behind it and 1 for a fallback, else 0; or none at the end of the bytes. A bad record is refused.
