@@ -1,15 +1,17 @@
 // A session in four arrays of the caller's (crate `held_sessions`): each call tells 0 and leaves the session that it
 // makes, or the number of its refusal and leaves the arrays as they were.
 ghost use Rattle.std.specs.Prelude.{◌≡◌};
+ghost use Rattle.admission.specs.Faults.{fault_of};
 ghost use Rattle.common.specs.Vectors.{vec};
 ghost use Rattle.session.specs.Sessions.{started_as};
 ghost use Rattle.session.specs.Batches.{fed_with, fed_as};
 ghost use Rattle.session.specs.Withdrawals.{withdrawn_as};
 ghost use Rattle.session.specs.Changes.{changed_as, origin_changed_as};
 ghost use Rattle.session.specs.Meeting.{unmet_as};
-ghost use Rattle.held_sessions.specs.Blocks.{block, session_in, left, left_by};
+ghost use Rattle.held_sessions.specs.Blocks.{block, session_in, fault_in, left, left_by};
 ghost use Rattle.boltmeadow.specs.Sessions.{left_telling, left_changed, unmet_told};
 
+use admission::Judged;
 use common::Vec2;
 use session::Session;
 
@@ -29,6 +31,16 @@ pub struct BmUnmet {
     pub refusal: u32,
     pub found: u32,
     pub index: usize,
+}
+
+// A judgement of a call on a session, by the number of its refusal.
+fn numbered(judged: Judged) -> Result<(), u8>
+    ensures { fault_in result ≡ fault_of judged }
+{
+    match judged {
+        Ok(()) => Ok(()),
+        Err(refusal) => Err(refusal.number()),
+    }
 }
 
 // A session with no lines yet, whatever the arrays held (`Session::start`).
@@ -69,7 +81,7 @@ pub extern "C" fn bm_session_batch_in(
 {
     let mut session = held_sessions::session_in(lines, origins, numbers, words);
     let judged = session.batch(batch);
-    held_sessions::leave(judged, &session, lines, origins, numbers, words)
+    held_sessions::leave(numbered(judged), &session, lines, origins, numbers, words)
 }
 
 // The same for a batch that brings the origins of its lines, three numbers each, or none (`Session::batch_with_origins`).
@@ -89,7 +101,7 @@ pub extern "C" fn bm_session_batch_with_origins_in(
 {
     let mut session = held_sessions::session_in(lines, origins, numbers, words);
     let judged = session.batch_with_origins(batch, brought);
-    held_sessions::leave(judged, &session, lines, origins, numbers, words)
+    held_sessions::leave(numbered(judged), &session, lines, origins, numbers, words)
 }
 
 // The session without the line at an index (`Session::withdraw`).
@@ -107,7 +119,7 @@ pub extern "C" fn bm_session_withdraw_in(
 {
     let mut session = held_sessions::session_in(lines, origins, numbers, words);
     let judged = session.withdraw(index);
-    held_sessions::leave(judged, &session, lines, origins, numbers, words)
+    held_sessions::leave(numbered(judged), &session, lines, origins, numbers, words)
 }
 
 // The session without the lines at several indices, strictly ascending, and with a batch behind those that are left:
@@ -129,7 +141,7 @@ pub extern "C" fn bm_session_change_in(
 {
     let mut session = held_sessions::session_in(lines, origins, numbers, words);
     let judged = session.change(withdrawn, batch, brought);
-    held_sessions::leave(judged, &session, lines, origins, numbers, words)
+    held_sessions::leave(numbered(judged), &session, lines, origins, numbers, words)
 }
 
 // The same for every line whose origin has this kind and place (`Session::change_origin`).
@@ -153,7 +165,7 @@ pub extern "C" fn bm_session_change_origin_in(
     let changed = session.change_origin(kind, place, batch, brought);
     let (judged, withdrawn) = match changed {
         Ok(withdrawn) => (Ok(()), withdrawn),
-        Err(refusal) => (Err(refusal), 0),
+        Err(refusal) => (Err(refusal.number()), 0),
     };
     let refusal = held_sessions::leave(judged, &session, lines, origins, numbers, words);
     BmChanged { refusal, withdrawn }

@@ -1,6 +1,6 @@
 -- A session in four arrays of a caller's: which session they say, and how one is laid out in them. Definitions only.
 -- Assumes nothing.
-use Rattle.std.specs.Prelude.{ℕ, Option, ◌%◌, ◌^◌, List, [], ◌∷◌, get_or, Float}
+use Rattle.std.specs.Prelude.{ℕ, ⊤, Result, Ok, Err, Option, ◌%◌, ◌^◌, List, [], ◌∷◌, get_or, Float}
 use Rattle.std.specs.Float.{nan}
 use Rattle.arithmetic.specs.Binary32.{0ᶠ}
 use Rattle.admission.specs.Faults.{Fault, fine, fault}
@@ -79,5 +79,14 @@ abbrev pub held_by : Fault → Session → Block → Block
 held_by fine s b = block_of s
 held_by (fault n) s b = b
 
+-- what an answer by a number says, any number, and the session that the call left
+abbrev pub fault_in : Result ⊤ ℕ → Fault
+fault_in (Ok _) = fine
+fault_in (Err n) = fault n
+
+abbrev pub fed_in : Result ⊤ ℕ → Session → Fed
+fed_in r s = record { judged = fault_in r; session = s }
+
+-- the number that the call tells, and what the arrays hold
 unfoldable pub left_by : Fed → Block → Left
 left_by r b = left (told_by r.judged) (held_by r.judged r.session b)

@@ -4,11 +4,9 @@
 
 ghost use Rattle.std.specs.Prelude.{◌≡◌, ◌*◌, length};
 ghost use Rattle.lines.specs.Lines.{most_lines, numbers_of};
-ghost use Rattle.session.specs.Calls.{fed_of};
 ghost use Rattle.session.specs.Withdrawals.{threes_of};
-ghost use Rattle.held_sessions.specs.Blocks.{block, session_in, numbers_in, words_in, block_of, left, left_by};
+ghost use Rattle.held_sessions.specs.Blocks.{block, session_in, numbers_in, words_in, block_of, fed_in, left, left_by};
 
-use admission::Judged;
 use common::Vec2;
 use linear_programming::Phase;
 use lines::{Line, Origin};
@@ -104,11 +102,11 @@ pub fn put_session(
     *words = words_of(&session);
 }
 
-// What a call on a session answered, and the session that it left, told in the four arrays: 0, and they say the session;
-// or the number of the refusal, and they are as they were.
+// What a call on a session answered, nothing or the number of a refusal, and the session that it left, told in the four
+// arrays: 0, and they say the session; or the number, whichever it is, and they are as they were.
 #[tactic(auto, unfolding(crate::specs::Blocks::left_by))]
 pub fn leave(
-    judged: Judged,
+    judged: Result<(), u8>,
     session: &Session,
     lines: &mut [f32; 1024],
     origins: &mut [u32; 768],
@@ -116,13 +114,13 @@ pub fn leave(
     words: &mut [usize; 8],
 ) -> u32
     ensures { left result (block lines.new origins.new numbers.new words.new)
-        ≡ left_by (fed_of judged session.now) (block lines.old origins.old numbers.old words.old) }
+        ≡ left_by (fed_in judged session.now) (block lines.old origins.old numbers.old words.old) }
 {
+    if judged.is_ok() {
+        put_session(*session, lines, origins, numbers, words);
+    }
     match judged {
-        Ok(()) => {
-            put_session(*session, lines, origins, numbers, words);
-            0
-        }
-        Err(refusal) => refusal.number() as u32,
+        Ok(()) => 0,
+        Err(number) => number as u32,
     }
 }

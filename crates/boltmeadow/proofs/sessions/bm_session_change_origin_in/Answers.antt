@@ -18,6 +18,6 @@ returns c =
           ∙ ap (λ (d : Changed). left_changed d b) changed)
       | in-Err w ↦
           let changed = rw (w.in-Err.is, c.session_in-session.ensures) at c.change_origin-changed.ensures in
-          rw w.judged-is (origin-left b _ _ (rw w.judged-is at c.leave-refusal.ensures)
+          rw w.judged-is (origin-left b _ _ (rw (w.judged-is, w.number.ensures) at c.leave-refusal.ensures)
           ∙ ap (λ (d : Changed). left_changed d b) changed)
     ]
