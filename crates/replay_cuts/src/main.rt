@@ -4,9 +4,13 @@
 // tally counts these comparisons.
 #![tactic(auto)]
 
-ghost use Rattle.std.specs.Prelude.{◌≡◌, ◌/◌, ◌≤◌, ◌<◌, length};
+ghost use Rattle.std.specs.Prelude.{◌≡◌, ◌+◌, ◌-◌, ◌/◌, ◌≤◌, ◌<◌, length, min};
+ghost use Rattle.session.specs.Calls.{fed_of};
+ghost use Rattle.session.specs.Sessions.{blank_session, started_as};
 
 use admission::{Judged, Refusal};
+use common::Vec2;
+use linear_programming::Phase;
 use lines::{Line, Origin};
 use replay_records::{Walk, first_numbers, number_at, vector_at};
 use replay_standings::is_standing;
@@ -80,7 +84,9 @@ impl Feeding<'_> {
 
     // A batch of the next `size` lines, or of those that are left: never refused. By its place and the record, every
     // third brings no origins.
-    fn feed(&mut self, size: usize) {
+    fn feed(&mut self, size: usize)
+        ensures { self.new.place ≡ self.old.place + min size (length self.old.list.numbers.now / 4 - self.old.place) }
+    {
         let from = self.place;
         let numbers = self.list.numbers;
         let place = from + size.min(numbers.len() / 4 - from);
@@ -98,21 +104,27 @@ impl Feeding<'_> {
     }
 
     // Batches with each fault of a batch, without origins and with them.
-    fn feed_refused(&mut self) {
+    fn feed_refused(&mut self)
+        ensures { self.new.place ≡ self.old.place }
+    {
         self.feed_miscounts();
         self.feed_faults();
         self.feed_refused_origins()
     }
 
     // Five numbers (2), and more lines than there is room for (4).
-    fn feed_miscounts(&mut self) {
+    fn feed_miscounts(&mut self)
+        ensures { self.new.place ≡ self.old.place }
+    {
         let many = [f32::NAN; 1028];
         self.refuse(&[f32::NAN; 5], Refusal::MissingOrLeftOver);
         self.refuse(&many[0..4 * (257 - self.place)], Refusal::TooMany)
     }
 
     // Two lines, the second a NaN (6) or out of its band (7).
-    fn feed_faults(&mut self) {
+    fn feed_faults(&mut self)
+        ensures { self.new.place ≡ self.old.place }
+    {
         let unknown = [0.0, 4096.0, 1.0, 0.0, f32::NAN, 0.0, 1.0, 0.0];
         let steep = [0.0, 4096.0, 1.0, 0.0, 0.0, 0.0, 1.0, 1.0];
         self.refuse(&unknown, self.told_of_two(Refusal::OutOfRange));
@@ -121,7 +133,9 @@ impl Feeding<'_> {
 
     // The same with origins: another count of them (2), and the right one beside a line at fault, whose origins must
     // not be kept.
-    fn feed_refused_origins(&mut self) {
+    fn feed_refused_origins(&mut self)
+        ensures { self.new.place ≡ self.old.place }
+    {
         let two = [0.0, 4096.0, 1.0, 0.0, f32::NAN, 0.0, 1.0, 0.0];
         self.feed_miscounted_origins();
         self.feed_origins_alone();
@@ -133,14 +147,18 @@ impl Feeding<'_> {
     }
 
     // Too few and too many origins beside a line (2).
-    fn feed_miscounted_origins(&mut self) {
+    fn feed_miscounted_origins(&mut self)
+        ensures { self.new.place ≡ self.old.place }
+    {
         let one = [0.0, 4096.0, 1.0, 0.0];
         self.refuse_with(&one, &[1, 2], Refusal::MissingOrLeftOver);
         self.refuse_with(&one, &[1, 2, 3, 4], Refusal::MissingOrLeftOver)
     }
 
     // Origins beside no line, and one number beside more lines than there is room for: 2, told before room is looked for.
-    fn feed_origins_alone(&mut self) {
+    fn feed_origins_alone(&mut self)
+        ensures { self.new.place ≡ self.old.place }
+    {
         let many = [f32::NAN; 1028];
         self.refuse_with(&[], &[1, 2, 3], Refusal::MissingOrLeftOver);
         self.refuse_with(
@@ -169,14 +187,18 @@ impl Feeding<'_> {
     }
 
     // A batch that must be refused.
-    fn refuse(&mut self, numbers: &[f32], refusal: Refusal) {
+    fn refuse(&mut self, numbers: &[f32], refusal: Refusal)
+        ensures { self.new.place ≡ self.old.place }
+    {
         let count = self.session.count;
         let judged = self.session.batch(numbers);
         self.compare(judged, Err(refusal), count)
     }
 
     // The same for a batch that brings origins.
-    fn refuse_with(&mut self, numbers: &[f32], origins: &[u32], refusal: Refusal) {
+    fn refuse_with(&mut self, numbers: &[f32], origins: &[u32], refusal: Refusal)
+        ensures { self.new.place ≡ self.old.place }
+    {
         let count = self.session.count;
         let judged = self.session.batch_with_origins(numbers, origins);
         self.compare(judged, Err(refusal), count)
@@ -184,7 +206,9 @@ impl Feeding<'_> {
 
     // Compares what a call left: it was judged as expected, and the session has `count` lines and the origins that were
     // fed, and stands as the answer at the place.
-    fn compare(&mut self, judged: Judged, expected: Judged, count: usize) {
+    fn compare(&mut self, judged: Judged, expected: Judged, count: usize)
+        ensures { self.new.place ≡ self.old.place }
+    {
         let session = &self.session;
         let good = judged == expected
             && session.count == count
@@ -227,17 +251,43 @@ fn drawn_origins(name: u32) -> [u32; 768] {
     origins
 }
 
-// The tally with the comparisons of a record. One with numbers left over, or more than its bytes hold, is bad, and one
-// whose session is refused.
+// Starts a session; where it is refused, it is a blank one.
+fn started(session: &mut Session, wish: Vec2, limit: f32, rigid: usize) -> Judged
+    ensures { fed_of result session.new ≡ started_as wish limit rigid }
+{
+    *session = blank();
+    *session = Session::start(wish, limit, rigid)?;
+    Ok(())
+}
+
+// The session that stands beside a refusal to start: nothing is wished, and nothing stands in the way.
+#[tactic(auto, unfolding(session::specs::Sessions::blank_session, session::specs::Sessions::blank_lines, session::specs::Sessions::blank_origins))]
+fn blank() -> Session
+    ensures { result ≡ blank_session }
+{
+    Session {
+        lines: [Line::new(Vec2::ZERO, Vec2::ZERO); Line::MOST],
+        origins: [Origin::UNKNOWN; Line::MOST],
+        count: 0,
+        rigid: 0,
+        wish: Vec2::ZERO,
+        limit: 0.0,
+        phase: Phase::Solving(Vec2::ZERO),
+        failed: None,
+        probes: 0,
+    }
+}
+
+// The tally with the comparisons of a record, of a blank session where the start is refused. One with numbers left over,
+// or more than its bytes hold, is bad.
 fn with_record(tally: Tally, head: &[u8], rest: &[u8], name: u32) -> Tally {
     let count = words::word_at(head, 0) as usize;
     if count > 4 * Line::MOST || count % 4 != 0 || 4 * count > rest.len() {
         return tally.with(false, name);
     }
     let rigid = words::word_at(head, 4) as usize;
-    let Ok(session) = Session::start(vector_at(head, 12), number_at(head, 8), rigid) else {
-        return tally.with(false, name);
-    };
+    let mut session = blank();
+    let judged = started(&mut session, vector_at(head, 12), number_at(head, 8), rigid);
     let numbers = first_numbers(rest, count);
     let origins = drawn_origins(name);
     let list = List {
@@ -254,13 +304,13 @@ fn with_record(tally: Tally, head: &[u8], rest: &[u8], name: u32) -> Tally {
         name,
         tally,
     };
-    with_cuts(begun)
+    with_cuts(begun, judged)
 }
 
 // The tally with the comparisons of a session as it was started, and of all cuts, each from there.
-fn with_cuts(begun: Feeding) -> Tally {
+fn with_cuts(begun: Feeding, judged: Judged) -> Tally {
     let mut feeding = begun;
-    feeding.compare(Ok(()), Ok(()), 0);
+    feeding.compare(judged, Ok(()), 0);
     let begun = feeding;
     feeding.feed(begun.list.numbers.len() / 4);
     let mut tally = feeding.tally;

@@ -3,10 +3,13 @@
 // record to record, up to the next start. Where each word of a head stands is below.
 #![tactic(auto)]
 
-ghost use Rattle.std.specs.Prelude.{◌<◌, ◌≤◌, length};
+ghost use Rattle.std.specs.Prelude.{◌≡◌, ◌<◌, ◌≤◌, length};
+ghost use Rattle.session.specs.Calls.{fed_of};
+ghost use Rattle.session.specs.Sessions.{blank_session, started_as};
 
 use admission::{Judged, Refusal};
 use common::Vec2;
+use linear_programming::Phase;
 use lines::{Line, Origin};
 use replay_records::{Walk, first_numbers, number_at, vector_at};
 use replay_standings::is_standing;
@@ -35,35 +38,59 @@ fn read_words(bytes: &[u8], words: &mut [u32])
 fn called(session: &mut Session, head: &[u8], rest: &[u8]) -> Option<Judged> {
     let index = size_at(head, 8);
     match words::word_at(head, 4) {
-        0 => Some(started(session, head)),
-        1 => batch_of(head, rest).map(|batch| session.batch(batch.numbers())),
-        2 => batch_of(head, rest).map(|batch| session.batch_with_origins(
-            batch.numbers(),
-            batch.origins(),
-        )),
+        0 => Some(started(session, vector_at(head, 60), number_at(head, 12), index)),
+        1 => Some(session.batch(batch_of(head, rest).numbers())),
+        2 => {
+            let batch = batch_of(head, rest);
+            Some(session.batch_with_origins(batch.numbers(), batch.origins()))
+        }
         3 | 4 => Some(session.withdraw(index)),
         5 => asked(session, head, rest),
-        6 => changed(session, head, rest),
+        6 => Some(changed(session, head, rest)),
         7 => changed_by_origin(session, head, rest),
         _ => None,
     }
 }
 
-// A session that starts in place of the one before.
-fn started(session: &mut Session, head: &[u8]) -> Judged {
-    *session = Session::start(vector_at(head, 60), number_at(head, 12), size_at(head, 8))?;
+// A session that starts in place of the one before; where it is refused, a blank one does.
+fn started(session: &mut Session, wish: Vec2, limit: f32, rigid: usize) -> Judged
+    ensures { fed_of result session.new ≡ started_as wish limit rigid }
+{
+    *session = blank();
+    *session = Session::start(wish, limit, rigid)?;
     Ok(())
 }
 
-// The numbers of a record's lines and of their origins, so many of each, and then zeros.
+// The session that stands beside a refusal to start: nothing is wished, and nothing stands in the way.
+#[tactic(auto, unfolding(session::specs::Sessions::blank_session, session::specs::Sessions::blank_lines, session::specs::Sessions::blank_origins))]
+fn blank() -> Session
+    ensures { result ≡ blank_session }
+{
+    Session {
+        lines: [Line::new(Vec2::ZERO, Vec2::ZERO); Line::MOST],
+        origins: [Origin::UNKNOWN; Line::MOST],
+        count: 0,
+        rigid: 0,
+        wish: Vec2::ZERO,
+        limit: 0.0,
+        phase: Phase::Solving(Vec2::ZERO),
+        failed: None,
+        probes: 0,
+    }
+}
+
+// The numbers of a record's lines and of their origins, and the indices of a change, so many of each, and then zeros.
 #[derive(Clone, Copy)]
 struct Batch {
     lines: [f32; 1280],
     count: usize,
     brought: [u32; 776],
     known: usize,
+    indices: [usize; 264],
+    gone: usize,
     ghost few: { count ≤ 1280 },
     ghost few_known: { known ≤ 776 },
+    ghost few_gone: { gone ≤ 264 },
 }
 
 impl Batch {
@@ -74,25 +101,42 @@ impl Batch {
     fn origins(&self) -> &[u32] {
         &self.brought[..self.known]
     }
+
+    fn withdrawn(&self) -> &[usize] {
+        &self.indices[..self.gone]
+    }
 }
 
-// The batch of a record, behind the origins that are told; none where the record does not hold as many numbers as its
-// head says, or there are more than any has.
-fn batch_of(head: &[u8], rest: &[u8]) -> Option<Batch> {
+// The batch of a record, behind the origins that are told, and the indices behind it; nothing of each where the record
+// does not hold as many numbers as its head says, or there are more than any has.
+fn batch_of(head: &[u8], rest: &[u8]) -> Batch {
     let told = 4 * size_at(head, 28);
     let count = size_at(head, 8);
     let known = named_origins(head);
-    if count > 1280 || known > 776 || told + 4 * count + 4 * known > rest.len() {
-        return None;
+    let gone = named_indices(head);
+    let behind = told + 4 * count + 4 * known;
+    if count > 1280 || known > 776 || gone > 264 || behind > rest.len() {
+        return Batch {
+            lines: [0.0; 1280],
+            count: 0,
+            brought: [0; 776],
+            known: 0,
+            indices: [0; 264],
+            gone: 0,
+        };
     }
     let mut brought = [0u32; 776];
     read_words(&rest[told + 4 * count..], &mut brought[..known]);
-    Some(Batch {
+    let mut indices = [0u32; 264];
+    read_words(&rest[behind..], &mut indices[..gone]);
+    Batch {
         lines: first_numbers(&rest[told..], count),
         count,
         brought,
         known,
-    })
+        indices: indices.map(|index| index as usize),
+        gone,
+    }
 }
 
 // How many numbers of origins a batch brings: a question brings none.
@@ -105,27 +149,31 @@ fn named_origins(head: &[u8]) -> usize
     size_at(head, 12)
 }
 
-// The change of a record, its indices behind its batch, at most 264.
-fn changed(session: &mut Session, head: &[u8], rest: &[u8]) -> Option<Judged> {
-    let batch = batch_of(head, rest)?;
-    let behind = 4 * (size_at(head, 28) + size_at(head, 8) + size_at(head, 12));
-    let mut indices = [0u32; 264];
-    read_words(rest.get(behind..)?, indices.get_mut(..size_at(head, 68))?);
-    let withdrawn = indices.map(|index| index as usize);
-    Some(session.change(
-        withdrawn.get(..size_at(head, 68))?,
-        batch.numbers(),
-        batch.origins(),
-    ))
+// How many indices a change has.
+fn named_indices(head: &[u8]) -> usize
+    ensures { result < 4294967296 }
+{
+    if words::word_at(head, 4) == 6 {
+        return size_at(head, 68);
+    }
+    0
 }
 
-// The change by origin of a record, which withdraws as many lines as the record has.
+// The change of a record.
+fn changed(session: &mut Session, head: &[u8], rest: &[u8]) -> Judged {
+    let batch = batch_of(head, rest);
+    session.change(batch.withdrawn(), batch.numbers(), batch.origins())
+}
+
+// The change by origin of a record, which withdraws as many lines as the record has: else the session is as it was.
 fn changed_by_origin(session: &mut Session, head: &[u8], rest: &[u8]) -> Option<Judged> {
-    let batch = batch_of(head, rest)?;
+    let before = *session;
+    let batch = batch_of(head, rest);
     let kind = words::word_at(head, 60);
     let place = words::word_at(head, 64);
     let changed = session.change_origin(kind, place, batch.numbers(), batch.origins());
     if changed.unwrap_or(0) != size_at(head, 68) {
+        *session = before;
         return None;
     }
     Some(changed.map(|_| ()))
@@ -134,7 +182,7 @@ fn changed_by_origin(session: &mut Session, head: &[u8], rest: &[u8]) -> Option<
 // What a session answers about the batch of a record, which leaves it as it is: the line that the record names, by its
 // index, or FFFFFFFF for none.
 fn asked(session: &Session, head: &[u8], rest: &[u8]) -> Option<Judged> {
-    let batch = batch_of(head, rest)?;
+    let batch = batch_of(head, rest);
     match session.first_unmet(batch.numbers()) {
         Ok(unmet) if unmet.unwrap_or(0xffff_ffff) == size_at(head, 12) => Some(Ok(())),
         Ok(_) => None,
@@ -223,9 +271,7 @@ fn turn(walk: Walk, session: &mut Session, head: &mut [u8], rest: &mut [u8]) -> 
 // The walk to its end.
 fn walked(start: Walk) -> Walk {
     let mut walk = start;
-    let Ok(mut session) = Session::start(Vec2::ZERO, 0.0, 0) else {
-        return walk;
-    };
+    let mut session = blank();
     let mut head: [u8; 72] = [0; 72];
     // 256 origins that stand; 257 lines, and as many origins; 264 indices.
     let mut rest: [u8; 11324] = [0; 11324];
