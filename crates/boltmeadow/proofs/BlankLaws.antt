@@ -12,7 +12,7 @@ use Rattle.obstacles.specs.Read.{blank_numbers, answer_as}
 use Rattle.fields.specs.Got.{refused}
 use Rattle.answer_logs.specs.Logs.{refused_at}
 use Rattle.daily_tally.specs.Figures.{sum_of, largest_of, one, count_of, below, tally_of, tallied}
-use Rattle.boltmeadow.specs.Layouts.{no_obstacle, obstacle_told}
+use Rattle.boltmeadow.specs.Layouts.{no_obstacle, lines_told, obstacle_told}
 use Rattle.boltmeadow.specs.Scenes.{no_cart, no_scene, scene_told}
 use Rattle.boltmeadow.specs.Logs.{page, tally_told}
 
@@ -30,12 +30,12 @@ pub no-scene : (r : ℕ) → scene_told (refused r) ≡ record {
 unfolding no_scene
 no-scene r = refl
 
-pub no_lines : (r : ℕ) → no_obstacle r ≡ record { refusal = r; count = 0; lines = replicate 256 0ᶠ }
+pub no_lines : (r : ℕ) → obstacle_told (obstacle.refused r) ≡ record { refusal = r; count = 0; lines = replicate 256 0ᶠ }
 unfolding no_obstacle blank_numbers
 no_lines r = refl
 
--- which is what is told of each refusal
-pub refused-lines : (r : Refusal) → obstacle_told (answer_as (obstacle.refused (number_of r))) ≡ no_obstacle (number_of r)
+-- which is what is told of each refusal of the code's
+pub refused-lines : (r : Refusal) → lines_told (answer_as (obstacle.refused (number_of r))) ≡ no_obstacle (number_of r)
 refused-lines r = rw (refusal-back r)
 
 pub no-figures : (r place : ℕ) → tally_told (tallied (refused_at r place)) ≡ record {

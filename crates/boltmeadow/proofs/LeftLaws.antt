@@ -6,12 +6,18 @@ use native.Mathlib.Omega.{arith}
 use Rattle.std.specs.Prelude.{Result, Ok, Err}
 use Rattle.admission.specs.declared.refusal.Refusal.{Refusal}
 use Rattle.admission.specs.Refusals.{number_of}
+use Rattle.admission.specs.Faults.{Fault}
 use Rattle.answer_records.specs.Numbers.{numbered}
 use Rattle.linear_programming.specs.declared.Standing.{Standing as ListStanding}
 use Rattle.linear_programming.specs.Whole.{Outcome}
 use Rattle.linear_programming.specs.Read.{outcome_of}
 use Rattle.linear_programming.proofs.Agreement.{phase-back, failed-back}
+use Rattle.obstacles.specs.declared.ObstacleLines.{ObstacleLines}
+use Rattle.obstacles.specs.Obstacles as obstacle
+use Rattle.obstacles.specs.Read.{answer_as, told_of, fault_in}
 use Rattle.dodgy_2d.specs.declared.SceneAnswer.{SceneAnswer}
+use Rattle.dodgy_2d.specs.Outcomes.{SceneOutcome}
+use Rattle.dodgy_2d.specs.Read.{outcome_of as scene_outcome_of}
 use Rattle.records.specs.Answered.{Solved, solved}
 use Rattle.scene_writer.specs.Writing.{Written, written_of}
 use Rattle.index_building.specs.Indexes.{Standing, standing}
@@ -20,10 +26,11 @@ use Rattle.scene_records.specs.declared.NumberedScene.{NumberedScene}
 use Rattle.scene_records.specs.Steps.{RefusedAs}
 use Rattle.scene_records.specs.Versions.{Numbered, numbered_as}
 use Rattle.boltmeadow.specs.Lists.{standing_by, standing_told}
+use Rattle.boltmeadow.specs.Layouts.{no_obstacle, lines_told, obstacle_told}
 use Rattle.boltmeadow.specs.declared.scenes.BmScene.{BmScene}
 use Rattle.boltmeadow.specs.declared.scenes.BmAnswer.{BmAnswer}
 use Rattle.boltmeadow.specs.declared.scenes.BmWritten.{BmWritten}
-use Rattle.boltmeadow.specs.Scenes.{answer_told, answer_left, scene_by, no_scene, scene_told, written_told, written_left}
+use Rattle.boltmeadow.specs.Scenes.{outcome_with, refused_scene, answer_told, numbers_of, numbers_told, answer_left, scene_by, no_scene, scene_told, number_told, written_told, written_left}
 use Rattle.boltmeadow.specs.Logs.{index_told, index_left}
 
 -- a list's answer, told by the outcome that it says
@@ -46,6 +53,23 @@ scene-told (Ok v) (got x at) e told = ap scene_handed e
 scene-told (Ok v) (refused n) e told = let z : ◌≡◌ {A = ℕ} 0 1 = cc in absurd (omega arith)
 scene-told (Err q) (got x at) e told = let z : ◌≡◌ {A = ℕ} 0 1 = cc in absurd (omega arith)
 scene-told (Err q) (refused n) e told = sym (ap (λ (g : Got Numbered). no_scene (number_in g)) told)
+
+-- an obstacle's lines, or the number of a refusal, told by the definition's answer
+pub lines-told : (a : Result ObstacleLines Refusal) (o : obstacle.Answer) → a ≡ answer_as o → told_of a ≡ fault_in o →
+    lines_told a ≡ obstacle_told o
+lines-told a (obstacle.lines ls) e told = ap lines_told e
+lines-told (Ok v) (obstacle.refused n) e told = let z : ◌≡◌ {A = ℕ} 0 1 = cc in absurd (omega arith)
+lines-told (Err r) (obstacle.refused n) e told = ap (λ (f : Fault). no_obstacle (number_told f)) told
+
+-- a record's answer has the numbers of the outcome that it says
+numbers_kept : (a : Result SceneAnswer Refusal) → numbers_of (answer_told a) ≡ numbers_told (scene_outcome_of a)
+unfolding outcome_with refused_scene
+numbers_kept (Ok v) = refl
+numbers_kept (Err r) = refl
+
+pub numbers-told : (a : Result SceneAnswer Refusal) {o : SceneOutcome} {r : BmAnswer} → r ≡ answer_told a →
+    scene_outcome_of a ≡ o → numbers_of r ≡ numbers_told o
+numbers-told a t e = ap numbers_of t ∙ numbers_kept a ∙ ap numbers_told e
 
 -- value and contents of a lent buffer
 

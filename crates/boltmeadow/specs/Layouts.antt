@@ -5,7 +5,8 @@ use Rattle.admission.specs.Refusals.{number_of}
 use Rattle.common.specs.Vectors.{vec}
 use Rattle.edges.specs.declared.Agent.{Agent}
 use Rattle.obstacles.specs.declared.ObstacleLines.{ObstacleLines}
-use Rattle.obstacles.specs.Read.{blank_numbers}
+use Rattle.obstacles.specs.Obstacles.{Answer, lines, refused as no_lines_for}
+use Rattle.obstacles.specs.Read.{blank_numbers, answer_as}
 use Rattle.wall_check.specs.Crossings.{WallCheck, crossed, clear, refused}
 use Rattle.boltmeadow.specs.declared.walls.BmCrossing.{BmCrossing}
 use Rattle.boltmeadow.specs.declared.walls.BmObstacleLines.{BmObstacleLines}
@@ -26,6 +27,12 @@ crossing_told (refused r) = crossing r 0 0 0
 unfoldable pub no_obstacle : ℕ → BmObstacleLines
 no_obstacle number = record { refusal = number; count = 0; lines = blank_numbers }
 
-abbrev pub obstacle_told : Result ObstacleLines Refusal → BmObstacleLines
-obstacle_told (Ok o) = record { refusal = 0; count = o.count; lines = o.lines }
-obstacle_told (Err r) = no_obstacle (number_of r)
+-- what is told of the code's answer
+abbrev pub lines_told : Result ObstacleLines Refusal → BmObstacleLines
+lines_told (Ok o) = record { refusal = 0; count = o.count; lines = o.lines }
+lines_told (Err r) = no_obstacle (number_of r)
+
+-- the lines as the code hands them over; or the definition's own number
+abbrev pub obstacle_told : Answer → BmObstacleLines
+obstacle_told (lines ls) = lines_told (answer_as (lines ls))
+obstacle_told (no_lines_for r) = no_obstacle r

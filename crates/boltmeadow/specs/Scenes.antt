@@ -10,6 +10,7 @@ use Rattle.pass_2d.specs.declared.Failure.{Failure}
 use Rattle.plain_numbers.specs.Kinds.{failed_kind, failed_index, failed_cause}
 use Rattle.dodgy_2d.specs.declared.Scene.{Scene}
 use Rattle.dodgy_2d.specs.declared.SceneAnswer.{SceneAnswer}
+use Rattle.dodgy_2d.specs.Outcomes.{SceneOutcome, outcome, refused_scene as refused_as}
 use Rattle.dodgy_2d.specs.Read.{code_of}
 use Rattle.scene_records.specs.declared.Cart.{Cart}
 use Rattle.fields.specs.Got.{Got, refused, got}
@@ -60,6 +61,19 @@ refused_scene number = record {
 abbrev pub answer_told : Result SceneAnswer Refusal → BmAnswer
 answer_told (Ok a) = outcome_with (code_of a.outcome) a.velocity.x a.velocity.y a.failed a.probes a.origin
 answer_told (Err r) = refused_scene (number_of r)
+
+-- its numbers alone: the refusal's, and the outcome's, 0 where there is none
+pub record Numbers : Type 0 where
+  pub refusal : ℕ
+  pub outcome : ℕ
+
+abbrev pub numbers_of : BmAnswer → Numbers
+numbers_of a = record { refusal = a.refusal; outcome = a.outcome }
+
+-- which are 01's own
+abbrev pub numbers_told : SceneOutcome → Numbers
+numbers_told (outcome code p f n) = record { refusal = 0; outcome = code }
+numbers_told (refused_as r) = record { refusal = r; outcome = 0 }
 
 -- beside what the buffer holds
 abbrev pub answer_left : Solved → Standing BmAnswer

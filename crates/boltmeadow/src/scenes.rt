@@ -5,9 +5,9 @@ ghost use Rattle.scene_records.specs.declared.Version.TheVariants.{One, Two};
 ghost use Rattle.scene_records.specs.Versions.{scene_in};
 ghost use Rattle.scene_writer.specs.Writing.{written_scene};
 ghost use Rattle.scene_moves.specs.Moves.{moved_into};
-ghost use Rattle.records.specs.Answered.{scene_answer_to};
+ghost use Rattle.records.specs.Answered.{scene_answer_to, record_outcome};
 ghost use Rattle.index_building.specs.Indexes.{standing};
-ghost use Rattle.boltmeadow.specs.Scenes.{answer_told, refused_scene, answer_left, cart_of, scene_by, scene_told, no_scene, cart_in, written_told, written_left};
+ghost use Rattle.boltmeadow.specs.Scenes.{answer_told, numbers_of, numbers_told, refused_scene, answer_left, cart_of, scene_by, scene_told, no_scene, cart_in, written_told, written_left};
 
 use admission::Refusal;
 use common::Vec2;
@@ -77,7 +77,8 @@ pub struct BmScene {
 // refuses.
 #[unsafe(no_mangle)]
 pub extern "C" fn bm_answer_record(scene: &[u8], answer: &mut [u8]) -> BmAnswer
-    ensures { standing result answer.new ≡ answer_left (scene_answer_to scene.now answer.old) }
+    ensures answer { standing result answer.new ≡ answer_left (scene_answer_to scene.now answer.old) }
+    ensures told { numbers_of result ≡ numbers_told (record_outcome scene.now answer.old) }
 {
     match records::answer_scene(scene, answer) {
         Ok(answered) => outcome_with(answered),

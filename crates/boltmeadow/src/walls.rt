@@ -2,7 +2,6 @@
 ghost use Rattle.std.specs.Prelude.{◌≡◌};
 ghost use Rattle.common.specs.Vectors.{vec};
 ghost use Rattle.obstacles.specs.Obstacles.{obstacle_call};
-ghost use Rattle.obstacles.specs.Read.{answer_as};
 ghost use Rattle.wall_check.specs.Crossings.{checked_move};
 ghost use Rattle.boltmeadow.specs.Layouts.{agent_at, crossing, crossing_told, obstacle_told};
 
@@ -82,9 +81,9 @@ pub extern "C" fn bm_obstacle_lines(
     count: usize,
     vertices: &[f32],
 ) -> BmObstacleLines
-    ensures { result ≡ obstacle_told (answer_as
+    ensures { result ≡ obstacle_told
         (obstacle_call (agent_at position_x position_y velocity_x velocity_y) kind
-        vertices.now count margin horizon)) }
+        vertices.now count margin horizon) }
 {
     let agent = Agent {
         position: Vec2 {
