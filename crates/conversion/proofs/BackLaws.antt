@@ -2,7 +2,6 @@
 use Rattle.std.proofs.Common.{◌≡◌, ℕ, zero, suc, ◌+◌, ◌≤◌, Bool, true, false, List, [], ◌∷◌, ◌++◌, length, take, drop, sym, refl, ap, ◌∙◌, arith, take-append-drop, get_or-drop, drop-drop, take_at, drop_at, ne_eqb}
 use mathlib.Core.Bool.{false≢true}
 use Rattle.arithmetic.specs.Binary32.{when◌then◌else◌}
-use Rattle.admission.specs.Refusals.{refusal_of}
 use Rattle.kept.specs.Walks.{walk}
 use Rattle.fields.specs.Bytes.{AllBytes}
 use Rattle.fields.specs.Got.{Got, refused, got}
@@ -18,8 +17,8 @@ use Rattle.scene_moves.proofs.MoveLaws.{Way, there, back, moved-parts, moved_bac
 use Rattle.records.specs.Parts.{Part, skipped, overlong, whole, cut_short, part_in}
 use Rattle.records.proofs.PartLaws.{Lies, skips, names, holds, none, lies, whole-stays}
 use Rattle.records.proofs.WorkLaws.{by_parts}
-use Rattle.conversion.specs.declared.Stage.{Stage}
-use Rattle.conversion.specs.declared.Stage.TheVariants as stage
+use Rattle.conversion.specs.Stages.{Stage}
+use Rattle.conversion.specs.Stages as stage
 use Rattle.conversion.specs.Streams.{other_of, Met, moves, refuses, waits, met_by, met_as, met_in, next_place}
 use Rattle.conversion.specs.Streams.{onward, walked, last_stage, Converted}
 use Rattle.conversion.specs.Streams.{ended, converted_from, converted_to}
@@ -30,7 +29,7 @@ use Rattle.conversion.proofs.WalkedLaws.{work-on}
 
 abbrev converted_by : Version → ℕ → List ℕ → Met → Converted
 converted_by to place s waits = record { bytes = []; place = place; stage = last_stage (length s) }
-converted_by to place s (refuses r) = record { bytes = []; place = place; stage = stage.Refused (refusal_of r) }
+converted_by to place s (refuses r) = record { bytes = []; place = place; stage = stage.Refused r }
 converted_by to place s (moves k t) = ahead t (converted_from to (next_place place) (drop k s))
 
 converted-by : (to : Version) (place : ℕ) (s : List ℕ) (q : Met) →

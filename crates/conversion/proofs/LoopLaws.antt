@@ -4,10 +4,10 @@ use Rattle.scene_records.specs.declared.Version.{Version}
 use Rattle.records.specs.Steps.{put_at}
 use Rattle.records.proofs.LoopLaws.{put-sized, put_front, put-behind, drop_more}
 use Rattle.conversion.specs.declared.Place.{Place}
-use Rattle.conversion.specs.declared.Stage.{Stage}
+use Rattle.conversion.specs.Stages.{Stage}
 use Rattle.conversion.specs.Streams.{Met, moves, refuses, waits, met_in, next_place, Walked, stopped, after}
 use Rattle.conversion.specs.Streams.{onward, walked}
-use Rattle.conversion.specs.Steps.{Stepped, goes_on, stops, step_by, step_over, standing, standing_by}
+use Rattle.conversion.specs.Steps.{Stepped, goes_on, stops, step_by, step_over, Standing, standing_by}
 use Rattle.conversion.specs.Steps.{walked_over}
 use Rattle.conversion.proofs.MetLaws.{Meets, moving, refusing, waiting, meets}
 use Rattle.conversion.proofs.WalkedLaws.{after_nothing, after-after, work-on}
@@ -120,9 +120,12 @@ module _ (to : Version) (s out : List ℕ) (place : ℕ) (held : List ℕ) (p : 
         same = g.same ∙ t.same;
       }
 
+  abbrev pub standing-at : Stage → List ℕ → Standing
+  standing-at h l = record { place = p; stage = h; contents = l }
+
   -- where nothing is left to move, what was done is what the whole work comes to
   pub ends : (h : Stage) (l : List ℕ) → stops h l ≡ step_over to s held p →
-      standing (record { place = p; stage = h }) l ≡ walked_over to s out place
+      standing-at h l ≡ walked_over to s out place
   unfolding walked_over
   ends h l e =
       let halt = halted-by (does to s held p g.room (stops h l) e) in

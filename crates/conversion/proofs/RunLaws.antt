@@ -9,8 +9,8 @@ use Rattle.kept.specs.Walks.{walk}
 use Rattle.scene_records.specs.declared.Version.{Version}
 use Rattle.scene_records.specs.Versions.{longest_either}
 use Rattle.records.specs.Turns.{joined}
-use Rattle.conversion.specs.declared.Stage.{Stage}
-use Rattle.conversion.specs.declared.Stage.TheVariants as stage
+use Rattle.conversion.specs.Stages.{Stage}
+use Rattle.conversion.specs.Stages as stage
 use Rattle.conversion.specs.Streams.{Walked, stopped, after, walked, last_stage, is_open, Converted, ended}
 use Rattle.conversion.specs.Streams.{converted_from, converted_to}
 use Rattle.conversion.specs.Turns.{turned, told_by, ahead, run}

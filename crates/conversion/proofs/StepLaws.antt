@@ -1,7 +1,6 @@
 -- Laws of one record moved, in the code's words. Assumes nothing.
 use Rattle.std.proofs.Common.{◌≡◌, ℕ, ◌+◌, ◌-◌, ◌*◌, ◌≤◌, List, [], ◌++◌, length, take, drop, sym, refl, ap, ◌∙◌, append-nil, add-zero, arith, length-drop, take-append-drop, length-take-le, le-leb, Option, Some, None}
 use borrow.Rule.Slice.PartMut.{put_mid}
-use Rattle.admission.specs.Refusals.{refusal_of}
 use Rattle.admission.specs.Faults.{Fault, fine, fault}
 use Rattle.admission.proofs.FaultLaws.{no-fault}
 use Rattle.fields.specs.Got.{Got, refused, got}
@@ -14,7 +13,7 @@ use Rattle.records.specs.Parts.{part_of, part_in}
 use Rattle.records.proofs.PartLaws.{Lies, lies, hold-lies}
 use Rattle.records.proofs.StepLaws.{rest_of, put-in-part}
 use Rattle.conversion.specs.declared.Place.{Place}
-use Rattle.conversion.specs.declared.Stage.TheVariants as stage
+use Rattle.conversion.specs.Stages as stage
 use Rattle.conversion.specs.Streams.{other_of, met_by, met_as, met_in, next_place}
 use Rattle.conversion.specs.Steps.{goes_on, stops, step_by, step_over}
 use Rattle.conversion.proofs.MetLaws.{moved-sparing}
@@ -54,7 +53,7 @@ module _ (to : Version) (s out : List ℕ) (p : Place) (q : Option PartCode)
   pub skip_step : (k : ℕ) → q ≡ Some (code.Skipped k) → stops stage.Open out ≡ step_over to s out p
   skip_step k e = sym (rw e at by_part)
 
-  pub overlong-step : (n : ℕ) → q ≡ Some (code.Overlong n) → stops (stage.Refused (refusal_of 4)) out ≡ step_over to s out p
+  pub overlong-step : (n : ℕ) → q ≡ Some (code.Overlong n) → stops (stage.Refused 4) out ≡ step_over to s out p
   overlong-step n e = sym (rw e at by_part)
 
   module _ (k : ℕ) (e : q ≡ Some (code.Whole k)) where
@@ -86,11 +85,11 @@ module _ (to : Version) (s out : List ℕ) (p : Place) (q : Option PartCode)
       stepped = rw e at by_part
 
       pub refused-step : (r : ℕ) → f ≡ fault r →
-          stops (stage.Refused (refusal_of r)) (put_mid p.put (length out - p.put) out part) ≡ step_over to s out p
+          stops (stage.Refused r) (put_mid p.put (length out - p.put) out part) ≡ step_over to s out p
       refused-step r is = go moving told ∙ sym stepped
         where
           go : (g : Got (List ℕ)) → written f n part ≡ laid_freely g (drop p.put out) →
-              stops (stage.Refused (refusal_of r)) (put_mid p.put (length out - p.put) out part) ≡ step_by out p (met_by k g)
+              stops (stage.Refused r) (put_mid p.put (length out - p.put) out part) ≡ step_by out p (met_by k g)
           go (refused m) x =
               let number : r ≡ m = ap number_in (sym is ∙ ap (λ (y : Written). y.told) x) in
               rw (number, nothing_put p.put out part fits (ap (λ (y : Written). y.contents) x))

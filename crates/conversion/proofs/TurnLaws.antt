@@ -11,10 +11,12 @@ use Rattle.kept.proofs.KeptLaws.{kept-stays}
 use Rattle.scene_records.specs.declared.Version.{Version}
 use Rattle.scene_records.specs.Versions.{longest_either}
 use Rattle.records.proofs.TurnLaws.{part_left, mid-length}
-use Rattle.conversion.specs.declared.Stage.{Stage}
-use Rattle.conversion.specs.declared.Stage.TheVariants as stage
+use Rattle.admission.specs.declared.refusal.Refusal.{Refusal}
+use Rattle.conversion.specs.declared.Stage.{Stage as StageCode}
+use Rattle.conversion.specs.declared.Stage.TheVariants as code
 use Rattle.conversion.specs.declared.Stream.{Stream}
 use Rattle.conversion.specs.declared.Walk.{Walk}
+use Rattle.conversion.specs.Stages.{stage_of}
 use Rattle.conversion.specs.Streams.{Walked, walked, last_stage, is_open}
 use Rattle.conversion.specs.Steps.{Standing, standing, standing_by, walked_over}
 use Rattle.conversion.specs.Turns.{Turned, going_on, turned, closed_at, Lent, lent, lent_by, has_room, turn_over}
@@ -39,11 +41,11 @@ walk-room input output kept read e =
     rw (sub-zero, length-take-le (kept + read) input fits.1) (omega (arith, fits))
 
 -- which stage it is where a `let .. else` left it
-pub not-open : (g : Stage) → (g ≡ stage.Open → ⊥) → is_open g ≡ false
-not-open stage.Open h = absurd (h refl)
-not-open stage.Whole h = refl
-not-open (stage.Refused r) h = refl
-not-open stage.NoRoom h = refl
+pub not-open : (g : StageCode Refusal) → (g ≡ code.Open → ⊥) → is_open (stage_of g) ≡ false
+not-open code.Open h = absurd (h refl)
+not-open code.Whole h = refl
+not-open (code.Refused r) h = refl
+not-open code.NoRoom h = refl
 
 -- bytes that were read are worked
 turned_on : (to : Version) (kept : List ℕ) (place : ℕ) (read : List ℕ) → 1 ≤ length read →
@@ -53,9 +55,9 @@ turned_on to kept place (b ∷ read) h = refl
 
 -- ---- the turn
 
-module _ (to : Version) (input output : List ℕ) (before : Stream) (read : ℕ) where
+module _ {E : Type 0} (to : Version) (input output : List ℕ) (before : Stream E) (read : ℕ) where
   pub no-turn : has_room (length input) (length output) before.kept read ≡ false →
-      lent (closed_at 0 before.place stage.NoRoom) input output ≡ turn_over to input output before read
+      lent (closed_at 0 before.place code.NoRoom) input output ≡ turn_over to input output before read
   unfolding turn_over when◌then◌else◌
   no-turn e = rw e
 
@@ -69,12 +71,12 @@ module _ (to : Version) (input output : List ℕ) (before : Stream) (read : ℕ)
     unfolding turn_over when◌then◌else◌
     stepped = rw room
 
-    pub last_turn : read ≡ 0 → lent (closed_at 0 before.place (last_stage before.kept)) input output
-        ≡ turn_over to input output before read
-    last_turn e =
+    pub last_turn : (g : StageCode Refusal) → stage_of g ≡ last_stage before.kept → read ≡ 0 →
+        lent (closed_at 0 before.place g) input output ≡ turn_over to input output before read
+    last_turn g is e =
         let long : length (take before.kept input) ≡ before.kept =
         length-take-le before.kept input (omega (arith, fits.1)) in
-        sym (stepped ∙ rw (e, long) refl)
+        sym (stepped ∙ rw (e, long, is) refl)
 
     -- what was kept, and behind it what was read
     s : List ℕ
@@ -97,7 +99,7 @@ module _ (to : Version) (input output : List ℕ) (before : Stream) (read : ℕ)
       placed = rw sub-zero at e ∙ rw all
 
       used : v.place.used ≡ w.used
-      used = ap (λ (x : Standing). x.walk.place.used) placed
+      used = ap (λ (x : Standing). x.place.used) placed
 
       pub used-there : v.place.used ≤ before.kept + read
       unfolding w
@@ -122,29 +124,29 @@ module _ (to : Version) (input output : List ℕ) (before : Stream) (read : ℕ)
           stepped ∙ ap (λ (t : Turned). lent_by t input output)
           (turned_on to (take before.kept input) before.place (take read (drop before.kept input)) brought)
 
-      stage-same : v.stage ≡ w.stage
-      stage-same = ap (λ (x : Standing). x.walk.stage) placed
+      stage-same : stage_of v.stage ≡ w.stage
+      stage-same = ap (λ (x : Standing). x.stage) placed
 
       put_same : v.place.put ≡ length w.bytes
-      put_same = ap (λ (x : Standing). x.walk.place.put) placed
+      put_same = ap (λ (x : Standing). x.place.put) placed
 
       place_same : v.place.place ≡ w.place
-      place_same = ap (λ (x : Standing). x.walk.place.place) placed
+      place_same = ap (λ (x : Standing). x.place.place) placed
 
       held : out ≡ w.bytes ++ drop (length w.bytes) output
       held = ap (λ (x : Standing). x.contents) placed
 
-      pub refused-turn : is_open v.stage ≡ false →
+      pub refused-turn : is_open (stage_of v.stage) ≡ false →
           lent (closed_at v.place.put v.place.place v.stage) input out ≡ turn_over to input output before read
       unfolding when◌then◌else◌
       refused-turn h = sym (went ∙ rw (ap is_open (sym stage-same) ∙ h, put_same, place_same, stage-same, held) refl)
 
-      pub whole-turn : v.stage ≡ stage.Open →
+      pub whole-turn : v.stage ≡ code.Open →
           lent (record {
             put = v.place.put;
             kept = before.kept + read - v.place.used;
             place = v.place.place;
-            stage = stage.Open;
+            stage = code.Open;
           })
           (shifted v.place.used (before.kept + read - v.place.used) input) out
           ≡ turn_over to input output before read
@@ -152,16 +154,16 @@ module _ (to : Version) (input output : List ℕ) (before : Stream) (read : ℕ)
       whole-turn h =
           let count : before.kept + read - v.place.used ≡ length (drop w.used s) =
           rw (length-drop, size, used) refl in
-          sym (went ∙ rw (sym stage-same ∙ h, left, count, put_same, place_same, held) refl)
+          sym (went ∙ rw (sym stage-same ∙ ap stage_of h, left, count, put_same, place_same, held) refl)
 
 -- ---- what a turn tells
 
 -- the moved records fit the output, and fewer bytes are kept than the longest record has
 record Told (l : Lent) : Type 0 where
-  pub fits : l.turn.put ≤ length l.output
-  pub short : l.turn.kept ≤ 1 + longest_either
+  pub fits : l.put ≤ length l.output
+  pub short : l.kept ≤ 1 + longest_either
 
-told : (to : Version) (input output : List ℕ) (before : Stream) (read : ℕ) → Told (turn_over to input output before read)
+told : {E : Type 0} (to : Version) (input output : List ℕ) (before : Stream E) (read : ℕ) → Told (turn_over to input output before read)
 unfolding turn_over
 told to input output before read =
     if-all Told (has_room (length input) (length output) before.kept read)
@@ -171,7 +173,7 @@ told to input output before read =
     })
     (record { fits = omega arith; short = omega arith })
 
-module _ (to : Version) (input output held out : List ℕ) (before t : Stream) (read : ℕ)
+module _ (to : Version) (input output held out : List ℕ) (before t : Stream Refusal) (read : ℕ)
     (e : lent t held out ≡ turn_over to input output before read) where
   pub put-fits : t.put ≤ length out
   put-fits = (rw (← e) at (told to input output before read)).fits
@@ -181,16 +183,16 @@ module _ (to : Version) (input output held out : List ℕ) (before t : Stream) (
 
 -- ---- a turn of a program
 
-lent-parts : (l : Turned) (input output held out : List ℕ) (t : Stream) → lent t held out ≡ lent_by l input output →
-    (take t.put out ≡ l.bytes) × (take t.kept held ≡ l.kept) × (t.place ≡ l.place) × (t.stage ≡ l.stage)
+lent-parts : (l : Turned) (input output held out : List ℕ) (t : Stream Refusal) → lent t held out ≡ lent_by l input output →
+    (take t.put out ≡ l.bytes) × (take t.kept held ≡ l.kept) × (t.place ≡ l.place) × (stage_of t.stage ≡ l.stage)
 lent-parts l input output held out t e = (
-  rw (ap (λ (x : Lent). x.output) e) (take_at l.bytes _ t.put (sym (ap (λ (x : Lent). x.turn.put) e))),
-  rw (ap (λ (x : Lent). x.input) e) (take_at l.kept _ t.kept (sym (ap (λ (x : Lent). x.turn.kept) e))),
-  ap (λ (x : Lent). x.turn.place) e,
-  ap (λ (x : Lent). x.turn.stage) e,
+  rw (ap (λ (x : Lent). x.output) e) (take_at l.bytes _ t.put (sym (ap (λ (x : Lent). x.put) e))),
+  rw (ap (λ (x : Lent). x.input) e) (take_at l.kept _ t.kept (sym (ap (λ (x : Lent). x.kept) e))),
+  ap (λ (x : Lent). x.place) e,
+  ap (λ (x : Lent). x.stage) e,
 )
 
-module _ (to : Version) (input output held out part : List ℕ) (before t : Stream) (read : ℕ)
+module _ (to : Version) (input output held out part : List ℕ) (before t : Stream Refusal) (read : ℕ)
     (ready : Ready (length input) (length output) before.kept) where
   -- what the input holds when something was read behind what is kept
   abbrev pub filled : List ℕ

@@ -8,7 +8,7 @@ use Rattle.kept.proofs.WalkLaws.{walk-on}
 use Rattle.scene_records.specs.declared.Version.{Version}
 use Rattle.scene_records.specs.Versions.{longest_either}
 use Rattle.records.proofs.WorkLaws.{by_parts}
-use Rattle.conversion.specs.declared.Stage.TheVariants as stage
+use Rattle.conversion.specs.Stages as stage
 use Rattle.conversion.specs.Streams.{Met, moves, refuses, waits, met_in, next_place, Walked, stopped, after}
 use Rattle.conversion.specs.Streams.{onward, step, walked, is_open}
 use Rattle.conversion.proofs.MetLaws.{Meets, moving, refusing, waiting, meets}

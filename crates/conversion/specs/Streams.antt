@@ -1,15 +1,14 @@
 -- A stream of scene records moved to one version, record by record (02, T-07). Definitions only. Assumes nothing.
 use Rattle.std.specs.Prelude.{ℕ, ◌+◌, ◌%◌, ◌^◌, Bool, true, false, List, [], ◌++◌, length, take, drop, ◌==◌}
 use Rattle.arithmetic.specs.Binary32.{when◌then◌else◌}
-use Rattle.admission.specs.Refusals.{refusal_of}
 use Rattle.kept.specs.Walks.{walk}
 use Rattle.fields.specs.Got.{Got, refused, got}
 use Rattle.scene_records.specs.declared.Version.{Version}
 use Rattle.scene_records.specs.declared.Version.TheVariants.{One, Two}
 use Rattle.scene_moves.specs.Moves.{moved}
 use Rattle.records.specs.Parts.{Part, skipped, overlong, whole, cut_short, part_in}
-use Rattle.conversion.specs.declared.Stage.{Stage}
-use Rattle.conversion.specs.declared.Stage.TheVariants as stage
+use Rattle.conversion.specs.Stages.{Stage}
+use Rattle.conversion.specs.Stages as stage
 
 -- ---- one record
 
@@ -62,7 +61,7 @@ after k t w = record { used = k + w.used; bytes = t ++ w.bytes; place = w.place;
 -- a record, then what `next` makes of the bytes behind it; one that is refused ends it
 abbrev pub onward : (ℕ → List ℕ → Walked) → ℕ → List ℕ → Met → Walked
 onward next place s waits = stopped place stage.Open
-onward next place s (refuses r) = stopped place (stage.Refused (refusal_of r))
+onward next place s (refuses r) = stopped place (stage.Refused r)
 onward next place s (moves k t) = after k t (next (next_place place) (drop k s))
 
 abbrev pub step : Version → (ℕ → List ℕ → Walked) → ℕ → List ℕ → Walked
@@ -76,7 +75,7 @@ walked to place s = walk (step to) (λ p. stopped p stage.Open) (length s) place
 
 -- bytes that are left over are a record cut short, which gets 2
 unfoldable pub last_stage : ℕ → Stage
-last_stage left = when left == 0 then stage.Whole else stage.Refused (refusal_of 2)
+last_stage left = when left == 0 then stage.Whole else stage.Refused 2
 
 abbrev pub is_open : Stage → Bool
 is_open stage.Open = true

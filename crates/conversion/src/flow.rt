@@ -1,5 +1,6 @@
 // The work on what a stream brings: the records that are whole, and the end.
 ghost use Rattle.std.specs.Prelude.{◌≡◌, ◌*◌, ◌≤◌, length};
+ghost use Rattle.conversion.specs.Stages.{stage_of};
 ghost use Rattle.conversion.specs.Streams.{last_stage};
 ghost use Rattle.conversion.specs.Steps.{standing, walked_over};
 
@@ -40,7 +41,7 @@ pub(crate) fn walk(input: &[u8], output: &mut [u8], place: u64, to: Version) -> 
 
 // The stage at the end of the input, with so many bytes left over: they are a record cut short, which gets 2.
 pub(crate) fn last_stage(left: usize) -> Stage
-    ensures { result ≡ last_stage left }
+    ensures { stage_of result ≡ last_stage left }
 {
     if left == 0 {
         return Stage::Whole;

@@ -11,13 +11,14 @@ mod flow;
 mod steps;
 
 // Whether there may be more to read; or the stream has ended behind a whole record; or the record at the place is
-// refused; or the buffers of a turn were too short for it.
+// refused; or the buffers of a turn were too short for it. A turn tells a refusal by `Refusal`, and takes a stream before it
+// whatever tells one there.
 // kept: no plainer: beside a refusal stand the bytes that were moved before it, which a `Result` would not hold.
 #[derive(Clone, Copy, Debug, PartialEq, Eq)]
-pub enum Stage {
+pub enum Stage<E = Refusal> {
     Open,
     Whole,
-    Refused(Refusal),
+    Refused(E),
     NoRoom,
 }
 
@@ -25,11 +26,11 @@ pub enum Stage {
 // many bytes wait at the input's start for the next read; the place of the next record, counted from 0, or of the one
 // that is refused; and the stage.
 #[derive(Clone, Copy, Debug, PartialEq, Eq)]
-pub struct Stream {
+pub struct Stream<E = Refusal> {
     pub put: usize,
     pub kept: usize,
     pub place: u64,
-    pub stage: Stage,
+    pub stage: Stage<E>,
 }
 
 impl Stream {
@@ -74,9 +75,14 @@ pub fn start() -> Stream
 // `scene_moves` refuses, or whose length is over 2,887 (4), ends the stream: those before it are moved, nothing is
 // kept. A read that brought nothing has met the end: bytes that were kept are a record cut short (2). Where the input
 // does not hold so many bytes, or the output has not two for each of the input's, nothing is done.
-pub fn turn(input: &mut [u8], output: &mut [u8], before: Stream, read: usize, to: Version) -> Stream
-    ensures { lent result input.new output.new
-        ≡ turn_over to input.old output.old before read }
+pub fn turn<E: Copy>(
+    input: &mut [u8],
+    output: &mut [u8],
+    before: Stream<E>,
+    read: usize,
+    to: Version,
+) -> Stream
+    ensures { lent result input.new output.new ≡ turn_over to input.old output.old before read }
 {
     let kept = before.kept;
     let place = before.place;

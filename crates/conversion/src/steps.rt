@@ -30,13 +30,18 @@ pub(crate) fn step(
         Part::Overlong(_) => Err(Refusal::TooMany),
         Part::Whole(count) => {
             let end = at.used + count;
-            let length = move_record(&input[at.used..end], &mut output[at.put..], to)?;
-            let next = at.place.wrapping_add(1);
-            Ok(Some(Place {
-                used: end,
-                put: at.put + length,
-                place: next,
-            }))
+            match move_record(&input[at.used..end], &mut output[at.put..], to) {
+                Ok(length) => {
+                    let next = at.place.wrapping_add(1);
+                    Ok(Some(Place {
+                        used: end,
+                        put: at.put + length,
+                        place: next,
+                    }))
+                }
+                // kept: must-fail refused_record_skipped plants its mistake in this arm
+                Err(refusal) => Err(refusal),
+            }
         }
     }
 }

@@ -1,8 +1,5 @@
 -- `conversion::steps::step` meets its contract. Assumes nothing.
 use Rattle.std.proofs.Common.{refl, ap, arith, Some}
-use Rattle.arithmetic.specs.Binary32.{when◌then◌else◌}
-use Rattle.admission.proofs.FaultLaws.{refusal-back}
-use Rattle.scene_records.proofs.Chains.{result-exit}
 use Rattle.conversion.specs.Streams.{next_place}
 use Rattle.conversion.proofs.StepLaws.{cut_step, skip_step, overlong-step, whole-fits, refused-step}
 use Rattle.conversion.proofs.StepLaws.{moved-fits, moved-step}
@@ -19,7 +16,6 @@ returns-in-Skipped c =
     skip_step a.to a.input.now a.output.now a.at _ c.in-Some.ensures _ (ap Some c.in-Skipped.is)
 
 pub returns-in-Overlong : goal.returns-in-Overlong
-unfolding when◌then◌else◌
 returns-in-Overlong c =
     let a = c.args in
     overlong-step a.to a.input.now a.output.now a.at _ c.in-Some.ensures _ (ap Some c.in-Overlong.is)
@@ -48,19 +44,18 @@ overflow_add-result c =
     omega (
       arith,
       moved-fits a.to a.input.now a.output.now a.at _ c.in-Some.ensures _ (ap Some c.in-Whole.is)
-          c.requires.2 c.requires.1 _ _ _ c.in_ok-length-in-Whole.ensures refl,
+          c.requires.2 c.requires.1 _ _ _ c.in-Ok.ensures refl,
     )
 
-pub returns-in_err-length-in-Whole : goal.returns-in_err-length-in-Whole
-returns-in_err-length-in-Whole c =
+pub returns-in-Err : goal.returns-in-Err
+returns-in-Err c =
     let a = c.args in
-    rw (result-exit c.from_residual.result _ c.from_residual.ensures.1)
-    (rw refusal-back at (refused-step a.to a.input.now a.output.now a.at _ c.in-Some.ensures _ (ap Some c.in-Whole.is)
-    c.requires.2 c.requires.1 _ _ _ c.in_err-length-in-Whole.ensures _ refl))
+    refused-step a.to a.input.now a.output.now a.at _ c.in-Some.ensures _ (ap Some c.in-Whole.is)
+    c.requires.2 c.requires.1 _ _ _ c.in-Err.ensures _ refl
 
-pub returns-in_ok-length-in-Whole : goal.returns-in_ok-length-in-Whole
+pub returns-in-Ok : goal.returns-in-Ok
 unfolding next_place
-returns-in_ok-length-in-Whole c =
+returns-in-Ok c =
     let a = c.args in
     moved-step a.to a.input.now a.output.now a.at _ c.in-Some.ensures _ (ap Some c.in-Whole.is)
-    c.requires.2 c.requires.1 _ _ _ c.in_ok-length-in-Whole.ensures refl _ refl
+    c.requires.2 c.requires.1 _ _ _ c.in-Ok.ensures refl _ refl
