@@ -4,7 +4,7 @@ use native.Mathlib.Omega.{arith}
 use native.Mathlib.Nat.{sub-zero}
 use mathlib.Core.Path.{◌≡◌, refl, sym, ap, ◌∙◌}
 use mathlib.Core.Bool.{true, false}
-use Rattle.std.specs.Prelude.{Some, None}
+use Rattle.std.specs.Prelude.{Option, Some, None, Result}
 use mathlib.Core.List.{List, [], ◌∷◌, ◌++◌}
 use lib.Dec.{ltb}
 use lib.ListN.{length, take, drop, length-drop}
@@ -18,13 +18,19 @@ use Rattle.answer_records.specs.Answers.{longest_answer}
 use Rattle.records.specs.declared.Stream.{Stream}
 use Rattle.records.specs.Turns.{Turned, turned, lent, turn_over, has_room_for}
 use Rattle.records.proofs.TurnLaws as turns
-use Rattle.comparison.specs.Verdicts.{Compared}
-use Rattle.comparison.specs.declared.Progress.{Progress}
+use Rattle.comparison.specs.declared.Differing.{Differing}
+use Rattle.comparison.specs.declared.UnreadableAt.{UnreadableAt}
+use Rattle.comparison.specs.declared.Progress.{Progress as ProgressCode}
+use Rattle.comparison.specs.Verdicts.{Progress, compared_of, found_of, progress_in}
 use Rattle.comparison.specs.Comparing.{compared_from, advanced}
 use Rattle.comparison.specs.Reads.{start, with_scenes, is_some, with_answers, leaving, stepped_by, compared_on, wants}
 use Rattle.comparison.proofs.PartLaws.{used-within}
 use Rattle.compare.specs.declared.Reading.{Reading}
 use Rattle.compare.specs.Turns.{kept_in, beginning, counted, Advances, Ready, Follows, of-scenes, of-answers, at-end}
+
+-- what the code tells
+abbrev Verdict : Type 0
+Verdict = Result (Option Differing) UnreadableAt
 
 -- ---- what is left of a side
 
@@ -47,14 +53,14 @@ module _ (from end count : ℕ) (l out : List ℕ) (within : from ≤ end) (fits
   left-fits : length out ≡ length l → count ≤ length out
   left-fits same = omega (arith, ap (λ (m : Moved). m.count) moved)
 
-module _ (before : Reading) (mine : ℕ) (ours : List ℕ) (other : ℕ) (theirs : List ℕ) (p : Progress)
+module _ (before : Reading) (mine : ℕ) (ours : List ℕ) (other : ℕ) (theirs : List ℕ) (p : ProgressCode)
     (mine-fits : mine ≤ length ours) (other_fits : other ≤ length theirs)
-    (e : p ≡ advanced before.place (take (mine - 0) ours) (take (other - 0) theirs)) where
-  same : p ≡ advanced before.place (take mine ours) (take other theirs)
+    (e : progress_in p ≡ advanced before.place (take (mine - 0) ours) (take (other - 0) theirs)) where
+  same : progress_in p ≡ advanced before.place (take mine ours) (take other theirs)
   same = rw (sub-zero mine, sub-zero other) at e
 
   went-by : (input : List ℕ) → compared_on (kept_in (counted before mine other) input ours theirs)
-      ≡ stepped_by (leaving (kept_in (counted before mine other) input ours theirs) p) p.found
+      ≡ stepped_by (leaving (kept_in (counted before mine other) input ours theirs) (progress_in p)) (found_of p.found)
   unfolding compared_on
   went-by input = ap (λ (q : Progress). stepped_by (leaving (kept_in (counted before mine other) input ours theirs) q)
       q.found) (sym same)
@@ -66,7 +72,7 @@ module _ (before : Reading) (mine : ℕ) (ours : List ℕ) (other : ℕ) (theirs
         omega (arith, w.1, ap (λ (q : Progress). q.theirs) same, length-take-le other theirs other_fits),
       )
 
-  pub ended-advances : {verdict : Compared} → p.found ≡ Some verdict →
+  pub ended-advances : {verdict : Verdict} → p.found ≡ Some verdict →
       Advances before mine ours other theirs
       (record {
         stream = before.stream;
@@ -80,7 +86,9 @@ module _ (before : Reading) (mine : ℕ) (ours : List ℕ) (other : ℕ) (theirs
     stream = refl;
     ours-fit = mine-fits;
     theirs-fit = other_fits;
-    went = λ input. sym (went-by input ∙ ap (stepped_by (leaving (kept_in (counted before mine other) input ours theirs) p)) h);
+    went = λ input.
+        sym (went-by input ∙ ap (λ (f : Option Verdict). stepped_by (leaving (kept_in (counted before mine other) input ours theirs) (progress_in p))
+        (found_of f)) h);
   }
 
   pub going-advances : p.found ≡ None → (n m : ℕ) (o t : List ℕ) → kept n o ≡ kept_over p.ours mine ours →
@@ -104,7 +112,8 @@ module _ (before : Reading) (mine : ℕ) (ours : List ℕ) (other : ℕ) (theirs
           left-kept p.ours mine n ours o used.0 mine-fits a,
           left-kept p.theirs other m theirs t used.1 other_fits b,
         )
-        (sym (went-by input ∙ ap (stepped_by (leaving (kept_in (counted before mine other) input ours theirs) p)) h));
+        (sym (went-by input ∙ ap (λ (f : Option Verdict). stepped_by (leaving (kept_in (counted before mine other) input ours theirs) (progress_in p))
+        (found_of f)) h));
   }
 
 -- ---- what was read behind what waits
@@ -290,15 +299,15 @@ module _ (before : Reading) (input ours theirs part : List ℕ) (brought : ℕ) 
 
 module _ (before next : Reading) (input ours theirs : List ℕ) (ready : Ready (length input) (length ours)
     (length theirs) before) where
-  pub end-follows : (verdict : Compared) → wants before.ours before.stream.more ≡ false →
+  pub end-follows : (verdict : Verdict) → wants before.ours before.stream.more ≡ false →
       wants before.theirs before.more ≡ false →
-      verdict ≡ compared_from before.place (take (before.ours - 0) ours) (take (before.theirs - 0) theirs) →
+      compared_of verdict ≡ compared_from before.place (take (before.ours - 0) ours) (take (before.theirs - 0) theirs) →
       next.found ≡ Some verdict →
       Follows before input ours theirs next input ours theirs
   end-follows verdict a b e h =
       at-end (rw (length-take-le before.ours ours ready.ours-fit) a)
       (rw (length-take-le before.theirs theirs ready.theirs-fit) b)
-      (h ∙ ap Some (rw (sub-zero before.ours, sub-zero before.theirs) at e))
+      (ap found_of h ∙ ap Some (rw (sub-zero before.ours, sub-zero before.theirs) at e))
 
 -- ---- buffers and what is kept as they were
 

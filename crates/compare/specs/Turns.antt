@@ -2,6 +2,7 @@
 use Rattle.std.specs.Prelude.{ℕ, ◌+◌, ◌*◌, ◌≤◌, ◌≡◌, true, false, List, length, take, Option, Some, None}
 use Rattle.scene_records.specs.Versions.{longest_either}
 use Rattle.answer_records.specs.Answers.{longest_answer}
+use Rattle.comparison.specs.Verdicts.{found_of}
 use Rattle.comparison.specs.Comparing.{compared_from}
 use Rattle.comparison.specs.Reads.{Kept, with_scenes, with_answers, stepped_by, compared_on, wants}
 use Rattle.compare.specs.declared.Reading.{Reading}
@@ -51,7 +52,7 @@ pub record Advances (before : Reading) (mine : ℕ) (ours : List ℕ) (other : �
   pub stream : next.stream ≡ before.stream
   pub ours-fit : next.ours ≤ length mine-then
   pub theirs-fit : next.theirs ≤ length other-then
-  pub went : (input : List ℕ) → stepped_by (kept_in next input mine-then other-then) next.found
+  pub went : (input : List ℕ) → stepped_by (kept_in next input mine-then other-then) (found_of next.found)
       ≡ compared_on (kept_in (counted before mine other) input ours theirs)
 
 -- buffers of which each read may fill 64 KiB and more, with room for all answers to a read behind those that wait
@@ -68,14 +69,14 @@ pub record Ready (input ours theirs : ℕ) (r : Reading) : Type 0 where
 pub data Follows (before : Reading) (input ours theirs : List ℕ) (next : Reading)
     (input-then ours-then theirs-then : List ℕ) : Type 0 where
   of-scenes : before.stream.more ≡ true → (read : List ℕ) →
-      stepped_by (kept_in next input-then ours-then theirs-then) next.found
+      stepped_by (kept_in next input-then ours-then theirs-then) (found_of next.found)
       ≡ compared_on (with_scenes (kept_in before input ours theirs) read) →
       Follows before input ours theirs next input-then ours-then theirs-then
   of-answers : (read : List ℕ) →
-      stepped_by (kept_in next input-then ours-then theirs-then) next.found
+      stepped_by (kept_in next input-then ours-then theirs-then) (found_of next.found)
       ≡ compared_on (with_answers (kept_in before input ours theirs) read) →
       Follows before input ours theirs next input-then ours-then theirs-then
   at-end : wants (length (take before.ours ours)) before.stream.more ≡ false →
       wants (length (take before.theirs theirs)) before.more ≡ false →
-      next.found ≡ Some (compared_from before.place (take before.ours ours) (take before.theirs theirs)) →
+      found_of next.found ≡ Some (compared_from before.place (take before.ours ours) (take before.theirs theirs)) →
       Follows before input ours theirs next input-then ours-then theirs-then

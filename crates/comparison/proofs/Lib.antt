@@ -4,3 +4,4 @@ pub mod PartLaws
 pub mod TurnLaws
 pub mod ReadLaws
 pub mod OwnLaws
+pub mod Agreement

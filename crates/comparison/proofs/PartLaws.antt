@@ -16,13 +16,11 @@ use Rattle.answer_logs.specs.Logs.{Entry, found_as, size_in, found_in}
 use Rattle.answer_logs.specs.Parts.{waits, found_whole}
 use Rattle.answer_logs.proofs.LogLaws.{found-cut}
 use Rattle.answer_logs.proofs.CutLaws.{found-append, waits-cut}
-use Rattle.admission.specs.Refusals.{refusal_of}
-use Rattle.comparison.specs.declared.Turn.{Turn}
-use Rattle.comparison.specs.declared.Turn.TheVariants as turn
-use Rattle.comparison.specs.Verdicts.{Compared}
+use Rattle.comparison.specs.Places.{Turn}
+use Rattle.comparison.specs.Places as turn
+use Rattle.comparison.specs.Verdicts.{Compared, Progress}
 use Rattle.comparison.specs.declared.Difference.{Difference}
 use Rattle.comparison.specs.declared.Difference.TheVariants as difference
-use Rattle.comparison.specs.declared.Progress.{Progress}
 use Rattle.comparison.specs.Agreeing.{matched_entries}
 use Rattle.comparison.specs.Turns.{turn_by}
 use Rattle.comparison.specs.Comparing.{turn_of, next_place, Stop, behind, passed, walked, first_stop, compared_from, found_by, stopped_at, progress_of, advanced}
@@ -174,9 +172,9 @@ module _ (o t : List ℕ) (place : ℕ) (next : ℕ → ℕ → Stop) (same : (j
   turn-left : (f g : log.Found) → Seen o f → Seen t g → Moves o t (turn_of f g) →
       Left o t (progress_of (passed place next (turn_of f g)))
   unfolding found_by
-  turn-left log.ended (log.bad n) p q m = ended-left o t place (turn.Unreadable (refusal_of n)) refl
-  turn-left (log.bad i) (log.bad n) p q m = ended-left o t place (turn.Unreadable (refusal_of n)) refl
-  turn-left (log.entry a j) (log.bad n) p q m = ended-left o t place (turn.Unreadable (refusal_of n)) refl
+  turn-left log.ended (log.bad n) p q m = ended-left o t place (turn.Unreadable n) refl
+  turn-left (log.bad i) (log.bad n) p q m = ended-left o t place (turn.Unreadable n) refl
+  turn-left (log.entry a j) (log.bad n) p q m = ended-left o t place (turn.Unreadable n) refl
   turn-left log.ended log.ended (nothing h) q m = going-left o t place turn.BothEnded (inl h)
   turn-left (log.bad i) log.ended p (nothing h) m = going-left o t place (turn.OneEnded difference.NoneOfOurs) (inr h)
   turn-left (log.entry a j) log.ended p (nothing h) m = going-left o t place (turn.OneEnded difference.NoneOfTheirs) (inr h)

@@ -11,9 +11,8 @@ use Rattle.answer_logs.specs.Logs.{Entry, outcome, refusal, found_in, logged_as,
 use Rattle.answer_logs.specs.Parts.{found_whole, whole_at}
 use Rattle.answer_logs.proofs.RecordLaws.{Stands, an-outcome, a-refusal, stands}
 use Rattle.answer_logs.proofs.PartLaws.{whole-stands}
-use Rattle.admission.specs.declared.refusal.Refusal.{Refusal}
-use Rattle.comparison.specs.declared.Turn.{Turn}
-use Rattle.comparison.specs.declared.Turn.TheVariants as turn
+use Rattle.comparison.specs.Places.{Turn}
+use Rattle.comparison.specs.Places as turn
 use Rattle.comparison.specs.Verdicts.{Compared, agree, differs, unreadable}
 use Rattle.comparison.specs.declared.Difference.{Difference}
 use Rattle.comparison.specs.Agreeing.{matched_entries}
@@ -45,7 +44,7 @@ whole-sized s = stands-sized s (found_whole s) (whole-stands s 0)
 
 pub data Moves (o t : List ℕ) : Turn → Type 0 where
   moves : {j k : ℕ} → 1 ≤ j → j ≤ length o → 1 ≤ k → k ≤ length t → Moves o t (turn.Onward j k)
-  not-readable : {r : Refusal} → Moves o t (turn.Unreadable r)
+  not-readable : {n : ℕ} → Moves o t (turn.Unreadable n)
   not-the-same : {d : Difference} → Moves o t (turn.Different d)
   no_more : Moves o t turn.BothEnded
   one_more : {d : Difference} → Moves o t (turn.OneEnded d)

@@ -15,8 +15,7 @@ use Rattle.answer_logs.specs.Parts.{waits}
 use Rattle.answer_logs.proofs.CutLaws.{found-append, waiting_few}
 use Rattle.records.specs.Streams.{unlimited, stopped, worked, last_answer, answers_from}
 use Rattle.records.proofs.RunLaws.{worked-out, cut-answers, nothing_read}
-use Rattle.comparison.specs.Verdicts.{Compared}
-use Rattle.comparison.specs.declared.Progress.{Progress}
+use Rattle.comparison.specs.Verdicts.{Compared, Progress}
 use Rattle.comparison.specs.Comparing.{turn_of, told_in, compared_from, compared_logs, compared, advanced}
 use Rattle.comparison.specs.Reads.{Kept, start, with_scenes, with_answers, told, goes_on, leaving, stepped_by, compared_on, wants, Runs, scenes-told, scenes-on, answers-told, answers-on, enough}
 use Rattle.comparison.proofs.PlaceLaws.{last-place}

@@ -13,10 +13,11 @@ use Rattle.answer_logs.specs.Logs as log
 use Rattle.answer_logs.specs.Logs.{outcome, refusal, found_in, logged_as, logged_at}
 use Rattle.answer_logs.specs.Parts.{found_whole, whole_at}
 use Rattle.comparison.specs.declared.Difference.{Difference}
-use Rattle.comparison.specs.declared.Turn.{Turn}
-use Rattle.comparison.specs.declared.Turn.TheVariants as turn
-use Rattle.comparison.specs.Verdicts.{Compared}
-use Rattle.comparison.specs.declared.Progress.{Progress}
+use Rattle.comparison.specs.declared.Turn.{Turn as TurnCode}
+use Rattle.comparison.specs.declared.Turn.TheVariants as code
+use Rattle.comparison.specs.Places.{Turn, said_turn}
+use Rattle.comparison.specs.Places as turn
+use Rattle.comparison.specs.Verdicts.{Compared, Progress}
 use Rattle.comparison.specs.Agreeing.{matched_outcomes, matched_refusals}
 use Rattle.comparison.specs.Turns.{turn_by, against_end, against_outcome, against_refusal, turn_in, part_turn, whole_turn}
 use Rattle.comparison.specs.Comparing.{turn_of, next_place, Stop, behind, passed, first_stop, told_in, compared_from, stopped_at, progress_of, advanced}
@@ -65,12 +66,12 @@ is_onward (turn.Different d) = false
 is_onward turn.BothEnded = false
 is_onward (turn.OneEnded d) = false
 
-pub stays : (w : Turn) → ((j k : ℕ) → w ≡ turn.Onward j k → ⊥) → is_onward w ≡ false
-stays (turn.Onward j k) h = absurd (h j k refl)
-stays (turn.Unreadable r) h = refl
-stays (turn.Different d) h = refl
-stays turn.BothEnded h = refl
-stays (turn.OneEnded d) h = refl
+pub stays : (w : TurnCode) → ((j k : ℕ) → w ≡ code.Onward j k → ⊥) → is_onward (said_turn w) ≡ false
+stays (code.Onward j k) h = absurd (h j k refl)
+stays (code.Unreadable r) h = refl
+stays (code.Different d) h = refl
+stays code.BothEnded h = refl
+stays (code.OneEnded d) h = refl
 
 data Reaching (o t : List ℕ) (at by : ℕ) : Turn → Type 0 where
   reaching : {j k : ℕ} → at < j → j ≤ length o → by < k → k ≤ length t → Reaching o t at by (turn.Onward j k)

@@ -1,16 +1,14 @@
 -- Two logs compared place by place, whole or as far as a part of each reaches (02, T-09). Definitions only. Assumes nothing.
 use Rattle.std.specs.Prelude.{ℕ, zero, suc, ◌+◌, List, ltb, length, drop, Option, Some, None}
 use Rattle.arithmetic.specs.Binary32.{when◌then◌else◌}
-use Rattle.admission.specs.Refusals.{refusal_of}
 use Rattle.answer_logs.specs.Logs as log
 use Rattle.answer_logs.specs.Logs.{found_in}
 use Rattle.answer_logs.specs.Parts.{found_whole}
 use Rattle.records.specs.Streams.{answers_to}
 use Rattle.comparison.specs.declared.Difference.TheVariants as difference
-use Rattle.comparison.specs.declared.Turn.{Turn}
-use Rattle.comparison.specs.declared.Turn.TheVariants as turn
-use Rattle.comparison.specs.Verdicts.{Compared, agree, differs, unreadable}
-use Rattle.comparison.specs.declared.Progress.{Progress}
+use Rattle.comparison.specs.Places.{Turn}
+use Rattle.comparison.specs.Places as turn
+use Rattle.comparison.specs.Verdicts.{Compared, agree, differs, unreadable, Progress}
 use Rattle.comparison.specs.Agreeing.{matched_entries}
 use Rattle.comparison.specs.Turns.{turn_by}
 
@@ -20,7 +18,7 @@ use Rattle.comparison.specs.Turns.{turn_by}
 -- first; "a missing or surplus record is a difference at its place". An unreadable one of ours, which there is none of, counts as
 -- none and differs.
 abbrev pub turn_of : log.Found → log.Found → Turn
-turn_of ours (log.bad n) = turn.Unreadable (refusal_of n)
+turn_of ours (log.bad n) = turn.Unreadable n
 turn_of log.ended log.ended = turn.BothEnded
 turn_of (log.bad m) log.ended = turn.OneEnded difference.NoneOfOurs
 turn_of (log.entry a j) log.ended = turn.OneEnded difference.NoneOfTheirs

@@ -3,8 +3,7 @@
 use Rattle.std.specs.Prelude.{ℕ, ◌≡◌, Bool, true, false, ◌&&◌, List, [], ◌∷◌, ◌++◌, ltb, length, drop, Option, Some, None}
 use Rattle.answer_records.specs.Answers.{longest_answer}
 use Rattle.records.specs.Turns.{Turned, turned}
-use Rattle.comparison.specs.Verdicts.{Compared}
-use Rattle.comparison.specs.declared.Progress.{Progress}
+use Rattle.comparison.specs.Verdicts.{Compared, Progress}
 use Rattle.comparison.specs.Comparing.{compared_from, advanced}
 
 -- what is kept between two reads: bytes of the scenes, as `records` keeps them, and whether there may be more of them;

@@ -1,13 +1,12 @@
 -- What stands at a byte of each of two logs, in the code's words. Definitions only. Assumes nothing.
 use Rattle.std.specs.Prelude.{ℕ, List, Option, Some, None}
 use Rattle.answer_records.specs.declared.Answer.{Answer}
-use Rattle.admission.specs.Refusals.{refusal_of}
 use Rattle.answer_logs.specs.Logs.{Logged, nothing, faulty, placed, outcome, refusal, logged_at}
 use Rattle.answer_logs.specs.Parts.{whole_at}
 use Rattle.comparison.specs.declared.Difference.{Difference}
 use Rattle.comparison.specs.declared.Difference.TheVariants as difference
-use Rattle.comparison.specs.declared.Turn.{Turn}
-use Rattle.comparison.specs.declared.Turn.TheVariants as turn
+use Rattle.comparison.specs.Places.{Turn}
+use Rattle.comparison.specs.Places as turn
 use Rattle.comparison.specs.Agreeing.{matched_outcomes, matched_refusals}
 
 -- behind two records that agree the comparison goes on
@@ -35,7 +34,7 @@ against_refusal (placed (refusal m) j) n k = turn_by (matched_refusals m n) j k
 
 unfoldable pub turn_in : Logged → Logged → Turn
 turn_in ours nothing = against_end ours
-turn_in ours (faulty n) = turn.Unreadable (refusal_of n)
+turn_in ours (faulty n) = turn.Unreadable n
 turn_in ours (placed (outcome b) k) = against_outcome ours b k
 turn_in ours (placed (refusal n) k) = against_refusal ours n k
 

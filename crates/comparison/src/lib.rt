@@ -5,6 +5,8 @@ ghost use Rattle.std.specs.Prelude.{◌≡◌};
 ghost use Rattle.admission.specs.Refusals.{number_of};
 ghost use Rattle.answer_logs.specs.Logs.{logged_of};
 ghost use Rattle.comparison.specs.Agreeing.{is_zero, same_number, matched_outcomes, matched_refusals};
+ghost use Rattle.comparison.specs.Verdicts.{compared_of, found_of, progress_in};
+ghost use Rattle.comparison.specs.Places.{said_turn};
 ghost use Rattle.comparison.specs.Turns.{against_end, against_outcome, against_refusal, turn_in, turn_by, part_turn, whole_turn};
 ghost use Rattle.comparison.specs.Comparing.{next_place, compared_from, told_in, found_by, stopped_at, advanced};
 
@@ -71,7 +73,7 @@ pub(crate) enum Turn {
 // two whole records that differ, and at an unreadable answer of theirs: a length over 16, or a whole record of another length,
 // version or code. Else more of the logs is needed.
 pub fn advance(ours: &[u8], theirs: &[u8], place: u64) -> Progress
-    ensures { result ≡ advanced place ours.now theirs.now }
+    ensures { progress_in result ≡ advanced place ours.now theirs.now }
 {
     let mut at = 0usize;
     let mut by = 0usize;
@@ -91,7 +93,7 @@ pub fn advance(ours: &[u8], theirs: &[u8], place: u64) -> Progress
 // and from place 0, all of it. A missing, a surplus and a differing record is told by its place; an unreadable answer
 // of theirs by its fault (1 or 2) and its place, before a difference at the same place.
 pub fn finish(ours: &[u8], theirs: &[u8], place: u64) -> Compared
-    ensures { result ≡ compared_from place ours.now theirs.now }
+    ensures { compared_of result ≡ compared_from place ours.now theirs.now }
 {
     let progress = advance(ours, theirs, place);
     match progress.found {
@@ -106,7 +108,7 @@ pub fn finish(ours: &[u8], theirs: &[u8], place: u64) -> Compared
 // What is told where a comparison stops at a place; a place that agrees is no such place.
 #[tactic(auto, unfolding(crate::specs::Comparing::told_in))]
 fn told(place: u64, turn: Turn) -> Compared
-    ensures { result ≡ told_in place turn }
+    ensures { compared_of result ≡ told_in place (said_turn turn) }
 {
     match turn {
         Turn::Onward(_, _) => Ok(None),
@@ -119,7 +121,7 @@ fn told(place: u64, turn: Turn) -> Compared
 
 // How far two parts were compared that stop at a place.
 fn stopped(ours: usize, theirs: usize, place: u64, turn: Turn) -> Progress
-    ensures { result ≡ stopped_at ours theirs place turn }
+    ensures { progress_in result ≡ stopped_at ours theirs place (said_turn turn) }
 {
     let found = found_by(place, turn);
     Progress {
@@ -133,7 +135,7 @@ fn stopped(ours: usize, theirs: usize, place: u64, turn: Turn) -> Progress
 // What is told whatever follows. Where a part has ended, more of the logs is needed.
 #[tactic(auto, unfolding(crate::specs::Comparing::told_in, crate::specs::Comparing::found_by))]
 fn found_by(place: u64, turn: Turn) -> Option<Compared>
-    ensures { result ≡ found_by place turn }
+    ensures { found_of result ≡ found_by place (said_turn turn) }
 {
     match turn {
         Turn::Onward(_, _) => None,
@@ -153,7 +155,7 @@ fn next_place(place: u64) -> u64
 
 // The turn at a byte of each part.
 fn part_turn(ours: &[u8], theirs: &[u8], at: usize, by: usize) -> Turn
-    ensures { result ≡ part_turn ours.now theirs.now at by }
+    ensures { said_turn result ≡ part_turn ours.now theirs.now at by }
 {
     let mine = answer_logs::whole_at(ours, at);
     let other = answer_logs::whole_at(theirs, by);
@@ -162,7 +164,7 @@ fn part_turn(ours: &[u8], theirs: &[u8], at: usize, by: usize) -> Turn
 
 // The turn at a byte of each log, where both have ended.
 fn whole_turn(ours: &[u8], theirs: &[u8], at: usize, by: usize) -> Turn
-    ensures { result ≡ whole_turn ours.now theirs.now at by }
+    ensures { said_turn result ≡ whole_turn ours.now theirs.now at by }
 {
     let mine = answer_logs::record_at(ours, at);
     let other = answer_logs::record_at(theirs, by);
@@ -172,7 +174,7 @@ fn whole_turn(ours: &[u8], theirs: &[u8], at: usize, by: usize) -> Turn
 // What two records make of a place. An unreadable one of theirs comes before all else.
 #[tactic(auto, unfolding(crate::specs::Turns::turn_in))]
 fn judged(ours: Logged, theirs: Logged) -> Turn
-    ensures { result ≡ turn_in (logged_of ours) (logged_of theirs) }
+    ensures { said_turn result ≡ turn_in (logged_of ours) (logged_of theirs) }
 {
     match theirs {
         Err(refusal) => Turn::Unreadable(refusal),
@@ -184,7 +186,7 @@ fn judged(ours: Logged, theirs: Logged) -> Turn
 
 #[tactic(auto, unfolding(crate::specs::Turns::against_end))]
 fn against_end(ours: Logged) -> Turn
-    ensures { result ≡ against_end (logged_of ours) }
+    ensures { said_turn result ≡ against_end (logged_of ours) }
 {
     match ours {
         Ok(None) => Turn::BothEnded,
@@ -195,7 +197,7 @@ fn against_end(ours: Logged) -> Turn
 
 #[tactic(auto, unfolding(crate::specs::Turns::against_outcome))]
 fn against_outcome(ours: Logged, theirs: Answer, behind: usize) -> Turn
-    ensures { result ≡ against_outcome (logged_of ours) theirs behind }
+    ensures { said_turn result ≡ against_outcome (logged_of ours) theirs behind }
 {
     match ours {
         Ok(None) => Turn::OneEnded(Difference::NoneOfOurs), // theirs is surplus
@@ -212,7 +214,7 @@ fn against_outcome(ours: Logged, theirs: Answer, behind: usize) -> Turn
 
 #[tactic(auto, unfolding(crate::specs::Turns::against_refusal))]
 fn against_refusal(ours: Logged, theirs: Refusal, behind: usize) -> Turn
-    ensures { result ≡ against_refusal (logged_of ours) (number_of theirs) behind }
+    ensures { said_turn result ≡ against_refusal (logged_of ours) (number_of theirs) behind }
 {
     match ours {
         Ok(None) => Turn::OneEnded(Difference::NoneOfOurs),
@@ -232,7 +234,7 @@ fn against_refusal(ours: Logged, theirs: Refusal, behind: usize) -> Turn
 // Behind two records that agree the comparison goes on.
 #[tactic(auto, unfolding(crate::specs::Turns::turn_by))]
 fn onward(matched: Option<Difference>, next: usize, behind: usize) -> Turn
-    ensures { result ≡ turn_by matched next behind }
+    ensures { said_turn result ≡ turn_by matched next behind }
 {
     match matched {
         None => Turn::Onward(next, behind),
