@@ -40,7 +40,12 @@ fn move_record(
 ) -> Result<usize, Refusal>
     ensures { written_of result buffer.new ≡ moved_into from to source.now buffer.old }
 {
-    let read = scene_records::read_scene_of_version(source, from)?;
+    // What was read is looked at where it stands: a `?` would copy its three kilobytes.
+    let read = scene_records::read_scene_of_version(source, from);
+    let read = match &read {
+        Ok(read) => read,
+        Err(refusal) => return Err(*refusal),
+    };
     let count = read.scene.neighbours;
     let kept = keeps(to, &read.numbers, count);
     let old_line = put::line_size(from);
