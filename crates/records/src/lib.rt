@@ -92,12 +92,13 @@ pub fn answer_scene(bytes: &[u8], buffer: &mut [u8]) -> Result<SceneAnswer, Refu
     if buffer.len() < Answer::BYTES {
         return Err(Refusal::NoRoom);
     }
-    let read = match scene_records::read_scene(bytes) {
-        Ok(read) => read,
+    // What was read is looked at where it stands: a `?` would copy its three kilobytes.
+    let read = scene_records::read_scene(bytes);
+    let scene = match &read {
+        Ok(read) => &read.scene,
         // kept: must-fail another_refusal_told plants its mistake in this arm
-        Err(refusal) => return Err(refusal),
+        Err(refusal) => return Err(*refusal),
     };
-    let scene = read.scene;
     let bare = scene.bare();
     let kinds = scene.kinds;
     let counts = scene.counts;

@@ -13,14 +13,14 @@ returns-then-buffer-lt-BYTES c =
 pub returns-in-Err : goal.returns-in-Err
 returns-in-Err c =
     let a = c.args in
-    let solved = refused-solved a.bytes.now a.buffer.now c.if-buffer-lt-BYTES.false _ c.in-Err.ensures.answer in
+    let solved = refused-solved a.bytes.now a.buffer.now c.if-buffer-lt-BYTES.false _ (rw c.in-Err.is at c.read_scene-read.ensures.answer) in
     record { answer = solved; told = solved-told _ _ solved }
 
 pub returns-in_err-answer : goal.returns-in_err-answer
 returns-in_err-answer c =
     let a = c.args in
     let size : length c.in-Ok.read.scene.lines ≡ 256 = search rules in
-    let solved = outcome-solved a.bytes.now a.buffer.now c.if-buffer-lt-BYTES.false _ c.in-Ok.ensures.answer size _
+    let solved = outcome-solved a.bytes.now a.buffer.now c.if-buffer-lt-BYTES.false _ (rw c.in-Ok.is at c.read_scene-read.ensures.answer) size _
     (rw c.bare-bare.ensures at c.in_err-answer.ensures.answer) _ refl in
     rw (result-exit c.from_residual.result _ c.from_residual.ensures.1)
     (record { answer = solved; told = solved-told _ _ solved })
@@ -29,6 +29,6 @@ pub returns : goal.returns
 returns c =
     let a = c.args in
     let size : length c.in-Ok.read.scene.lines ≡ 256 = search rules in
-    let solved = outcome-solved a.bytes.now a.buffer.now c.if-buffer-lt-BYTES.false _ c.in-Ok.ensures.answer size _
+    let solved = outcome-solved a.bytes.now a.buffer.now c.if-buffer-lt-BYTES.false _ (rw c.in-Ok.is at c.read_scene-read.ensures.answer) size _
     (rw c.bare-bare.ensures at c.in_ok-answer.ensures.answer) _ c.write_outcome.ensures in
     record { answer = solved; told = solved-told _ _ solved }
