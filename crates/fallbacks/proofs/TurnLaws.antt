@@ -11,7 +11,6 @@ use borrow.Rule.Slice.PartMut.{put_mid}
 use Rattle.std.specs.Prelude.{Result, Ok, Err}
 use Rattle.admission.specs.declared.refusal.Refusal.{Refusal}
 use Rattle.admission.specs.Refusals.{number_of}
-use Rattle.admission.proofs.FaultLaws.{refusal-back}
 use Rattle.kept.specs.Kept.{Kept, kept, shifted, kept_over}
 use Rattle.kept.proofs.KeptLaws.{kept_there, kept-stays}
 use Rattle.index_building.specs.declared.PartBuilt.{PartBuilt}
@@ -33,9 +32,7 @@ module _ (input : List ℕ) (there : ℕ) (entries : List ℕ) (before : Reading
   pub refused-step : (r : Refusal) (out : List ℕ) → standing (Err (number_of r)) out
       ≡ part_over (take (there - 0) input) before.extent entries →
       held (staged (stage.Refused r) before) input out ≡ read_over input there entries before
-  refused-step r out e =
-      ap (λ (x : Refusal). held (staged (stage.Refused x) before) input out) (sym (refusal-back r))
-      ∙ sym (read_as_lem (Err (number_of r)) out e)
+  refused-step r out e = sym (read_as_lem (Err (number_of r)) out e)
 
   module _ (p : PartBuilt) (out : List ℕ)
       (e : standing (Ok p) out ≡ part_over (take (there - 0) input) before.extent entries) where

@@ -2,30 +2,49 @@
 -- only. Assumes nothing.
 use Rattle.std.specs.Prelude.{ℕ, ◌-◌, ◌≤◌, ◌≡◌, List, length, take, Result, Ok, Err}
 use Rattle.kept.specs.Kept.{shifted}
-use Rattle.admission.specs.Refusals.{refusal_of}
+use Rattle.admission.specs.Refusals.{number_of}
+use Rattle.index_building.specs.declared.Extent.{Extent}
 use Rattle.index_building.specs.declared.PartBuilt.{PartBuilt}
 use Rattle.index_building.specs.Indexes.{Standing}
 use Rattle.index_building.specs.Builds.{part_over}
-use Rattle.fallbacks.specs.declared.Stage.{Stage}
+use Rattle.fallbacks.specs.declared.Stage.{Stage as StageCode}
 use Rattle.fallbacks.specs.declared.Stage.TheVariants as stage
 use Rattle.fallbacks.specs.declared.Reading.{Reading}
 
+-- it goes on; it has met the end; it was refused with this number; or a read or a write failed
+pub data Stage : Type 0 where
+  goes-on : Stage
+  ended : Stage
+  refused : ℕ → Stage
+  read-failed : Stage
+  write-failed : Stage
+
+abbrev pub stage_of : StageCode → Stage
+stage_of stage.Open = goes-on
+stage_of stage.AtEnd = ended
+stage_of (stage.Refused r) = refused (number_of r)
+stage_of stage.Unread = read-failed
+stage_of stage.Unwritten = write-failed
+
 -- what is carried from turn to turn, and what the two buffers hold then
 pub record Held : Type 0 where
-  pub reading : Reading
+  pub stage : Stage
+  pub kept : ℕ
+  pub extent : Extent
   pub input : List ℕ
   pub entries : List ℕ
 
 abbrev pub held : Reading → List ℕ → List ℕ → Held
-held r input entries = record { reading = r; input = input; entries = entries }
+held r input entries = record { stage = stage_of r.stage; kept = r.kept; extent = r.extent; input = input; entries = entries }
 
 -- with another stage alone
-abbrev pub staged : Stage → Reading → Reading
+abbrev pub staged : StageCode → Reading → Reading
 staged s before = record { stage = s; kept = before.kept; extent = before.extent }
 
 -- behind whole records it goes on, and what is left of the bytes waits at the input's start; a refusal ends it
 abbrev pub went_on : List ℕ → ℕ → Reading → List ℕ → Result PartBuilt ℕ → Held
-went_on input there before entries (Err r) = held (staged (stage.Refused (refusal_of r)) before) input entries
+went_on input there before entries (Err r) =
+    record { stage = refused r; kept = before.kept; extent = before.extent; input = input; entries = entries }
 went_on input there before entries (Ok p) =
     held (record { stage = stage.Open; kept = there - p.used; extent = p.extent }) (shifted p.used (there - p.used) input) entries
 
