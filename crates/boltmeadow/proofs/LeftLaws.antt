@@ -15,9 +15,8 @@ use Rattle.linear_programming.proofs.Agreement.{phase-back, failed-back}
 use Rattle.obstacles.specs.declared.ObstacleLines.{ObstacleLines}
 use Rattle.obstacles.specs.Obstacles as obstacle
 use Rattle.obstacles.specs.Read.{answer_as, told_of, fault_in}
-use Rattle.dodgy_2d.specs.declared.SceneAnswer.{SceneAnswer}
 use Rattle.dodgy_2d.specs.Outcomes.{SceneOutcome}
-use Rattle.dodgy_2d.specs.Read.{outcome_of as scene_outcome_of}
+use Rattle.dodgy_2d.specs.Read.{ToldAnswer, outcome_of as scene_outcome_of}
 use Rattle.records.specs.Answered.{Solved, solved}
 use Rattle.scene_writer.specs.Writing.{Written, written_of}
 use Rattle.index_building.specs.Indexes.{Standing, standing}
@@ -62,18 +61,18 @@ lines-told (Ok v) (obstacle.refused n) e told = let z : ◌≡◌ {A = ℕ} 0 1 
 lines-told (Err r) (obstacle.refused n) e told = ap (λ (f : Fault). no_obstacle (number_told f)) told
 
 -- a record's answer has the numbers of the outcome that it says
-numbers_kept : (a : Result SceneAnswer Refusal) → numbers_of (answer_told a) ≡ numbers_told (scene_outcome_of a)
+numbers_kept : (a : Result ToldAnswer Refusal) → numbers_of (answer_told a) ≡ numbers_told (scene_outcome_of a)
 unfolding outcome_with refused_scene
 numbers_kept (Ok v) = refl
 numbers_kept (Err r) = refl
 
-pub numbers-told : (a : Result SceneAnswer Refusal) {o : SceneOutcome} {r : BmAnswer} → r ≡ answer_told a →
+pub numbers-told : (a : Result ToldAnswer Refusal) {o : SceneOutcome} {r : BmAnswer} → r ≡ answer_told a →
     scene_outcome_of a ≡ o → numbers_of r ≡ numbers_told o
 numbers-told a t e = ap numbers_of t ∙ numbers_kept a ∙ ap numbers_told e
 
 -- value and contents of a lent buffer
 
-pub answer-left : {a : Result SceneAnswer Refusal} {l : List ℕ} {s : Solved} {r : BmAnswer} → r ≡ answer_told a →
+pub answer-left : {a : Result ToldAnswer Refusal} {l : List ℕ} {s : Solved} {r : BmAnswer} → r ≡ answer_told a →
     solved a l ≡ s → standing r l ≡ answer_left s
 answer-left {a} {l} t e = ap (λ (b : BmAnswer). standing b l) t ∙ ap answer_left e
 

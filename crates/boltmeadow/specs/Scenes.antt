@@ -9,9 +9,8 @@ use Rattle.lines.specs.declared.Origin.{Origin}
 use Rattle.pass_2d.specs.declared.Failure.{Failure}
 use Rattle.plain_numbers.specs.Kinds.{failed_kind, failed_index, failed_cause}
 use Rattle.dodgy_2d.specs.declared.Scene.{Scene}
-use Rattle.dodgy_2d.specs.declared.SceneAnswer.{SceneAnswer}
 use Rattle.dodgy_2d.specs.Outcomes.{SceneOutcome, outcome, refused_scene as refused_as}
-use Rattle.dodgy_2d.specs.Read.{code_of}
+use Rattle.dodgy_2d.specs.Read.{ToldAnswer, code_of}
 use Rattle.scene_records.specs.declared.Cart.{Cart}
 use Rattle.fields.specs.Got.{Got, refused, got}
 use Rattle.scene_records.specs.Versions.{Numbered}
@@ -58,7 +57,7 @@ refused_scene number = record {
   probes = 0;
 }
 
-abbrev pub answer_told : Result SceneAnswer Refusal → BmAnswer
+abbrev pub answer_told : Result ToldAnswer Refusal → BmAnswer
 answer_told (Ok a) = outcome_with (code_of a.outcome) a.velocity.x a.velocity.y a.failed a.probes a.origin
 answer_told (Err r) = refused_scene (number_of r)
 

@@ -9,11 +9,10 @@ use Rattle.lines.specs.declared.Origin.{Origin}
 use Rattle.lines.specs.Origins.{unknown}
 use Rattle.dodgy_2d.specs.declared.BareScene.{BareScene}
 use Rattle.dodgy_2d.specs.declared.Scene.{Scene}
-use Rattle.dodgy_2d.specs.declared.SceneAnswer.{SceneAnswer}
 use Rattle.dodgy_2d.specs.Scenes.{most_obstacles, most_neighbours, heads_in}
 use Rattle.dodgy_2d.specs.Outcomes.{SceneOutcome, refused_scene, first_pass, pass_at}
 use Rattle.dodgy_2d.specs.Origins.{pass_origin, last_velocity}
-use Rattle.dodgy_2d.specs.Read.{scene_answer_as}
+use Rattle.dodgy_2d.specs.Read.{ToldAnswer, scene_answer_as}
 
 -- ---- the parts
 
@@ -75,5 +74,5 @@ admitted_outcome s = unless_fault refused_scene (sizes_fault s) (first_answer s)
 unfoldable pub admitted_origin : Scene → Origin
 admitted_origin s = unless_fault (λ (r : ℕ). unknown) (sizes_fault s) (last_origin s)
 
-abbrev pub admitted_answer : Scene → Result SceneAnswer Refusal
+abbrev pub admitted_answer : Scene → Result ToldAnswer Refusal
 admitted_answer s = scene_answer_as (admitted_outcome s) (admitted_origin s)

@@ -36,12 +36,16 @@ code_as n =
     else when eqb n 4 then code.RelaxedAtRest
     else code.FailedAtRest
 
-abbrev pub outcome_of : Result SceneAnswer Refusal → SceneOutcome
+-- an answer with one of the five
+abbrev pub ToldAnswer : Type 0
+ToldAnswer = SceneAnswer Outcome
+
+abbrev pub outcome_of : Result ToldAnswer Refusal → SceneOutcome
 outcome_of (Ok a) = outcome (code_of a.outcome) a.velocity (failed_of a.failed) a.probes
 outcome_of (Err r) = refused_scene (number_of r)
 
--- whatever the refusal is
-abbrev pub origin_of : {E : Type 0} → Result SceneAnswer E → Origin
+-- whatever the outcome and the refusal are
+abbrev pub origin_of : {O E : Type 0} → Result (SceneAnswer O) E → Origin
 origin_of (Ok a) = a.origin
 origin_of (Err r) = unknown
 
@@ -85,7 +89,7 @@ pub record Chosen (s : Scene) (velocity : Vec2) (numbers : List Float) (walls : 
   pub noted : WallsAre walls (edge_origins_at s velocity) r
 
 -- and back: what says an outcome and the failed line's origin
-abbrev pub scene_answer_as : SceneOutcome → Origin → Result SceneAnswer Refusal
+abbrev pub scene_answer_as : SceneOutcome → Origin → Result ToldAnswer Refusal
 scene_answer_as (outcome code p f n) o =
     Ok (record { outcome = code_as code; velocity = p; failed = failed_as f; probes = n; origin = o })
 scene_answer_as (refused_scene r) o = Err (refusal_of r)

@@ -94,19 +94,20 @@ impl Outcome {
 
 // A scene's velocity, with the failed line of the last pass run, the probes of all passes, and where the failed line
 // comes from: an edge by its obstacle's place in the scene and its left vertex there, or a neighbour by its place;
-// unknown where no line failed.
+// unknown where no line failed. The outcome is one of the five, or whatever tells one there.
 #[derive(Clone, Copy, Debug, PartialEq)]
-pub struct SceneAnswer {
-    pub outcome: Outcome,
+pub struct SceneAnswer<O = Outcome> {
+    pub outcome: O,
     pub velocity: Vec2,
     pub failed: Option<Failure>,
     pub probes: u32,
     pub origin: Origin,
 }
 
-impl SceneAnswer {
-    // Where the failed line of an answer comes from; unknown where the scene is refused, whatever the refusal is.
-    pub fn origin<E: Drop>(answer: Result<SceneAnswer, E>) -> Origin
+impl<O: Drop> SceneAnswer<O> {
+    // Where the failed line of an answer comes from, whatever the outcome is; unknown where the scene is refused,
+    // whatever the refusal is.
+    pub fn origin<E: Drop>(answer: Result<SceneAnswer<O>, E>) -> Origin
         ensures { result ≡ origin_of answer }
     {
         match answer {

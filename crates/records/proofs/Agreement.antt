@@ -7,7 +7,7 @@ use mathlib.Core.List.{List}
 use Rattle.std.specs.Prelude.{Option, Some, None, Result}
 use Rattle.admission.specs.declared.refusal.Refusal.{Refusal}
 use Rattle.arithmetic.proofs.Agree.{agree, agree-read}
-use Rattle.dodgy_2d.specs.declared.SceneAnswer.{SceneAnswer}
+use Rattle.dodgy_2d.specs.Read.{ToldAnswer}
 use Rattle.records.specs.declared.Part.{Part as PartCode}
 use Rattle.records.specs.declared.Part.TheVariants as code
 use Rattle.records.specs.declared.Stream.{Stream}
@@ -40,7 +40,7 @@ part-back None = refl
 pub parts-agree : {one other : Option PartCode} {promised : Part} → part_of one ≡ promised → part_of other ≡ promised → one ≡ other
 parts-agree = agree-read part_of part_as part-back
 
-pub answers_agree : {one other : Result SceneAnswer Refusal} {held out : List ℕ} {promised : Solved} → solved one held ≡ promised →
+pub answers_agree : {one other : Result ToldAnswer Refusal} {held out : List ℕ} {promised : Solved} → solved one held ≡ promised →
     solved other out ≡ promised
     → (one ≡ other) × (held ≡ out)
 answers_agree p q = (

@@ -16,7 +16,6 @@ use Rattle.admission.specs.Refusals.{number_of}
 use Rattle.admission.specs.Faults.{Fault, fine, fault}
 use Rattle.admission.proofs.FaultLaws.{no-fault}
 use Rattle.linear_programming.specs.Read.{failed_of}
-use Rattle.dodgy_2d.specs.declared.SceneAnswer.{SceneAnswer}
 use Rattle.lines.specs.declared.Origin.{Origin}
 use Rattle.linear_programming.proofs.Agreement.{failed-there}
 use Rattle.dodgy_2d.specs.declared.Scene.{Scene}
@@ -25,7 +24,7 @@ use Rattle.dodgy_2d.specs.Outcomes.{SceneOutcome, outcome, refused_scene, scene_
 use Rattle.dodgy_2d.proofs.SceneTold.{Told, answered as answered-outcome, at-fault, by-edge, by-edge-at-rest, scene-told}
 use Rattle.records.proofs.RefusalLaws.{NumberedReading, numbered-back, refused-numbered, scene-numbered}
 use Rattle.dodgy_2d.specs.Origins.{scene_origin}
-use Rattle.dodgy_2d.specs.Read.{code_of, code_as, outcome_of, scene_answer_as}
+use Rattle.dodgy_2d.specs.Read.{ToldAnswer, code_of, code_as, outcome_of, scene_answer_as}
 use Rattle.dodgy_2d.specs.Admitted.{admitted_answer}
 use Rattle.dodgy_2d.proofs.ScenePasses.{admitted-alike}
 use Rattle.fields.specs.Bytes.{big_endian}
@@ -100,7 +99,7 @@ module _ (bytes buffer : List ℕ) where
   unfolding answer_to scene_answer when◌then◌else◌
   no-room-solved h = rw (lt-leb longest_answer (length buffer) h)
 
-  room-solved : longest_answer ≤ length buffer → (a : Result SceneAnswer Refusal) → a ≡ solved_in (scene_in bytes) → (l : List ℕ) →
+  room-solved : longest_answer ≤ length buffer → (a : Result ToldAnswer Refusal) → a ≡ solved_in (scene_in bytes) → (l : List ℕ) →
       l ≡ (laid_answer (of_outcome (outcome_of a)) buffer).contents → solved a l ≡ scene_answer_to bytes buffer
   unfolding answer_to answered scene_answer when◌then◌else◌
   room-solved h a e l f = rw (le-leb longest_answer (length buffer) h, outcome-read bytes, ← e, f)
@@ -111,7 +110,7 @@ module _ (bytes buffer : List ℕ) where
     refused-solved r read = room-solved h (Err r) (read-refused (scene_in bytes) r read) buffer refl
 
     pub outcome-solved : (r : NumberedScene) → Ok r ≡ numbered_as (scene_in bytes) → length r.scene.lines ≡ 256 →
-        (a : Result SceneAnswer Refusal) → a ≡ admitted_answer r.scene → (l : List ℕ) →
+        (a : Result ToldAnswer Refusal) → a ≡ admitted_answer r.scene → (l : List ℕ) →
         l ≡ (laid_answer (of_outcome (outcome_of a)) buffer).contents → solved a l ≡ scene_answer_to bytes buffer
     outcome-solved r read long a e l f = room-solved h a (e ∙ read-solved bytes (scene_in bytes) refl r read long) l f
 
@@ -124,17 +123,17 @@ module _ (bytes buffer : List ℕ) where
   outcome-by-room true e = rw e (told-read bytes)
   outcome-by-room false e = rw e
 
-  pub solved-told : {a : Result SceneAnswer Refusal} {l : List ℕ} → solved a l ≡ scene_answer_to bytes buffer →
+  pub solved-told : {a : Result ToldAnswer Refusal} {l : List ℕ} → solved a l ≡ scene_answer_to bytes buffer →
       outcome_of a ≡ record_outcome bytes buffer
   solved-told e = ap (λ (s : Solved). outcome_of s.told) e ∙ outcome-by-room (leb longest_answer (length buffer)) refl
 
 -- ---- the answer with its failure forgotten
 
-abbrev pub fault_in : Result SceneAnswer Refusal → Fault
+abbrev pub fault_in : Result ToldAnswer Refusal → Fault
 fault_in (Ok a) = fine
 fault_in (Err r) = fault (number_of r)
 
-laid-told : (a : Result SceneAnswer Refusal) (buffer : List ℕ) → longest_answer ≤ length buffer →
+laid-told : (a : Result ToldAnswer Refusal) (buffer : List ℕ) → longest_answer ≤ length buffer →
     (laid_answer (of_outcome (outcome_of a)) buffer).told ≡ fault_in a
 unfolding answer_bytes big_endian
 laid-told (Ok a) buffer h =
@@ -153,7 +152,7 @@ module _ (bytes buffer : List ℕ) where
   faults-told : (answer_to bytes buffer).told ≡ fault_in (scene_answer bytes buffer)
   faults-told = told-by-room (leb longest_answer (length buffer)) refl
 
-  pub forgotten : (a : Result SceneAnswer Refusal) (l : List ℕ) → solved a l ≡ scene_answer_to bytes buffer → written (fault_in a) l
+  pub forgotten : (a : Result ToldAnswer Refusal) (l : List ℕ) → solved a l ≡ scene_answer_to bytes buffer → written (fault_in a) l
       ≡ answer_to bytes buffer
   forgotten a l e =
       ap (λ (s : Solved). written (fault_in s.told) s.contents) e

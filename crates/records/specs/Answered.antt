@@ -9,10 +9,9 @@ use Rattle.admission.specs.Refusals.{refusal_of}
 use Rattle.admission.specs.Faults.{fault}
 use Rattle.common.specs.declared.Vec2.{Vec2}
 use Rattle.linear_programming.specs.Whole.{Failed, no_line, failed_line}
-use Rattle.dodgy_2d.specs.declared.SceneAnswer.{SceneAnswer}
 use Rattle.dodgy_2d.specs.Outcomes.{SceneOutcome, outcome, refused_scene, scene_outcome}
 use Rattle.dodgy_2d.specs.Origins.{scene_origin}
-use Rattle.dodgy_2d.specs.Read.{scene_answer_as}
+use Rattle.dodgy_2d.specs.Read.{ToldAnswer, scene_answer_as}
 use Rattle.fields.specs.Got.{Got, refused, got}
 use Rattle.scene_records.specs.Versions.{Numbered, scene_in}
 use Rattle.answer_records.specs.declared.Answer.{Answer}
@@ -62,17 +61,17 @@ answer_to bytes buffer =
 
 -- what is told, and what the buffer holds then
 pub record Solved : Type 0 where
-  pub told : Result SceneAnswer Refusal
+  pub told : Result ToldAnswer Refusal
   pub contents : List ℕ
 
-abbrev pub solved : Result SceneAnswer Refusal → List ℕ → Solved
+abbrev pub solved : Result ToldAnswer Refusal → List ℕ → Solved
 solved a l = record { told = a; contents = l }
 
-abbrev pub solved_in : Got Numbered → Result SceneAnswer Refusal
+abbrev pub solved_in : Got Numbered → Result ToldAnswer Refusal
 solved_in (refused r) = Err (refusal_of r)
 solved_in (got x at) = scene_answer_as (scene_outcome x.scene) (scene_origin x.scene)
 
-unfoldable pub scene_answer : List ℕ → List ℕ → Result SceneAnswer Refusal
+unfoldable pub scene_answer : List ℕ → List ℕ → Result ToldAnswer Refusal
 scene_answer bytes buffer = when leb longest_answer (length buffer) then solved_in (scene_in bytes) else Err (refusal_of 10)
 
 -- the bytes are those of `answer_to`
