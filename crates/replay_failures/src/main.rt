@@ -5,6 +5,7 @@
 
 ghost use Rattle.std.specs.Prelude.{◌<◌};
 
+use dodgy_2d::SceneAnswer;
 use lines::Origin;
 use replay_records::Walk;
 use replay_standings::is_failed;
@@ -24,7 +25,18 @@ fn is_replayed(head: &[u8], rest: &[u8]) -> bool {
         words::word_at(head, 4),
         words::word_at(head, 8),
         answer.failed,
-    ) && answer.origin == origin_at(head)
+    ) && SceneAnswer::origin::<u8>(Ok(by_number(answer))) == origin_at(head)
+}
+
+// The answer with its outcome's number, as a caller may keep it: its origin is asked whatever tells the outcome.
+fn by_number(answer: SceneAnswer) -> SceneAnswer<u8> {
+    SceneAnswer {
+        outcome: answer.outcome.number(),
+        velocity: answer.velocity,
+        failed: answer.failed,
+        probes: answer.probes,
+        origin: answer.origin,
+    }
 }
 
 // The origin that the head's last three words tell.
